@@ -1,0 +1,24 @@
+-- The language's limits.
+use Rattle.std.specs.Prelude.{ℕ, ◌<◌, ◌≤◌, List, length}
+
+abbrev pub max_values : ℕ
+max_values = 64
+
+abbrev pub max_period : ℕ
+max_period = 8
+
+-- state variables, the input included
+abbrev pub max_variables : ℕ
+max_variables = 16
+
+-- fields of a block's message
+abbrev pub max_fields : ℕ
+max_fields = 8
+
+-- a program's numbers are within the limits
+pub record IsSized (values period variables : ℕ) : Type 0 where
+  pub some_value : 0 < values
+  pub few_values : values ≤ max_values
+  pub some_round : 0 < period
+  pub few_rounds : period ≤ max_period
+  pub few_variables : variables ≤ max_variables

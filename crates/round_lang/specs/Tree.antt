@@ -1,0 +1,28 @@
+-- The tree that an expression is, without the places of its parts in memory.
+use Rattle.std.specs.Prelude.{ℕ, Bool, true, false, ◌&&◌, List, ◌==◌}
+use Rattle.std.specs.Str.{bytes_eq}
+use Rattle.round_lang.specs.declared.expr.Constant.{Constant}
+use Rattle.round_lang.specs.declared.expr.UnaryOperator.{UnaryOperator}
+use Rattle.round_lang.specs.declared.expr.BinaryOperator.{BinaryOperator}
+use Rattle.round_lang.specs.declared.expr.Expr.{Expr}
+use Rattle.round_lang.specs.declared.expr.Expr.TheVariants.{Number, Fixed, Named, Unary', Binary', If', SetOf', RowOf'}
+
+pub data Tree : Type 0 where
+  TNumber : (n : ℕ) → Tree
+  TFixed : (c : Constant) → Tree
+  TNamed : (x : List ℕ) → Tree
+  TUnary : (op : UnaryOperator) (a : Tree) → Tree
+  TBinary : (op : BinaryOperator) (a b : Tree) → Tree
+  TIf : (c a b : Tree) → Tree
+  TSetOf : (x : List ℕ) (e : Tree) → Tree
+  TRowOf : (x : List ℕ) (e : Tree) → Tree
+
+abbrev pub tree_of : Expr → Tree
+tree_of (Number n) = TNumber n
+tree_of (Fixed c) = TFixed c
+tree_of (Named x) = TNamed x
+tree_of (Unary' op p a) = TUnary op (tree_of a)
+tree_of (Binary' op p a q b) = TBinary op (tree_of a) (tree_of b)
+tree_of (If' p c q a r b) = TIf (tree_of c) (tree_of a) (tree_of b)
+tree_of (SetOf' x p e) = TSetOf x (tree_of e)
+tree_of (RowOf' x p e) = TRowOf x (tree_of e)

@@ -1,0 +1,132 @@
+//! What a program does in one round of its period.
+ghost use Rattle.std.specs.Prelude.{◌≡◌, ◌≤◌, length, vec_len};
+ghost use Rattle.round_lang.specs.Limits.{max_fields};
+
+use crate::expr::Ty;
+use crate::formula::Formula;
+use crate::identifier::Identifier;
+use std::marker::Model;
+
+/// A field of a message.
+#[derive(Drop, Debug)]
+pub struct Field {
+    pub name: Identifier,
+    pub ty: Ty,
+}
+
+/// `target := formula;`
+#[derive(Drop, Debug)]
+pub struct Assignment {
+    pub target: Identifier,
+    pub formula: Formula,
+}
+
+/// `at N:`, with the message's fields, when and what a node sends, and what it does with a message
+/// and at the end of the round. It has at most 8 fields.
+#[derive(Drop, Debug)]
+pub struct Block {
+    number: u32,
+    fields: Vec<Field>,
+    condition: Formula,
+    sent: Vec<Formula>,
+    on_message: Vec<Assignment>,
+    end: Vec<Assignment>,
+}
+
+impl Model for Block {
+    ghost use Rattle.std.specs.Prelude.{◌≤◌, vec_len};
+    ghost use Rattle.round_lang.specs.Syntax.{BlockTree};
+    ghost use Rattle.round_lang.specs.Limits.{max_fields};
+    ghost use Rattle.round_lang.specs.contracts.formula.Formula as formula;
+    ghost use Rattle.std.specs.Coded.{codes};
+
+    ghost Value = { BlockTree };
+
+    ghost coded = { Prim.hlevel (codes, formula.the_row.coded) };
+
+    ghost view = { λ b. record {
+        number = b.number;
+        fields = b.fields.items;
+        condition = b.condition;
+        sent = b.sent.items;
+        on_message = b.on_message.items;
+        end = b.end.items;
+    } };
+
+    ghost invariant = { λ b. vec_len b.fields ≤ max_fields };
+}
+
+impl Block {
+    ghost use Rattle.round_lang.specs.Syntax.{BlockTree};
+
+    pub fn new(
+        number: u32,
+        fields: Vec<Field>,
+        condition: Formula,
+        sent: Vec<Formula>,
+        on_message: Vec<Assignment>,
+        end: Vec<Assignment>,
+    ) -> Block
+        requires { vec_len fields ≤ max_fields }
+        ensures { result ≡ record {
+            number = number;
+            fields = fields.items;
+            condition = condition;
+            sent = sent.items;
+            on_message = on_message.items;
+            end = end.items;
+        } }
+    {
+        Block {
+            number,
+            fields,
+            condition,
+            sent,
+            on_message,
+            end,
+        }
+    }
+
+    /// The number after `at`.
+    pub fn number(&self) -> u32
+        ensures { result ≡ self.now.number }
+    {
+        self.number
+    }
+
+    /// The message's fields, in order.
+    pub fn fields(&self) -> &[Field]
+        ensures fields { result.now ≡ self.now.fields }
+        ensures few { length result.now ≤ max_fields }
+    {
+        &self.fields
+    }
+
+    /// The condition after `send when`.
+    pub fn condition(&self) -> &Formula
+        ensures { result.now ≡ self.now.condition }
+    {
+        &self.condition
+    }
+
+    /// What is sent, a formula for each field.
+    pub fn sent(&self) -> &[Formula]
+        ensures { result.now ≡ self.now.sent }
+    {
+        &self.sent
+    }
+
+    /// What is done with each message.
+    pub fn on_message(&self) -> &[Assignment]
+        ensures { result.now ≡ self.now.on_message }
+    {
+        &self.on_message
+    }
+
+    /// What is done after the messages.
+    pub fn end(&self) -> &[Assignment]
+        ensures { result.now ≡ self.now.end }
+    {
+        &self.end
+    }
+}

@@ -1,0 +1,25 @@
+//! The round language: its syntax tree, and the values that its programs compute with.
+#![tactic(auto)]
+
+mod block;
+mod copies;
+mod expr;
+mod formula;
+mod identifier;
+mod memory;
+mod program;
+mod row;
+mod sets;
+mod value;
+mod vars;
+
+pub use block::{Assignment, Block, Field};
+pub use expr::{BinaryOperator, Constant, Expr, Ty, UnaryOperator};
+pub use formula::Formula;
+pub use identifier::Identifier;
+pub use memory::NoMemory;
+pub use program::{Program, Variable, VariableKind};
+pub use row::Row;
+pub use sets::ValueSet;
+pub use value::{Value, binary, unary};
+pub use vars::{Message, Vars};
