@@ -1,0 +1,10 @@
+pub use Rattle.round_lang.specs.Sets
+pub use Rattle.round_lang.specs.Values
+pub use Rattle.round_lang.specs.Tree
+pub use Rattle.round_lang.specs.Syntax
+pub mod Meaning
+pub mod Envs
+pub mod Turn
+pub mod Rounds
+pub mod Setups
+pub mod Nodes

@@ -1,0 +1,117 @@
+-- What a node sends in a round, and the state that the round ends with.
+use Rattle.std.specs.Prelude.{ℕ, ◌+◌, ◌-◌, ◌/◌, ◌%◌, Bool, true, false, List, [], ◌∷◌, map, Option, Some, None, if◌then◌else◌, position, slice_set, slice_get}
+use Rattle.std.specs.Str.{bytes_eq}
+use Rattle.round_lang.specs.declared.block.Assignment.{Assignment}
+use Rattle.round_lang.specs.declared.block.Field.{Field}
+use Rattle.round_lang.specs.declared.program.Variable.{Variable}
+use Rattle.round_lang.specs.declared.program.VariableKind.{VariableKind}
+use Rattle.round_lang.specs.declared.program.VariableKind.TheVariants.{Input, State}
+use Rattle.round_lang.specs.declared.value.Value.{Value}
+use Rattle.round_lang.specs.declared.value.Value.TheVariants.{Num}
+use Rattle.round_lang.specs.Sets.{members}
+use Rattle.round_lang.specs.Syntax.{BlockTree, ProgramTree}
+use Rattle.round_lang.specs.Tree.{Tree}
+use Rattle.round_lang.specs.Values.{flag, set}
+use Rattle.round_meaning.specs.declared.received.Received.{Received}
+use Rattle.round_meaning.specs.Meaning.{Env, bind, find_var, or_value, value}
+
+abbrev pub with_vars : List Value → Env → Env
+with_vars vs env = record env { vars = vs }
+
+abbrev pub with_message : ℕ → List Field → List Value → Env → Env
+with_message j fs m env = record env { from = j; fields = fs; message = m }
+
+abbrev pub with_dest : ℕ → Env → Env
+with_dest i env = record env { dest = i }
+
+abbrev pub put : List Value → Option ℕ → Value → List Value
+put vs None v = vs
+put vs (Some i) v = slice_set vs i v
+
+-- one assignment, to the variable of its target's name
+abbrev pub assigned : Env → Assignment → List Value → List Value
+assigned env a vs = put vs (position (λ (d : Variable). bytes_eq d.name a.target) env.variables) (value a.formula (with_vars vs env))
+
+-- assignments one after the other, each seeing those before
+abbrev pub runs : Env → List Assignment → List Value → List Value
+runs env [] vs = vs
+runs env (a ∷ rest) vs = runs env rest (assigned env a vs)
+
+-- phases count from 1 and have P rounds
+abbrev pub phase_of : ProgramTree → ℕ → ℕ
+phase_of p r = (r - 1) / p.period + 1
+
+-- the block of round r is the one at (r - 1) mod P
+abbrev pub block_at : ProgramTree → ℕ → Option BlockTree
+block_at p r = slice_get p.blocks ((r - 1) % p.period)
+
+-- what node i of n, with t faults, computes with in round r
+abbrev pub node_env : ProgramTree → ℕ → ℕ → ℕ → ℕ → Env
+node_env p n t r i = record {
+  values = p.values;
+  me = i;
+  nodes = n;
+  faults = t;
+  round = r;
+  phase = phase_of p r;
+  dest = 0;
+  from = 0;
+  variables = p.variables;
+  vars = [];
+  fields = [];
+  message = [];
+  bound = [];
+}
+
+-- the sent fields where the condition is true, else none
+abbrev pub sent : Option BlockTree → Env → Option (List Value)
+sent None env = None
+sent (Some b) env =
+    if flag (value b.condition env) then Some (map (λ (e : Tree). value e env) b.sent) else None
+
+-- `on message` once for each entry of the inbox, in its order
+abbrev pub folded : BlockTree → Env → List Received → List Value → List Value
+folded b env [] vs = vs
+folded b env (m ∷ ms) vs = folded b env ms (runs (with_message m.from b.fields m.message env) b.on_message vs)
+
+-- the inbox is folded, then `end` is run
+abbrev pub ended : Option BlockTree → Env → List Received → List Value → List Value
+ended None env inbox vs = vs
+ended (Some b) env inbox vs = runs env b.end (folded b env inbox vs)
+
+-- the first of two names, where the variable is the input
+abbrev pub name_by : VariableKind → List ℕ → Option (List ℕ) → Option (List ℕ)
+name_by Input x other = Some x
+name_by (State ty e) x other = other
+
+-- the name of the input
+abbrev pub input_name : List Variable → Option (List ℕ)
+input_name [] = None
+input_name (d ∷ ds) = name_by d.kind d.name (input_name ds)
+
+-- the input's name stands for the input
+abbrev pub bind_input : Option (List ℕ) → ℕ → Env → Env
+bind_input None x env = env
+bind_input (Some name) x env = bind name env x
+
+-- a variable begins as the input, or with the value of its formula
+abbrev pub begins : Env → ℕ → VariableKind → Value
+begins env x Input = Num x
+begins env x (State ty e) = value e env
+
+-- the initial state of node i whose input is x: its formulas know me, n, t and the input
+abbrev pub initial : ProgramTree → ℕ → ℕ → ℕ → ℕ → List Value
+initial p n t x i =
+    map (λ (d : Variable). begins (bind_input (input_name p.variables) x (node_env p n t 0 i)) x d.kind) p.variables
+
+abbrev pub first_name : List (List ℕ) → List ℕ
+first_name [] = []
+first_name (x ∷ xs) = x
+
+abbrev pub first_member : List ℕ → Option ℕ
+first_member [] = None
+first_member (v ∷ vs) = Some v
+
+-- the decision in a state: the least member of the decided variable
+abbrev pub decision : ProgramTree → List Value → Option ℕ
+decision p vs = first_member (members (set (or_value (find_var p.variables vs (first_name p.decides)) (Num 0))))
