@@ -1,0 +1,96 @@
+-- From what the matches' calls answer to what the words give.
+use Rattle.std.proofs.Common.{◌≡◌, ◌∙◌, List, Option, Some, None, Result, Ok, Err, Bool, true, false, ap₂, sym, refl, option_map, is_some, Bor, [], ◌∷◌}
+use Rattle.std.specs.Prelude.{Box, IfOk, OnErr, OnOk}
+use Rattle.std.specs.Option.{ok_or}
+use Rattle.std.specs.Box.{box_value}
+use Rattle.std.proofs.lemmas.Option.{same_Some}
+use Rattle.clap.specs.Simple.{subcommand_rows}
+use Rattle.clap.specs.Kinds.{or_else}
+use Rattle.clap.specs.Faults.{check_fault, defaults_fault, entered_fault, level_fault, settle_fault, walk_fault}
+use Rattle.clap.specs.Walk.{Held, Names, finished, nothing_held, settled, walk, walk_from}
+use Rattle.clap.specs.Simple.{Shape, argument_words, entered, names_of}
+use Rattle.clap.specs.Words.{Kinds, built, subcommand_of, fault_of, Row, Text, first_of, first_value, found_of, is_simple, is_simple_and_free, rows_of, subcommand_name_of, subcommand_rows_of}
+use Rattle.clap.specs.declared.parser.matches.ArgMatches.{ArgMatches}
+use Rattle.clap.specs.declared.parser.matches.ArgMatches.TheViews.{out-ArgMatches, out-SubCommand}
+use Rattle.clap.specs.declared.parser.matches.SubCommand.{SubCommand}
+use Rattle.clap.proofs.WalkLemmas.{first_value-rows}
+use Rattle.command_words.specs.Commands.{roundc_app}
+use Rattle.command_words.specs.Given.{Explains, FailsByValue}
+use Rattle.command_words.specs.declared.words.WordsFault.{WordsFault}
+use Rattle.command_words.specs.declared.words.WordsFault.TheVariants as fault
+
+-- no argument of the program has a rule on another, and each is simple
+pub roundc_is_simple : is_simple roundc_app ≡ true
+roundc_is_simple = refl
+
+pub roundc_is_free : is_simple_and_free roundc_app ≡ true
+roundc_is_free = refl
+
+-- a pair by its parts
+pub pair_given : (o : Option (Text × List Row)) (name : Text) (rows : List Row) → option_map (λ p. p.0) o ≡ Some name
+    → option_map (λ p. p.1) o ≡ Some rows → o ≡ Some (name, rows)
+pair_given None name rows is also = absurd (cc is)
+pair_given (Some p) name rows is also = ap₂ (λ n r. Some (n, r)) (same_Some _ _ is) (same_Some _ _ also)
+
+module _ {Z : Type 0} where
+  name_in : (o : Option (Box SubCommand Z)) → option_map (λ p. p.0) (subcommand_rows o) ≡ option_map (λ b. (out-SubCommand (box_value b)).name.now) o
+  name_in None = refl
+  name_in (Some b) = refl
+
+-- the name of the subcommand that a parse entered
+pub name_given : (m : ArgMatches) → option_map (λ p. p.0) (subcommand_rows_of m) ≡ subcommand_name_of m
+name_given m = name_in (out-ArgMatches m).subcommand
+
+-- what the matches' calls read, as the rows have it
+pub text_in : (m : ArgMatches) (id : Text) (r : Option (Bor Text)) → option_map (λ s. s.now) r ≡ first_value (found_of m) id
+    → first_of id (rows_of (found_of m)) ≡ option_map (λ s. s.now) r
+text_in m id r is = sym (is ∙ first_value-rows (found_of m) id)
+
+-- `ok_or` after `get_str`, as the rows have it
+pub text_found : {E : Type 0} (o : Option Text) (r : Option (Bor Text)) (e : E) → o ≡ option_map (λ s. s.now) r → IfOk (ok_or r e) (λ t. o ≡ Some t.now)
+text_found o None e same = tt
+text_found o (Some t) e same = same
+
+pub text_missing : {E : Type 0} (o : Option Text) (r : Option (Bor Text)) (e : E) → o ≡ option_map (λ s. s.now) r → OnErr (ok_or r e) (o ≡ None)
+text_missing o None e same = same
+text_missing o (Some t) e same = tt
+
+pub ok_always : {T E P : Type 0} (r : Result T E) → P → OnOk r P
+ok_always (Ok x) p = p
+ok_always (Err e) p = tt
+
+-- what the command lacks explains the fault, where `clap` found no mistake
+pub lack_explained : (words : List Text) (name : Text) (rows : List Row) (e : WordsFault) → fault_of roundc_app words ≡ []
+    → subcommand_of roundc_app words ≡ Some (name, rows) → FailsByValue name rows e → Explains words e
+lack_explained words name rows (fault.Refused e) none is lack = absurd lack
+lack_explained words name rows fault.Missing none is lack = (none, (name, rows, is, lack))
+lack_explained words name rows fault.Source none is lack = (none, (name, rows, is, lack))
+lack_explained words name rows fault.NoMemory none is lack = tt
+
+or_else_right : (a b : Kinds) → or_else a b ≡ [] → b ≡ []
+or_else_right [] b h = h
+or_else_right (k ∷ ks) b h = absurd (cc h)
+
+named : (rows : List Row) (has : Bool) → check_fault (built roundc_app).top rows has ≡ [] → has ≡ true
+named rows true h = refl
+named rows false h = absurd (cc h)
+
+last_check : (s : Shape) (names : Names) (h : Held) (words : List Text) (has : Bool) (below : Kinds) → level_fault s names h words has below ≡ []
+    → check_fault s (finished s.rules (walk s.rules names h words).held) has ≡ []
+last_check s names h words has below none =
+    let end = (walk s.rules names h words).held in
+    let last = check_fault s (finished s.rules end) has in
+    let defaults = or_else (defaults_fault (settled s.rules end).rows s.rules) last in
+    let settling = or_else (settle_fault s.rules s.args_override_self end) defaults in
+    or_else_right (defaults_fault (settled s.rules end).rows s.rules) last
+    (or_else_right (settle_fault s.rules s.args_override_self end) defaults
+    (or_else_right below settling (or_else_right (walk_fault s names (walk_from h) words) (or_else below settling) none)))
+
+-- where `clap` finds no mistake, the words name a command
+pub command_named : (words : List Text) → fault_of roundc_app words ≡ [] → is_some (subcommand_of roundc_app words) ≡ true
+command_named words none =
+    let a = built roundc_app in
+    let ws = argument_words roundc_app words in
+    let stop = (walk a.top.rules (names_of a) nothing_held ws).stopped in
+    named (finished a.top.rules (walk a.top.rules (names_of a) nothing_held ws).held) (is_some (subcommand_of roundc_app words))
+    (last_check a.top (names_of a) nothing_held ws (is_some (entered a stop)) (entered_fault a stop) none)

@@ -1,0 +1,25 @@
+-- Command lines written out: `clap`'s definition takes them, and gives these values.
+use Rattle.std.proofs.Common.{◌≡◌, refl, codes, true, option_map, Some, List, [], ◌∷◌}
+use Rattle.clap.specs.Words.{Text, fault_of, first_of, subcommand_of, takes}
+use Rattle.clap.specs.declared.error.kind.ErrorKind.TheVariants as kind
+use Rattle.clap.proofs.OnLiterals.{clap_on_literals}
+use Rattle.command_words.specs.Commands.{roundc_app}
+
+abbrev run_row : List Text
+run_row = codes "run" ∷ codes "@gather:2" ∷ codes "--schedule" ∷ codes "-" ∷ []
+
+run_taken : takes roundc_app run_row ≡ true
+unfolding clap_on_literals
+run_taken = refl
+
+run_schedule : option_map (λ p. first_of (codes "schedule") p.1) (subcommand_of roundc_app run_row) ≡ Some (Some (codes "-"))
+unfolding clap_on_literals
+run_schedule = refl
+
+help_refused : fault_of roundc_app (codes "run" ∷ codes "--help" ∷ []) ≡ kind.DisplayHelp ∷ []
+unfolding clap_on_literals
+help_refused = refl
+
+missing_refused : fault_of roundc_app (codes "run" ∷ codes "@gather:2" ∷ []) ≡ kind.MissingRequiredArgument ∷ []
+unfolding clap_on_literals
+missing_refused = refl

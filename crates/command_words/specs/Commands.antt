@@ -1,0 +1,37 @@
+-- The commands of the program, as `clap` reads them.
+use Rattle.std.specs.Prelude.{◌≡◌, Some, codes, true, false}
+use Rattle.clap.specs.Words.{App, Rule, Text, app_of, new_app, new_rule, with_rule, with_subcommand}
+use Rattle.clap.specs.declared.builder.command.Command.{Command}
+use Rattle.clap.specs.declared.builder.command.Command.TheViews.{out-Command}
+
+-- `SOURCE`, a required word of its own
+abbrev pub source_rule : Rule
+source_rule = record (new_rule (codes "source")) { value_names = 1; required = true }
+
+-- `--NAME VALUE`, required, any text
+abbrev pub text_rule : Text → Rule
+text_rule name =
+    record (new_rule name) { long = Some name; value_names = 1; required = true }
+
+-- `run SOURCE --schedule FILE`
+abbrev pub run_app : App
+run_app = with_rule (with_rule (new_app (codes "run")) source_rule) (text_rule (codes "schedule"))
+
+-- the command line with no command in it yet
+abbrev pub bare_app : App
+bare_app = let new = new_app (codes "roundc") in record new {
+  top = record new.top {
+    no_binary_name = true;
+    disable_help_subcommand = true;
+    subcommand_required = true;
+    has_version = true;
+  };
+}
+
+-- the whole command line
+abbrev pub roundc_app : App
+roundc_app = with_subcommand bare_app run_app.top
+
+-- what a parse reads of the command is this, and none of its arguments is global
+abbrev pub IsCommandOf : App → Command → Type 0
+IsCommandOf app c = (app_of c ≡ app) × ((out-Command c).has_globals ≡ false)

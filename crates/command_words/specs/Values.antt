@@ -1,0 +1,40 @@
+-- The text of SOURCE, which `clap` passes on as it was written.
+use Rattle.std.specs.Prelude.{◌≡◌, ◌≢◌, ◌++◌, ◌∷◌, ◌==◌, ◌&&◌, ◌||◌, [], ℕ, Bool, IsTrue, false, min}
+use Rattle.std.specs.Char.{is_ascii_alphabetic, is_ascii_alphanumeric}
+use Rattle.std.specs.List.{list_all}
+use Rattle.std.specs.Str.Parse.{IsNumeral, digits_value}
+use Rattle.clap.specs.Words.{Text}
+use Rattle.command_words.specs.declared.values.Source.{Source}
+use Rattle.command_words.specs.declared.values.Source.TheVariants.{File, Library}
+
+-- `@`
+abbrev pub at_sign : ℕ
+at_sign = 64
+
+-- `:`
+abbrev pub colon : ℕ
+colon = 58
+
+abbrev pub is_colon : ℕ → Bool
+is_colon b = b == colon
+
+-- a letter or `_`, which is 95
+abbrev pub begins_name : ℕ → Bool
+begins_name b = is_ascii_alphabetic b || b == 95
+
+-- a letter, a digit or `_`
+abbrev pub continues_name : ℕ → Bool
+continues_name b = is_ascii_alphanumeric b || b == 95
+
+-- an identifier, of any length
+abbrev pub is_name : Text → Bool
+is_name [] = false
+is_name (b ∷ rest) = begins_name b && list_all continues_name rest
+
+-- a file's name is any text that doesn't begin with `@`; a program of the library is `@`, a name,
+-- `:` and one or more digits, and the number that they write is cut to the largest of 32 bits
+abbrev pub SourceText : Text → Source → Type 0
+SourceText text (File name) = (name.now ≡ text) × ((rest : Text) → text ≢ at_sign ∷ rest)
+SourceText text (Library name values) = (digits : Text)
+    × (text ≡ at_sign ∷ name.now ++ colon ∷ digits) × IsTrue (is_name name.now)
+    × IsNumeral 10 digits × (values ≡ min (digits_value 10 digits) 4294967295)

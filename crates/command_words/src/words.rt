@@ -1,0 +1,119 @@
+//! What the words say.
+ghost use Rattle.std.specs.Prelude.{◌≡◌, ◌≢◌, ◌⊎◌, [], IfErr, IfOk, OnErr, OnOk, map};
+ghost use Rattle.clap.specs.Words.{fault_of, first_of, found_of, kind_of, rows_of};
+ghost use Rattle.command_words.specs.Commands.{roundc_app};
+ghost use Rattle.command_words.specs.Given.{Explains, FailsBySource, FailsByValue, Gives, GivesSource, Means};
+ghost use Rattle.command_words.specs.declared.words.WordsFault.TheVariants.{NoMemory};
+
+use crate::commands::roundc_command;
+use crate::values::{Source, read_source};
+use clap::ArgMatches;
+use clap::error::ErrorKind;
+use std::alloc::{AllocError, AllocFailed, Global};
+
+/// A command with its values.
+#[derive(Clone, Copy, Debug, PartialEq, Eq)]
+pub enum Words<'a> {
+    /// `run SOURCE --schedule FILE`; `schedule` is FILE as it was written, `-` included.
+    Run {
+        source: Source<'a>,
+        schedule: &'a str,
+    },
+}
+
+/// Why the words give no command.
+#[derive(Debug, Drop)]
+pub enum WordsFault {
+    /// A mistake in the words, or a call for help or the version. The error's `Display` is what
+    /// the user reads.
+    Refused(clap::Error),
+    /// A command without one of its values. `clap` refuses such words itself, so none are known
+    /// that give this; its contract leaves it open for a command below the top one.
+    Missing,
+    /// A SOURCE that begins with `@` and doesn't go on as a name, `:` and digits.
+    Source,
+    /// Memory ran out. Nothing is known of the words.
+    NoMemory,
+}
+
+impl<T: Drop> From<AllocFailed<T>> for WordsFault {
+    ghost from_gives = { λ _ e. e ≡ NoMemory };
+
+    fn from(_error: AllocFailed<T>) -> WordsFault {
+        WordsFault::NoMemory
+    }
+}
+
+impl From<AllocError> for WordsFault {
+    ghost from_gives = { λ _ e. e ≡ NoMemory };
+
+    fn from(_error: AllocError) -> WordsFault {
+        WordsFault::NoMemory
+    }
+}
+
+/// The program's own word for an error of `clap`.
+fn refusal(error: clap::Error) -> WordsFault
+    ensures { ((result ≡ WordsFault.NoMemory) × (kind_of error ≡ ErrorKind.OutOfMemory))
+        ⊎ ((result ≡ WordsFault.Refused error) × (kind_of error ≢ ErrorKind.OutOfMemory)) }
+{
+    match error.kind() {
+        ErrorKind::OutOfMemory => WordsFault::NoMemory,
+        _ => WordsFault::Refused(error),
+    }
+}
+
+/// The value of a required argument.
+fn text_of<'a>(matches: &ArgMatches<'a>, id: &str) -> Result<&'a str, WordsFault>
+    ensures ok { IfOk result (λ t. first_of id.now (rows_of (found_of matches.now)) ≡ Some t.now) }
+    ensures missing { IfErr result (λ e. e ≡ WordsFault.Missing) }
+    ensures err { OnErr result (first_of id.now (rows_of (found_of matches.now)) ≡ None) }
+{
+    matches.get_str(id).ok_or(WordsFault::Missing)
+}
+
+/// The value of SOURCE, in its two forms.
+fn source_of<'a>(matches: &ArgMatches<'a>) -> Result<Source<'a>, WordsFault>
+    ensures ok { IfOk result (GivesSource (rows_of (found_of matches.now))) }
+    ensures err { IfErr result (FailsBySource (rows_of (found_of matches.now))) }
+{
+    let text = text_of(matches, "source")?;
+    read_source(text).ok_or(WordsFault::Source)
+}
+
+/// The values of the command `name`.
+fn command_of<'a>(name: &'a str, matches: &ArgMatches<'a>) -> Result<Words<'a>, WordsFault>
+    ensures ok { IfOk result (Gives name.entry.now (rows_of (found_of matches.now))) }
+    ensures err { IfErr result (FailsByValue name.entry.now (rows_of (found_of matches.now))) }
+{
+    match name {
+        "run" => Ok(Words::Run {
+            source: source_of(matches)?,
+            schedule: text_of(matches, "schedule")?,
+        }),
+        _ => Err(WordsFault::Missing),
+    }
+}
+
+/// What the words say, which stand after the program's own name.
+///
+/// A value that is missing, a repeated option, an unknown word, no word at all and a call for help
+/// or the version are `WordsFault::Refused`, with `clap`'s error. Where SOURCE has a fault too,
+/// `clap`'s goes first.
+pub fn read_words<'a>(alloc: Global, words: &'a [&'a str]) -> Result<Words<'a>, WordsFault>
+    // The command and its values are those of `clap`'s definition of a simple command's matches,
+    // in which it finds no mistake.
+    ensures ok { IfOk result (Means (map (λ s. s.now) words.entry.now)) }
+    ensures flawless { OnOk result (fault_of roundc_app (map (λ s. s.now) words.entry.now) ≡ []) }
+    ensures err { IfErr result (Explains (map (λ s. s.now) words.entry.now)) }
+{
+    let command = roundc_command(alloc)?;
+    let matches = match command.try_get_matches_from(words) {
+        Ok(matches) => matches,
+        Err(error) => return Err(refusal(error)),
+    };
+    match matches.subcommand() {
+        Some((name, inner)) => command_of(name, inner),
+        None => unreachable!(),
+    }
+}
