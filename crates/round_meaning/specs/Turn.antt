@@ -1,5 +1,5 @@
 -- What a node sends in a round, and the state that the round ends with.
-use Rattle.std.specs.Prelude.{ℕ, ◌+◌, ◌-◌, ◌/◌, ◌%◌, Bool, true, false, List, [], ◌∷◌, map, Option, Some, None, if◌then◌else◌, position, slice_set, slice_get}
+use Rattle.std.specs.Prelude.{ℕ, ◌+◌, ◌-◌, ◌/◌, ◌%◌, List, [], ◌∷◌, map, Option, Some, None, if◌then◌else◌, position, slice_set, slice_get}
 use Rattle.std.specs.Str.{bytes_eq}
 use Rattle.round_lang.specs.declared.block.Assignment.{Assignment}
 use Rattle.round_lang.specs.declared.block.Field.{Field}
@@ -104,9 +104,10 @@ abbrev pub initial : ProgramTree → ℕ → ℕ → ℕ → ℕ → List Value
 initial p n t x i =
     map (λ (d : Variable). begins (bind_input (input_name p.variables) x (node_env p n t 0 i)) x d.kind) p.variables
 
-abbrev pub first_name : List (List ℕ) → List ℕ
-first_name [] = []
-first_name (x ∷ xs) = x
+-- the set that the decided variable holds, empty where nothing is decided
+abbrev pub decided : ProgramTree → List Value → List (List ℕ) → ℕ
+decided p vs [] = 0
+decided p vs (x ∷ xs) = set (or_value (find_var p.variables vs x) (Num 0))
 
 abbrev pub first_member : List ℕ → Option ℕ
 first_member [] = None
@@ -114,4 +115,4 @@ first_member (v ∷ vs) = Some v
 
 -- the decision in a state: the least member of the decided variable
 abbrev pub decision : ProgramTree → List Value → Option ℕ
-decision p vs = first_member (members (set (or_value (find_var p.variables vs (first_name p.decides)) (Num 0))))
+decision p vs = first_member (members (decided p vs p.decides))

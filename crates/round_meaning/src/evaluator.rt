@@ -83,12 +83,7 @@ fn eval_at(
 }
 
 #[cycle(eval)]
-fn eval_set(
-    alloc: Global,
-    name: &Identifier,
-    body: &Expr,
-    env: &Env<'_>,
-) -> Result<Value, NoMemory>
+fn eval_set(alloc: Global, name: &Identifier, body: &Expr, env: &Env<'_>) -> Result<Value, NoMemory>
     requires { env.now.values ≤ 64 }
     ensures { IfOk result (λ r. r ≡ of_set (set_of env.now.values
         (λ v. flag (value (tree_of body.now) (bind name.now (env_of env.now) v))))) }
@@ -103,12 +98,7 @@ fn eval_set(
 }
 
 #[cycle(eval)]
-fn eval_row(
-    alloc: Global,
-    name: &Identifier,
-    body: &Expr,
-    env: &Env<'_>,
-) -> Result<Value, NoMemory>
+fn eval_row(alloc: Global, name: &Identifier, body: &Expr, env: &Env<'_>) -> Result<Value, NoMemory>
     requires { env.now.values ≤ 64 }
     ensures { IfOk result (λ r. r ≡ Value.Row (map
         (λ v. num (value (tree_of body.now) (bind name.now (env_of env.now) v)))

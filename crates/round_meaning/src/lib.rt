@@ -12,6 +12,6 @@ mod turn;
 pub use env::{Env, Scope};
 pub use evaluator::eval;
 pub use nodes::NodeSet;
-pub use setup::{Inputs, Setup};
 pub use received::Received;
+pub use setup::{Inputs, Setup};
 pub use turn::{decision_of, end_of, initial_of, send_of};

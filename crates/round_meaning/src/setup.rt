@@ -57,6 +57,13 @@ impl Inputs {
             values: self.values.clone()?,
         })
     }
+
+    /// Whether both give each node the same input.
+    pub fn same(&self, other: &Inputs) -> bool
+        ensures { IsTrue result ↔ (self.now ≡ other.now) }
+    {
+        self.values.as_slice() == other.values.as_slice()
+    }
 }
 
 /// N nodes of which up to t may fail, each node's input, and how many rounds are to be run. A lawful
@@ -85,6 +92,16 @@ impl Setup {
             inputs: self.inputs.copy()?,
             rounds: self.rounds,
         })
+    }
+
+    /// Whether both ask for the same run.
+    pub fn same(&self, other: &Setup) -> bool
+        ensures { IsTrue result ↔ (self.now ≡ other.now) }
+    {
+        self.nodes == other.nodes
+            && self.faults == other.faults
+            && self.inputs.same(&other.inputs)
+            && self.rounds == other.rounds
     }
 }
 

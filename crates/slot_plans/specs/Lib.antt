@@ -1,0 +1,5 @@
+pub mod Growing
+pub mod Known
+pub mod Laws
+pub mod Plan
+pub mod Slot

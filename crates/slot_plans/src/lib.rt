@@ -1,0 +1,23 @@
+//! The plans of rounds over steps: which step of a node belongs to which round, and to what.
+//!
+//! Dwork, Lynch and Stockmeyer run a round of the basic model as a row of steps of a process: first
+//! one send step for each process, and then receive steps. There are Δ receive steps in each round
+//! where the bound Δ on the delay is known, and as many as the round's number where it is not.
+#![tactic(auto)]
+
+mod growing;
+mod kind;
+mod known;
+mod limits;
+mod plan;
+mod slot;
+
+pub use growing::Growing;
+pub use kind::PlanKind;
+pub use known::Known;
+pub use limits::{MAX_DELTA, MAX_NODES, MAX_ROUNDS};
+pub use plan::Plan;
+pub use slot::Slot;
+
+#[cfg(test)]
+mod tests;

@@ -1,0 +1,33 @@
+-- Messages on their way, and what a node has ready for a send slot.
+use Rattle.std.specs.Prelude.{◌≡◌, ℕ, List, Option, Some, option_map}
+use Rattle.round_lang.specs.declared.value.Value.{Value}
+use Rattle.round_meaning.specs.Rounds.{Algorithm}
+use Rattle.step_machine.specs.declared.event.Name.{Name}
+
+-- a message under its name, with its sender's state
+pub record Frame : Type 0 where
+  pub name : Name
+  pub state : List Value
+  pub message : List Value
+
+-- a message or silence under its name, with its sender's state
+pub record Ready : Type 0 where
+  pub name : Name
+  pub state : List Value
+  pub message : Option (List Value)
+
+-- the frame of a message, none for silence
+abbrev pub frame_of : Ready → Option Frame
+frame_of p = option_map (λ m. record { name = p.name; state = p.state; message = m }) p.message
+
+-- what a state sends under a name
+abbrev pub sent_under : Algorithm → Name → List Value → Option (List Value)
+sent_under a n s = a.send n.round s n.from n.to
+
+-- the frame says what the state that it names sends
+pub record Spells (a : Algorithm) (f : Frame) : Type 0 where
+  pub says : sent_under a f.name f.state ≡ Some f.message
+
+-- the message or silence is what the state sends
+pub record IsPrepared (a : Algorithm) (p : Ready) : Type 0 where
+  pub says : sent_under a p.name p.state ≡ p.message

@@ -1,0 +1,24 @@
+-- The fields of a node.
+use Rattle.std.specs.Prelude.{◌≡◌, ◌<◌, length, option_map}
+use Rattle.std.specs.Arc.{arc_value}
+use Rattle.round_meaning.specs.Setups.{IsSized}
+use Rattle.step_machine.specs.declared.node.Node.TheInside.{Inside}
+use Rattle.step_machine.specs.Nodes.{NodeView, IsHeld, algorithm_in}
+
+abbrev pub node_seen : Inside → NodeView
+node_seen s = record {
+  program = s.program;
+  setup = s.setup;
+  me = s.me;
+  round = s.round;
+  state = arc_value s.state;
+  held = s.held.items;
+  next = option_map (λ a. arc_value a) s.next;
+}
+
+-- the node is one of its setup's, and the frames that it holds are of its round
+pub record IsKept (s : Inside) : Type 0 where
+  pub setup : IsSized s.setup
+  pub me : s.me < s.setup.nodes
+  pub sized : length s.held.items ≡ s.setup.nodes
+  pub held : IsHeld (algorithm_in (node_seen s)) s.setup.nodes s.me s.round s.held.items

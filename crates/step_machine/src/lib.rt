@@ -1,0 +1,10 @@
+//! One node of a run in single steps: what it prepares, takes, and ends its rounds with.
+#![tactic(auto)]
+
+mod event;
+mod node;
+mod sealed;
+
+pub use event::{Event, InFlight, Name};
+pub use node::{Finished, Node, Taken};
+pub use sealed::{Prepared, Sealed};

@@ -1,0 +1,278 @@
+//! A node.
+ghost use Rattle.std.specs.Arc.{arc_value};
+ghost use Rattle.std.specs.Borrow.{sem};
+ghost use Rattle.std.specs.Prelude.{◌≡◌, ◌≢◌, ℕ, ◌+◌, ◌<◌, ◌≤◌, ◌↔◌, IfOk, IsSome, Some, None, replicate, slice_set};
+ghost use Rattle.round_meaning.specs.Rounds.{algorithm_of};
+ghost use Rattle.round_meaning.specs.Setups.{IsSized};
+ghost use Rattle.step_machine.specs.Frames.{Spells};
+ghost use Rattle.step_machine.specs.Nodes.{IsDoubled, IsEnd, IsSameTurn, ahead, algorithm_in, held_at, inbox_of};
+
+use crate::event::Name;
+use crate::sealed::{Prepared, Sealed};
+use round_check::Checked;
+use round_lang::{NoMemory, Vars};
+use round_meaning::{Received, Setup, end_of, initial_of, send_of};
+use std::alloc::Global;
+use std::marker::Model;
+use std::sync::Arc;
+
+/// What became of a frame that was handed to a node.
+#[derive(Clone, Copy, PartialEq, Eq, Debug)]
+pub enum Taken {
+    Kept,
+    /// It is of an earlier round, and was dropped.
+    Late,
+    /// It is of a later round, and was dropped.
+    Early,
+    /// A message of its sender is held already, and it was dropped.
+    Doubled,
+}
+
+/// One node, outside of all locks: its program and setup, its round (from 1), its state after the
+/// round before, the frames of its round that it holds, by sender, and room for the next state.
+#[derive(Drop)]
+pub struct Node {
+    alloc: Global,
+    program: Checked,
+    setup: Setup,
+    me: u32,
+    round: u32,
+    state: Arc<Vars>,
+    held: Vec<Option<Sealed>>,
+    next: Option<Arc<Vars>>,
+}
+
+impl Model for Node {
+    ghost use Rattle.std.specs.Prelude.{◌≡◌, ◌<◌, option_map};
+    ghost use Rattle.std.specs.Arc.{arc_value};
+    ghost use Rattle.round_lang.specs.contracts.formula.Formula as formula;
+    ghost use Rattle.std.specs.Coded.{codes};
+    ghost use Rattle.step_machine.specs.Nodes.{NodeView};
+
+    ghost Value = { NodeView };
+
+    ghost coded = { Prim.hlevel (codes, formula.the_row.coded) };
+
+    ghost use Rattle.step_machine.specs.NodeInside.{node_seen, IsKept};
+
+    ghost view = { node_seen };
+
+    ghost invariant = { IsKept };
+}
+
+impl Node {
+    ghost use Rattle.step_machine.specs.Lending.{LeavesEnded};
+
+    /// The node `me` before its first round. The setup is lawful, and `me` is below its nodes.
+    pub fn new(
+        alloc: Global,
+        program: &Checked,
+        setup: &Setup,
+        me: u32,
+    ) -> Result<Node, NoMemory>
+        requires sized { IsSized setup.now }
+        requires me { me < setup.now.nodes }
+        ensures { IfOk result (λ n. n ≡ record {
+            program = program.now;
+            setup = setup.now;
+            me = me;
+            round = 1;
+            state = (algorithm_of program.now setup.now).init me;
+            held = replicate setup.now.nodes None;
+            next = None;
+        }) }
+    {
+        let state = initial_of(alloc, program, setup, me)?;
+        let state = Arc::new(alloc, state)?;
+        let mut held = Vec::new(alloc);
+        for _sender in 0..setup.nodes {
+            held.push(None)?;
+        }
+        Ok(Node {
+            alloc,
+            program: program.copy()?,
+            setup: setup.copy()?,
+            me,
+            round: 1,
+            state,
+            held,
+            next: None,
+        })
+    }
+
+    /// The round that it is in: the first that it hasn't settled.
+    pub fn round(&self) -> u32
+        ensures { result ≡ self.now.round }
+    {
+        self.round
+    }
+
+    /// What it sends to `dest` in its round.
+    pub fn prepare(&mut self, dest: u32) -> Result<Prepared, NoMemory>
+        requires { dest < self.old.setup.nodes }
+        ensures ready { IfOk result (λ p. p ≡ record {
+            name = record { from = self.old.me; to = dest; round = self.old.round };
+            state = self.old.state;
+            message = (algorithm_in self.old).send self.old.round self.old.state self.old.me dest;
+        }) }
+        ensures same { self.new ≡ self.old }
+    {
+        let message = send_of(
+            self.alloc,
+            &self.program,
+            &self.setup,
+            self.round,
+            &self.state,
+            self.me,
+            dest,
+        )?;
+        let name = Name {
+            from: self.me,
+            to: dest,
+            round: self.round,
+        };
+        let state = Arc::try_clone(&self.state)?;
+        Ok(Prepared::new(name, state, message))
+    }
+
+    /// Takes a frame that was sent to it. What isn't kept is dropped.
+    pub fn take(&mut self, frame: Sealed) -> Taken
+        requires from { frame.name.from < self.old.setup.nodes }
+        requires to { frame.name.to ≡ self.old.me }
+        requires spells { Spells (algorithm_in self.old) frame }
+        ensures late { (result ≡ Taken.Late) ↔ (frame.name.round < self.old.round) }
+        ensures early { (result ≡ Taken.Early) ↔ (self.old.round + ahead < frame.name.round) }
+        ensures doubled { (result ≡ Taken.Doubled) ↔ IsDoubled self.old frame }
+        ensures kept { (result ≡ Taken.Kept) → self.new ≡ record self.old { held = slice_set self.old.held frame.name.from (Some frame) } }
+        ensures dropped { (result ≢ Taken.Kept) → self.new ≡ self.old }
+    {
+        let name = frame.name();
+        if name.round < self.round {
+            return Taken::Late;
+        }
+        if name.round > self.round {
+            return Taken::Early;
+        }
+        let place = &mut self.held[name.from as usize];
+        if place.is_some() {
+            return Taken::Doubled;
+        }
+        *place = Some(frame);
+        Taken::Kept
+    }
+
+    /// Ends the round: computes the next state from the frames held, and leaves the node as it is.
+    pub fn finish(&mut self) -> Result<Finished<'_>, NoMemory>
+        ensures* leaves { sem 𝓛 (LeavesEnded self.entry result) }
+        ensures ended { IfOk result (λ f. IsSameTurn self.old f.node.now) }
+    {
+        let inbox = inbox_of(self.alloc, &self.held)?;
+        let next = end_of(
+            self.alloc,
+            &self.program,
+            &self.setup,
+            self.round,
+            self.me,
+            &inbox,
+            &self.state,
+        )?;
+        self.next = Some(Arc::new(self.alloc, next)?);
+        Ok(Finished { node: self })
+    }
+
+    /// Adopts the state of the last `finish`, drops the frames, and goes on to the next round.
+    pub fn settle(&mut self)
+        requires ended { IsSome self.old.next }
+        requires within { self.old.round ≤ self.old.setup.rounds }
+        ensures state { Some self.new.state ≡ self.old.next }
+        ensures held { (j : ℕ) → held_at self.new.held j ≡ None }
+        ensures round { self.new.round ≡ self.old.round + 1 }
+        ensures next { self.new.next ≡ None }
+        ensures program { self.new.program ≡ self.old.program }
+        ensures setup { self.new.setup ≡ self.old.setup }
+        ensures me { self.new.me ≡ self.old.me }
+    {
+        match self.next.take() {
+            Some(next) => self.state = next,
+            None => unreachable!(),
+        }
+        let_go_of_all(&mut self.held);
+        self.round += 1;
+    }
+}
+
+/// Drops the frames.
+fn let_go_of_all(held: &mut [Option<Sealed>])
+    ensures { (j : ℕ) → held_at held.new j ≡ None }
+{
+    for place in held.iter_mut() {
+        *place = None;
+    }
+}
+
+/// The frames as an inbox, in rising order of sender.
+fn inbox_of(alloc: Global, held: &[Option<Sealed>]) -> Result<Vec<Received>, NoMemory>
+    ensures { IfOk result (λ inbox. inbox.items ≡ inbox_of held.now) }
+{
+    let mut inbox = Vec::new(alloc);
+    for frame in held {
+        if let Some(frame) = frame {
+            inbox.push(Received {
+                from: frame.name().from,
+                message: frame.message().copy(alloc)?,
+            })?;
+        }
+    }
+    Ok(inbox)
+}
+
+/// What a node ended its round with.
+#[derive(Clone, Copy)]
+pub struct Finished<'a> {
+    node: &'a Node,
+    ghost ended: { IsEnd node.now },
+}
+
+impl<'a> Finished<'a> {
+    /// The node that ended a round.
+    pub fn node(&self) -> u32
+        ensures { result ≡ self.now.node.now.me }
+    {
+        let node = self.node;
+        node.me
+    }
+
+    pub fn round(&self) -> u32
+        ensures { result ≡ self.now.node.now.round }
+    {
+        let node = self.node;
+        node.round
+    }
+
+    /// The state before the round's end.
+    pub fn old(&self) -> &'a Vars
+        ensures { result.now ≡ self.now.node.now.state }
+    {
+        let node = self.node;
+        &node.state
+    }
+
+    /// The frames that it was computed from, by sender.
+    pub fn frames(&self) -> &'a [Option<Sealed>]
+        ensures { result.now ≡ self.now.node.now.held }
+    {
+        let node = self.node;
+        &node.held
+    }
+
+    /// The state after the round, to be shared.
+    pub fn new_state(&self) -> Result<Arc<Vars>, NoMemory>
+        ensures { IfOk result (λ s. Some (arc_value s) ≡ self.now.node.now.next) }
+    {
+        let node = self.node;
+        match &node.next {
+            Some(next) => Ok(Arc::try_clone(next)?),
+            None => unreachable!(),
+        }
+    }
+}
