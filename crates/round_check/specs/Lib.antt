@@ -1,0 +1,6 @@
+pub use Rattle.round_lang.specs.Tree
+pub use Rattle.round_lang.specs.Syntax
+pub mod Names
+pub mod Rules
+pub mod Types
+pub mod Causes

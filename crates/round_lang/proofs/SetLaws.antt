@@ -174,6 +174,7 @@ set_of-more v p = sym (is-set_of (v + 1) _ p (small (p v)) (λ i h. bits (p v) i
     small : (b : Bool) → cond b (bit_or (set_of v p) (2 ^ v)) (set_of v p) < 2 ^ (v + 1)
     small true = or_lt (v + 1) (set_of v p) (2 ^ v) (omega (arith, set_of-lt v p, pow-lt {i = v} {j = v + 1} (omega arith))) (pow-lt (omega arith))
     small false = omega (arith, set_of-lt v p, pow-lt {i = v} {j = v + 1} (omega arith))
+
     bits : (b : Bool) (i : ℕ) → i < v + 1 → (i < v) ⊎ (v ≤ i) → b ≡ p v → bit_at (cond b (bit_or (set_of v p) (2 ^ v)) (set_of v p)) i ≡ cond (p i) 1 0
     bits true i h (inl l) q = bit_at_or (set_of v p) (2 ^ v) i ∙ (let ne : i ≢ v = omega arith in rw (bit-set_of v p i l, bit_at-pow_other v i ne) (max_zero (p i)))
     bits true i h (inr l) q = bit_at_or (set_of v p) (2 ^ v) i ∙ (let e : i ≡ v = omega arith in rw (e, bit_at-pow_same v, bit_at_above (set_of v p) v v (set_of-lt v p) (omega arith), ← q) refl)

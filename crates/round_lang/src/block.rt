@@ -45,12 +45,12 @@ impl Model for Block {
     ghost coded = { Prim.hlevel (codes, formula.the_row.coded) };
 
     ghost view = { λ b. record {
-        number = b.number;
-        fields = b.fields.items;
-        condition = b.condition;
-        sent = b.sent.items;
-        on_message = b.on_message.items;
-        end = b.end.items;
+      number = b.number;
+      fields = b.fields.items;
+      condition = b.condition;
+      sent = b.sent.items;
+      on_message = b.on_message.items;
+      end = b.end.items;
     } };
 
     ghost invariant = { λ b. vec_len b.fields ≤ max_fields };
@@ -69,12 +69,12 @@ impl Block {
     ) -> Block
         requires { vec_len fields ≤ max_fields }
         ensures { result ≡ record {
-            number = number;
-            fields = fields.items;
-            condition = condition;
-            sent = sent.items;
-            on_message = on_message.items;
-            end = end.items;
+          number = number;
+          fields = fields.items;
+          condition = condition;
+          sent = sent.items;
+          on_message = on_message.items;
+          end = end.items;
         } }
     {
         Block {

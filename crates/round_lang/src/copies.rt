@@ -27,7 +27,11 @@ pub(crate) fn copy(alloc: Global, expr: &Expr) -> Result<Expr, NoMemory>
             let c = copy(alloc, c)?;
             let a = copy(alloc, a)?;
             let b = copy(alloc, b)?;
-            Ok(Expr::If(Box::new(alloc, c)?, Box::new(alloc, a)?, Box::new(alloc, b)?))
+            Ok(Expr::If(
+                Box::new(alloc, c)?,
+                Box::new(alloc, a)?,
+                Box::new(alloc, b)?,
+            ))
         }
         Expr::SetOf(name, body) => {
             let body = copy(alloc, body)?;

@@ -16,7 +16,6 @@ pub struct Formula {
 
 impl Model for Formula {
     ghost use Rattle.round_lang.specs.Tree.{Tree, tree_of};
-
     ghost use Rattle.round_lang.specs.TreeCode.{Word, words, tree_from, tree_back};
     ghost use Rattle.std.specs.Prelude.{List};
     ghost use Rattle.std.specs.Coded.{codes, code_by};

@@ -45,11 +45,11 @@ impl Model for Program {
     ghost coded = { Prim.hlevel (codes, formula.the_row.coded) };
 
     ghost view = { λ p. record {
-        values = p.values;
-        period = p.period;
-        variables = p.variables.items;
-        decides = p.decides.items;
-        blocks = p.blocks.items;
+      values = p.values;
+      period = p.period;
+      variables = p.variables.items;
+      decides = p.decides.items;
+      blocks = p.blocks.items;
     } };
 
     ghost invariant = { λ p. IsSized p.values p.period (vec_len p.variables) };
@@ -67,11 +67,11 @@ impl Program {
     ) -> Program
         requires { IsSized values period (vec_len variables) }
         ensures { result ≡ record {
-            values = values;
-            period = period;
-            variables = variables.items;
-            decides = decides.items;
-            blocks = blocks.items;
+          values = values;
+          period = period;
+          variables = variables.items;
+          decides = decides.items;
+          blocks = blocks.items;
         } }
     {
         Program {

@@ -3,10 +3,9 @@ ghost use Rattle.std.specs.Prelude.{◌≡◌, ◌≤◌, ◌↔◌, IfOk, IsTru
 ghost use Rattle.round_lang.specs.Values.{num, flag, set, row, same, unary, binary};
 
 use crate::expr::{BinaryOperator, UnaryOperator};
-use crate::row::Row;
 use crate::memory::NoMemory;
+use crate::row::Row;
 use crate::sets::ValueSet;
-
 
 /// A value.
 #[derive(Drop, Debug)]
