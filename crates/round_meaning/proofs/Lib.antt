@@ -1,3 +1,6 @@
 pub mod Lists
 pub mod LookUps
 pub mod Decisions
+pub mod RoundLaws
+pub mod OmissionLaws
+mod Rows

@@ -8,3 +8,6 @@ pub mod Turn
 pub mod Rounds
 pub mod Setups
 pub mod Nodes
+pub mod Omissions
+pub mod States
+pub mod Laws

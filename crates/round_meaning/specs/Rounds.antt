@@ -21,10 +21,13 @@ abbrev pub received : ℕ → Option (List Value) → Option Received
 received j None = None
 received j (Some m) = Some (record { from = j; message = m })
 
--- what i gets in round r from the senders that aren't omitted and do send, in rising order of sender
+-- what i gets from j in round r, where j isn't omitted and does send
+abbrev pub heard : Algorithm → (ℕ → Bool) → (ℕ → List Value) → ℕ → ℕ → ℕ → Option Received
+heard a omitted states r i j = if omitted j then None else received j (a.send r (states j) j i)
+
+-- what i gets in round r, in rising order of sender
 unfoldable pub inbox : Algorithm → (ℕ → Bool) → (ℕ → List Value) → ℕ → ℕ → List Received
-inbox a omitted states r i =
-    filter_map (λ j. if omitted j then None else received j (a.send r (states j) j i)) (range_with_len 0 a.nodes)
+inbox a omitted states r i = filter_map (heard a omitted states r i) (range_with_len 0 a.nodes)
 
 -- the state of each node after r rounds; `omits i r j`: i doesn't get j's message of round r
 unfoldable pub rounds : Algorithm → (ℕ → ℕ → ℕ → Bool) → ℕ → ℕ → List Value

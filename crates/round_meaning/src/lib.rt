@@ -4,14 +4,24 @@
 
 mod env;
 mod evaluator;
+mod laws;
 mod nodes;
+mod omissions;
 mod received;
+mod rounds;
 mod setup;
+mod states;
+#[cfg(test)]
+mod tests;
 mod turn;
 
 pub use env::{Env, Scope};
 pub use evaluator::eval;
+pub use laws::{numbers_stop, only_past_counts, only_senders_count};
 pub use nodes::NodeSet;
+pub use omissions::{Omission, OmissionTable};
 pub use received::Received;
-pub use setup::{Inputs, Setup};
+pub use rounds::run_rounds;
+pub use setup::{Inputs, MAX_FAULTS, MAX_NODES, MAX_ROUNDS, Setup};
+pub use states::StateTable;
 pub use turn::{decision_of, end_of, initial_of, send_of};

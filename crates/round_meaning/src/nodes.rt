@@ -1,5 +1,5 @@
 //! Sets of nodes.
-ghost use Rattle.std.specs.Prelude.{◌≡◌, ◌<◌};
+ghost use Rattle.std.specs.Prelude.{◌≡◌};
 ghost use Rattle.round_lang.specs.Sets.{only, union};
 ghost use Rattle.round_meaning.specs.Nodes.{has_node};
 
@@ -20,7 +20,6 @@ impl NodeSet {
 
     /// The same with one node more.
     pub fn with(self, node: u32) -> NodeSet
-        requires { node < 64 }
         ensures { result.bits ≡ union self.bits (only 64 node) }
     {
         let one = ValueSet::single(64, node);

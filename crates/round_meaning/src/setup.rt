@@ -6,6 +6,15 @@ use round_check::Checked;
 use round_lang::NoMemory;
 use std::marker::Model;
 
+/// The most nodes that a lawful setup has.
+pub const MAX_NODES: u32 = 16;
+
+/// The most faults of a lawful setup.
+pub const MAX_FAULTS: u32 = 15;
+
+/// The most rounds of a lawful setup.
+pub const MAX_ROUNDS: u32 = 4096;
+
 /// The nodes' inputs, by node.
 #[derive(Drop, Debug)]
 pub struct Inputs {
@@ -109,10 +118,10 @@ fn is_sized(setup: &Setup) -> bool
     ensures { IsTrue result ↔ IsSized setup.now }
 {
     1 <= setup.nodes
-        && setup.nodes <= 16
-        && setup.faults <= 15
+        && setup.nodes <= MAX_NODES
+        && setup.faults <= MAX_FAULTS
         && 1 <= setup.rounds
-        && setup.rounds <= 4096
+        && setup.rounds <= MAX_ROUNDS
         && setup.inputs.as_slice().len() == setup.nodes as usize
 }
 

@@ -1,0 +1,22 @@
+//! Laws of the definitions; the functions do nothing.
+ghost use Rattle.round_meaning.specs.Laws.{DifferencesAreExact, DifferencesStop, OnlyPastCounts, OnlySendersCount, OnlySendersCountInRuns, SumsAreExact, SumsStop};
+
+/// Sums stop at 4,294,967,295, and differences at 0.
+pub fn numbers_stop()
+    ensures sums_exact { SumsAreExact }
+    ensures sums_stop { SumsStop }
+    ensures differences_exact { DifferencesAreExact }
+    ensures differences_stop { DifferencesStop }
+{}
+
+/// Whether a node that doesn't send is omitted makes no difference, neither to an inbox nor to a
+/// state.
+pub fn only_senders_count()
+    ensures inbox { OnlySendersCount }
+    ensures state { OnlySendersCountInRuns }
+{}
+
+/// A state depends on the omissions of the rounds before it alone.
+pub fn only_past_counts()
+    ensures { OnlyPastCounts }
+{}
