@@ -1,11 +1,11 @@
 //! A node.
 ghost use Rattle.std.specs.Arc.{arc_value};
 ghost use Rattle.std.specs.Borrow.{sem};
-ghost use Rattle.std.specs.Prelude.{◌≡◌, ◌≢◌, ℕ, ◌+◌, ◌<◌, ◌≤◌, ◌↔◌, IfOk, IsSome, Some, None, replicate, slice_set};
+ghost use Rattle.std.specs.Prelude.{◌≡◌, ◌≢◌, ℕ, ◌+◌, ◌<◌, ◌≤◌, ◌↔◌, IfOk, IsSome, Some, None, length, replicate, slice_set};
 ghost use Rattle.round_meaning.specs.Rounds.{algorithm_of};
 ghost use Rattle.round_meaning.specs.Setups.{IsSized};
 ghost use Rattle.step_machine.specs.Frames.{Spells};
-ghost use Rattle.step_machine.specs.Nodes.{IsDoubled, IsEnd, IsSameTurn, ahead, algorithm_in, held_at, inbox_of};
+ghost use Rattle.step_machine.specs.Nodes.{IsDoubled, IsEnd, IsHeld, IsSameTurn, ahead, algorithm_in, held_at, inbox_of};
 
 use crate::event::Name;
 use crate::sealed::{Prepared, Sealed};
@@ -236,7 +236,8 @@ pub struct Finished<'a> {
 impl<'a> Finished<'a> {
     /// The node that ended a round.
     pub fn node(&self) -> u32
-        ensures { result ≡ self.now.node.now.me }
+        ensures value { result ≡ self.now.node.now.me }
+        ensures one { result < self.now.node.now.setup.nodes }
     {
         let node = self.node;
         node.me
@@ -259,7 +260,9 @@ impl<'a> Finished<'a> {
 
     /// The frames that it was computed from, by sender.
     pub fn frames(&self) -> &'a [Option<Sealed>]
-        ensures { result.now ≡ self.now.node.now.held }
+        ensures value { result.now ≡ self.now.node.now.held }
+        ensures sized { length result.now ≡ self.now.node.now.setup.nodes }
+        ensures held { IsHeld (algorithm_in self.now.node.now) self.now.node.now.setup.nodes self.now.node.now.me self.now.node.now.round result.now }
     {
         let node = self.node;
         &node.held

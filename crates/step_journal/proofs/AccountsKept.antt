@@ -1,0 +1,60 @@
+-- Each event keeps what was handed out and told.
+use Rattle.std.proofs.Common.{◌≡◌, ◌≢◌, ℕ, zero, suc, ◌+◌, ◌-◌, ◌==◌, ◌<◌, ◌≤◌, Bool, true, false, ◌&&◌, List, [], ◌∷◌, ◌++◌, length, get_or, set, sym, subst, refl, ap, ◌∙◌, arith, rules, ◌⊎◌, inl, inr}
+use Rattle.std.proofs.lemmas.Bool.{and_left, and_right, cases_eq, eq-eqb, ne_eqb}
+use Rattle.std.proofs.lemmas.List.{get_or-set_same, get_or-set_other, length-set, append-nil}
+use Rattle.step_machine.specs.declared.event.Name.{Name}
+use Rattle.step_machine.specs.declared.event.Event.{Event}
+use Rattle.step_journal.specs.declared.mark.Told.{Told}
+use Rattle.step_machine.specs.declared.event.Event.TheVariants.{Step, Release}
+use Rattle.step_journal.specs.World.{World, nodes_of, is_receive}
+use Rattle.step_journal.specs.Trace.{is_step, steps}
+use Rattle.step_journal.specs.History.{mark_of, buffer_of, handed_of, told_of, told_by, is_flying}
+use Rattle.step_journal.specs.Agreement.{Accounts}
+
+handed_kept : (w : World) (i : ℕ) (e : Event) (t : List Event) → (is_step i e && is_receive w (steps i t)) ≡ false → handed_of w i (e ∷ t) ≡ handed_of w i t
+unfolding handed_of
+handed_kept w i e t h = rw h refl
+
+handed_more : (w : World) (i : ℕ) (e : Event) (t : List Event) → is_step i e ≡ true → is_receive w (steps i t) ≡ true → handed_of w i (e ∷ t) ≡ handed_of w i t ++ buffer_of w i t ∷ []
+unfolding handed_of
+handed_more w i e t h k = rw (h, k) refl
+
+told_step : (w : World) (k : ℕ) (t : List Event) → told_of w (Step k ∷ t) ≡ told_of w t
+unfolding told_of
+told_step w k t = append-nil (told_of w t)
+
+told_more : (w : World) (n : Name) (t : List Event) → told_of w (Release n ∷ t) ≡ told_of w t ++ record { name = n; moved = is_flying (mark_of w t n.from n.to (n.round - 1)) } ∷ []
+unfolding told_of
+told_more w n t = refl
+
+step_at : (w : World) (t : List Event) (k i : ℕ) → is_receive w (steps k t) ≡ false → (i ≡ k) ⊎ (i ≡ k → ⊥) → handed_of w i (Step k ∷ t) ≡ handed_of w i t
+step_at w t k i h (inl same) = handed_kept w i (Step k) t (and_right _ _ (ap (λ z. is_receive w (steps z t)) same ∙ h))
+step_at w t k i h (inr apart) = handed_kept w i (Step k) t (and_left _ _ (ne_eqb k i (λ e. apart (sym e))))
+
+pub accounts_step : (w : World) (t : List Event) (handed : List (List (List Name))) (told : List Told) (k : ℕ) → is_receive w (steps k t) ≡ false → Accounts w t handed told → Accounts w (Step k ∷ t) handed told
+accounts_step w t handed told k h a = record {
+    sized = a.sized;
+    handed = λ i b. a.handed i b ∙ sym (step_at w t k i h (cases_eq i k));
+    told = a.told ∙ sym (told_step w k t);
+  }
+
+receive_at : (w : World) (t : List Event) (handed : List (List (List Name))) (k i : ℕ) (b : List Name) → k < length handed → is_receive w (steps k t) ≡ true → b ≡ buffer_of w k t → get_or handed k [] ≡ handed_of w k t → get_or handed i [] ≡ handed_of w i t → (i ≡ k) ⊎ (i ≡ k → ⊥) → get_or (set handed k (get_or handed k [] ++ b ∷ [])) i [] ≡ handed_of w i (Step k ∷ t)
+receive_at w t handed k i b l h x own e (inl same) =
+    rw same (get_or-set_same handed k (get_or handed k [] ++ b ∷ []) [] l ∙ ap (λ z. z ++ b ∷ []) own ∙ ap (λ z. handed_of w k t ++ z ∷ []) x ∙ sym (handed_more w k (Step k) t (eq-eqb k k refl) h))
+receive_at w t handed k i b l h x own e (inr apart) =
+    let ne : i ≢ k = apart in
+    rw get_or-set_other (e ∙ sym (handed_kept w i (Step k) t (and_left _ _ (ne_eqb k i (λ f. apart (sym f))))))
+
+pub accounts_receive : (w : World) (t : List Event) (handed : List (List (List Name))) (told : List Told) (k : ℕ) (b : List Name) → k < nodes_of w → is_receive w (steps k t) ≡ true → b ≡ buffer_of w k t → Accounts w t handed told → Accounts w (Step k ∷ t) (set handed k (get_or handed k [] ++ b ∷ [])) told
+accounts_receive w t handed told k b l h x a = record {
+    sized = length-set handed k _ ∙ a.sized;
+    handed = λ i z. receive_at w t handed k i b (let n = a.sized in omega arith) h x (a.handed k l) (a.handed i z) (cases_eq i k);
+    told = a.told ∙ sym (told_step w k t);
+  }
+
+pub accounts_release : (w : World) (t : List Event) (handed : List (List (List Name))) (told next : List Told) (n : Name) (b : Bool) → b ≡ is_flying (mark_of w t n.from n.to (n.round - 1)) → next ≡ told ++ record { name = n; moved = b } ∷ [] → Accounts w t handed told → Accounts w (Release n ∷ t) handed next
+accounts_release w t handed told next n b h e a = record {
+    sized = a.sized;
+    handed = λ i z. a.handed i z ∙ sym (handed_kept w i (Release n) t refl);
+    told = e ∙ ap (λ z. z ++ record { name = n; moved = b } ∷ []) a.told ∙ ap (λ z. told_of w t ++ record { name = n; moved = z } ∷ []) h ∙ sym (told_more w n t);
+  }

@@ -1,0 +1,17 @@
+pub mod Plans
+pub mod Places
+pub mod Carried
+pub mod Kept
+pub mod WaitsKept
+pub mod AccountsKept
+pub mod Buffers
+pub mod Keeps
+pub mod Heard
+pub mod Reading
+pub mod Tables
+pub mod Events
+pub mod Leaves
+pub mod Closing
+pub mod Starts
+pub mod Vectors
+pub mod Stocks

@@ -1,0 +1,104 @@
+use Rattle.std.proofs.Common.{◌≡◌, ◌≤◌, ◌+◌, ◌-◌, ◌*◌, ◌<◌, [], ◌∷◌, ◌++◌, get_or, set, length, arith, sym, subst, ap, ◌∙◌, refl, true, false}
+use Rattle.step_machine.specs.declared.event.Event.TheVariants.{Release}
+use Rattle.step_journal.specs.declared.mark.Mark.TheVariants.{Released}
+use Rattle.step_journal.specs.Agreement.{Puts}
+use Rattle.step_journal.specs.Log.{Log, IsFlying, SameMarksBut, SameWaitingBut, mark_in, waiting_in}
+use Rattle.step_journal.proofs.Events.{kept, moved, let_be, to_fields}
+use Rattle.step_journal.proofs.Leaves.{released_mark, released_others, released_waiting, released_waiting_others}
+use Rattle.step_journal.proofs.Reading.{of_view, nodes_view, trace_view, log_view, flying_in, waiting_len, names_len}
+use Rattle.step_journal.proofs.Tables.{puts_set}
+use Rattle.step_journal.proofs.Vectors.{names_push, names_same}
+use Rattle.step_journal.proofs.book.Book.release.Goals as goal
+
+pub index_mut-requires : goal.index_mut-requires
+index_mut-requires g c =
+    let n = waiting_len (of_view g.P.Plan.start g.P.Plan.nodes c.self.view_is c.self.invariant) in
+    let m = names_len c.self.inside.waiting.items in
+    omega (arith, c.requires.to)
+
+pub invariant_of-self : goal.invariant_of-self
+invariant_of-self g c =
+    let s = c.self.inside in
+    let a = waiting_len (of_view g.P.Plan.start g.P.Plan.nodes c.self.view_is c.self.invariant) in
+    let b = names_len s.waiting.items in
+    kept c.self.invariant _ _ _ _ _ _ c.in_err-note_release.ensures.trace_kept refl (λ q. refl)
+        (names_same s.waiting.items c.args.name.to c.index_mut.result.now c.note_release.new.waiting (omega (arith, c.requires.to)) c.index_mut.ensures.value c.in_err-note_release.ensures.waiting_kept)
+        refl c.in_err-note_release.ensures.told_kept
+
+pub index_mut-requires-then-is_flying : goal.index_mut-requires-then-is_flying
+index_mut-requires-then-is_flying g c =
+    let low = flying_in (of_view g.P.Plan.start g.P.Plan.nodes c.self.view_is c.self.invariant) c.args.name c.place-place.result c.requires (c.is_flying.ensures.0 cc) c.place-place.ensures in
+    omega arith
+
+pub invariant_of-self-then-is_flying : goal.invariant_of-self-then-is_flying
+invariant_of-self-then-is_flying g c =
+    let s = c.self.inside in
+    let v = c.args.self.now in
+    let n = c.args.name in
+    let h = (of_view g.P.Plan.start g.P.Plan.nodes c.self.view_is c.self.invariant) in
+    let a = waiting_len h in
+    let b = names_len s.waiting.items in
+    let fly : IsFlying (g.P.Plan.start v.plan) v.log n = c.is_flying.ensures.0 cc in
+    to_fields g.P.Plan.start g.P.Plan.nodes c.self.view_is
+        (moved h n _ _ c.place-place.result _ _ c.requires fly c.place-place.ensures
+            (trace_view (Release n) _ c.self.view_is c.in_ok-note_release.ensures.trace)
+            (subst (λ x. Puts s.marks.items (set s.marks.items c.place-place.result (Released c.count_of-count.result)) c.place-place.result (Released x)) c.count_of-count.ensures
+                (puts_set s.marks.items s.marks.items c.place-place.result (Released c.count_of-count.result) (flying_in h n c.place-place.result c.requires fly c.place-place.ensures) (λ q. refl)))
+            (names_push s.waiting.items n.to c.index_mut.result.now c.note_release.new.waiting n (omega (arith, c.requires.to)) c.index_mut.ensures.value c.in_ok-note_release.ensures.waiting)
+            c.in_ok-note_release.ensures.told)
+
+pub returns-then-is_flying-clause-released : goal.returns-then-is_flying-clause-released
+returns-then-is_flying-clause-released g c =
+    let v = c.args.self.now in
+    let n = c.args.name in
+    ap (λ (z : Log). mark_in (g.P.Plan.start v.plan) z n) (log_view (Release n) _ c.self.view_is c.in_ok-note_release.ensures.trace) ∙ released_mark (of_view g.P.Plan.start g.P.Plan.nodes c.self.view_is c.self.invariant) n c.requires
+
+pub returns-then-is_flying-clause-marks : goal.returns-then-is_flying-clause-marks
+returns-then-is_flying-clause-marks g c =
+    let v = c.args.self.now in
+    let n = c.args.name in
+    subst (λ (z : Log). SameMarksBut (g.P.Plan.start v.plan) n v.log z) (sym (log_view (Release n) _ c.self.view_is c.in_ok-note_release.ensures.trace)) (released_others (of_view g.P.Plan.start g.P.Plan.nodes c.self.view_is c.self.invariant) n c.requires)
+
+pub returns-then-is_flying-clause-arrived : goal.returns-then-is_flying-clause-arrived
+returns-then-is_flying-clause-arrived g c =
+    let v = c.args.self.now in
+    let n = c.args.name in
+    ap (λ (z : Log). waiting_in (g.P.Plan.start v.plan) z n.to) (log_view (Release n) _ c.self.view_is c.in_ok-note_release.ensures.trace) ∙ released_waiting (of_view g.P.Plan.start g.P.Plan.nodes c.self.view_is c.self.invariant) n
+
+pub returns-then-is_flying-clause-waiting : goal.returns-then-is_flying-clause-waiting
+returns-then-is_flying-clause-waiting g c =
+    let v = c.args.self.now in
+    let n = c.args.name in
+    subst (λ (z : Log). SameWaitingBut (g.P.Plan.start v.plan) n.to v.log z) (sym (log_view (Release n) _ c.self.view_is c.in_ok-note_release.ensures.trace)) (released_waiting_others (of_view g.P.Plan.start g.P.Plan.nodes c.self.view_is c.self.invariant) n)
+
+pub returns-clause-released : goal.returns-clause-released
+returns-clause-released g c =
+    let v = c.args.self.now in
+    let n = c.args.name in
+    ap (λ (z : Log). mark_in (g.P.Plan.start v.plan) z n) (log_view (Release n) _ c.self.view_is c.in_ok-note_idle_release.ensures.trace) ∙ released_mark (of_view g.P.Plan.start g.P.Plan.nodes c.self.view_is c.self.invariant) n c.requires
+
+pub returns-clause-marks : goal.returns-clause-marks
+returns-clause-marks g c =
+    let v = c.args.self.now in
+    let n = c.args.name in
+    subst (λ (z : Log). SameMarksBut (g.P.Plan.start v.plan) n v.log z) (sym (log_view (Release n) _ c.self.view_is c.in_ok-note_idle_release.ensures.trace)) (released_others (of_view g.P.Plan.start g.P.Plan.nodes c.self.view_is c.self.invariant) n c.requires)
+
+pub returns-clause-arrived : goal.returns-clause-arrived
+returns-clause-arrived g c =
+    let v = c.args.self.now in
+    let n = c.args.name in
+    ap (λ (z : Log). waiting_in (g.P.Plan.start v.plan) z n.to) (log_view (Release n) _ c.self.view_is c.in_ok-note_idle_release.ensures.trace) ∙ released_waiting (of_view g.P.Plan.start g.P.Plan.nodes c.self.view_is c.self.invariant) n
+
+pub returns-clause-waiting : goal.returns-clause-waiting
+returns-clause-waiting g c =
+    let v = c.args.self.now in
+    let n = c.args.name in
+    subst (λ (z : Log). SameWaitingBut (g.P.Plan.start v.plan) n.to v.log z) (sym (log_view (Release n) _ c.self.view_is c.in_ok-note_idle_release.ensures.trace)) (released_waiting_others (of_view g.P.Plan.start g.P.Plan.nodes c.self.view_is c.self.invariant) n)
+
+pub invariant_of-self-2 : goal.invariant_of-self-2
+invariant_of-self-2 g c =
+    let v = c.args.self.now in
+    let n = c.args.name in
+    to_fields g.P.Plan.start g.P.Plan.nodes c.self.view_is
+        (let_be (of_view g.P.Plan.start g.P.Plan.nodes c.self.view_is c.self.invariant) n _ _ c.requires (λ fly. (let on = c.is_flying.ensures.1 fly in cc))
+            (trace_view (Release n) _ c.self.view_is c.in_ok-note_idle_release.ensures.trace) c.in_ok-note_idle_release.ensures.told)

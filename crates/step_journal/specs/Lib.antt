@@ -1,0 +1,13 @@
+pub use Rattle.round_meaning.specs.Rounds
+pub use Rattle.round_meaning.specs.Setups
+pub use Rattle.step_machine.specs.Frames
+pub use Rattle.step_machine.specs.Nodes
+pub use Rattle.slot_plans.specs.Plan
+pub mod World
+pub mod Trace
+pub mod History
+pub mod Agreement
+pub mod Work
+pub mod Log
+pub mod Causes
+pub mod Stock

@@ -1,0 +1,458 @@
+//! What a run has recorded, by the names of its messages.
+ghost use Rattle.std.specs.Prelude.{◌≡◌, ◌+◌, ◌-◌, ◌*◌, ◌^◌, ◌<◌, ◌≤◌, ◌++◌, ◌↔◌, [], IfErr, IfOk, IsTrue, MatchOption, OnErr, OnOk, length, option_map};
+ghost use Rattle.round_meaning.specs.Rounds.{algorithm_of};
+ghost use Rattle.round_meaning.specs.Setups.{IsLawful};
+ghost use Rattle.step_machine.specs.Frames.{IsPrepared};
+ghost use Rattle.step_journal.specs.Agreement.{IsBuffer, row};
+ghost use Rattle.step_journal.specs.Causes.{CloseCause, IdleCause, IsDueIn, IsKnown, IsReceiveFit, IsSendFit, ReceiveCause, SendCause};
+ghost use Rattle.step_journal.specs.History.{arrival, handed_of, let_go, spoken, told_of};
+ghost use Rattle.step_journal.specs.Log.{IsDue, IsFaithful, IsFlying, IsName, IsReceive, SameMarks, SameMarksBut, SameWaiting, SameWaitingBut, closed, count_of, happened, history, mark_in, names_of, opened, round_of, state_before, states_of, waiting_in, world_of};
+ghost use Rattle.step_journal.specs.Work.{AreCarried, heard_from, tag_of};
+
+use crate::fault::{CloseFault, IdleFault, ReceiveFault, SendFault};
+use crate::mark::{Mark, Told};
+use crate::notes::{
+    note_close, note_idle_release, note_receive, note_release, note_send, note_step,
+};
+use crate::opening::{first_rows, no_lists, no_names, no_steps};
+use crate::tags::{is_tagged, is_within};
+use round_check::Checked;
+use round_lang::{NoMemory, Vars};
+use round_meaning::Setup;
+use slot_plans::Plan;
+use std::alloc::Global;
+use std::marker::Model;
+use std::sync::Arc;
+use step_machine::{Event, Finished, Name, Prepared, Sealed};
+
+/// The record of a run: its events, the steps of each node, the states of its closed rounds, what
+/// became of each message, what each receive handed out, and the releases with their answers.
+#[derive(Drop)]
+pub struct Book<P: Plan> {
+    alloc: Global,
+    program: Checked,
+    setup: Setup,
+    plan: P,
+    trace: Vec<Event>,
+    steps: Vec<u64>,
+    states: Vec<Vec<Arc<Vars>>>,
+    marks: Vec<Mark>,
+    waiting: Vec<Vec<Name>>,
+    handed: Vec<Vec<Vec<Name>>>,
+    told: Vec<Told>,
+}
+
+impl<P: Plan> Model for Book<P> {
+    ghost use Rattle.step_journal.specs.Log.{Recorded, Holds, rows_of, names_of, lists_of};
+
+    ghost use Rattle.round_lang.specs.contracts.formula.Formula as formula;
+    ghost use Rattle.std.specs.Coded.{codes};
+
+    ghost Value = { Recorded P };
+
+    ghost coded = { Prim.hlevel (codes, formula.the_row.coded) };
+
+    ghost view = { λ s. record {
+        plan = s.plan;
+        log = record {
+            program = s.program;
+            setup = s.setup;
+            trace = s.trace.items;
+            rows = rows_of s.states.items;
+        };
+    } };
+
+    ghost invariant = { λ s. Holds (P.start s.plan) (P.nodes s.plan)
+        (record {
+            program = s.program;
+            setup = s.setup;
+            trace = s.trace.items;
+            rows = rows_of s.states.items;
+        })
+        s.steps.items s.marks.items (names_of s.waiting.items) (lists_of s.handed.items) s.told.items };
+}
+
+impl<P: Plan> Book<P> {
+    /// An empty record.
+    pub fn open(
+        alloc: Global,
+        program: &Checked,
+        setup: &Setup,
+        plan: P,
+    ) -> Result<Book<P>, NoMemory>
+        requires lawful { IsLawful program.now.values setup.now }
+        requires nodes { P.nodes plan ≡ setup.now.nodes }
+        ensures { IfOk result (λ book. book ≡ record { plan = plan; log = opened program.now setup.now }) }
+    {
+        let states = first_rows(alloc, program, setup)?;
+        let steps = no_steps(alloc, setup.nodes)?;
+        let waiting = no_names(alloc, setup.nodes)?;
+        let handed = no_lists(alloc, setup.nodes)?;
+        Ok(Book {
+            alloc,
+            program: program.copy()?,
+            setup: setup.copy()?,
+            plan,
+            trace: Vec::new(alloc),
+            steps,
+            states,
+            marks: Vec::new(alloc),
+            waiting,
+            handed,
+            told: Vec::new(alloc),
+        })
+    }
+
+    pub fn program(&self) -> &Checked
+        ensures { result.now ≡ self.now.log.program }
+    {
+        &self.program
+    }
+
+    pub fn setup(&self) -> &Setup
+        ensures { result.now ≡ self.now.log.setup }
+    {
+        &self.setup
+    }
+
+    pub fn plan(&self) -> P
+        ensures { result ≡ self.now.plan }
+    {
+        self.plan
+    }
+
+    pub fn trace(&self) -> &[Event]
+        ensures { result.now ≡ self.now.log.trace }
+    {
+        &self.trace
+    }
+
+    /// What is recorded agrees with the run in rounds.
+    pub fn agrees(&self)
+        ensures { IsFaithful (P.start self.now.plan) self.now.log }
+    {
+        let _trace = &self.trace;
+    }
+
+    /// How many steps a node has taken.
+    pub fn count_of(&self, node: u32) -> u64
+        requires { node < self.now.log.setup.nodes }
+        ensures { result ≡ count_of self.now.log node }
+    {
+        self.steps[node as usize]
+    }
+
+    /// A node's round: the first that isn't closed.
+    pub fn round_of(&self, node: u32) -> u32
+        requires { node < self.now.log.setup.nodes }
+        ensures value { result ≡ round_of self.now.log node }
+        ensures low { 0 < result }
+        ensures high { result ≤ self.now.log.setup.rounds + 1 }
+        ensures small { result ≤ 4097 }
+    {
+        self.states[node as usize].len() as u32
+    }
+
+    /// A node's states after 0, 1, .. closed rounds.
+    pub fn states(&self, node: u32) -> &[Arc<Vars>]
+        requires { node < self.now.log.setup.nodes }
+        ensures { states_of result.now ≡ row self.now.log.rows node }
+    {
+        &self.states[node as usize]
+    }
+
+    /// What became of a message.
+    pub fn mark(&self, name: Name) -> Mark
+        requires { IsName self.now.log.setup name }
+        ensures { result ≡ mark_in (P.start self.now.plan) self.now.log name }
+    {
+        match self.marks.get(self.place(name)) {
+            Some(mark) => *mark,
+            None => Mark::Unsent,
+        }
+    }
+
+    /// Whether a message is in flight.
+    pub fn is_flying(&self, name: Name) -> bool
+        requires { IsName self.now.log.setup name }
+        ensures { IsTrue result ↔ IsFlying (P.start self.now.plan) self.now.log name }
+    {
+        self.mark(name) == Mark::Flying
+    }
+
+    /// The names that wait for a node.
+    pub fn waiting(&self, node: u32) -> &[Name]
+        requires { node < self.now.log.setup.nodes }
+        ensures value { result.now ≡ waiting_in (P.start self.now.plan) self.now.log node }
+        ensures once { IsBuffer (world_of (P.start self.now.plan) self.now.log) (history self.now.log) node result.now }
+    {
+        &self.waiting[node as usize]
+    }
+
+    /// The names that each receive of a node handed out.
+    pub fn handed(&self, node: u32) -> &[Vec<Name>]
+        requires { node < self.now.log.setup.nodes }
+        ensures { names_of result.now ≡ handed_of (world_of (P.start self.now.plan) self.now.log) node (history self.now.log) }
+    {
+        &self.handed[node as usize]
+    }
+
+    /// The releases, each with its answer.
+    pub fn told(&self) -> &[Told]
+        ensures { result.now ≡ told_of (world_of (P.start self.now.plan) self.now.log) (history self.now.log) }
+    {
+        &self.told
+    }
+
+    /// The place of a message in the table of all.
+    fn place(&self, name: Name) -> usize
+        requires { IsName self.now.log.setup name }
+        ensures { result ≡ ((name.round - 1) * self.now.log.setup.nodes + name.from) * self.now.log.setup.nodes + name.to }
+    {
+        let nodes = self.setup.nodes as usize;
+        ((name.round as usize - 1) * nodes + name.from as usize) * nodes + name.to as usize
+    }
+
+    /// The first step of a round.
+    fn start(&self, round: u32) -> u64
+        requires first { 0 < round }
+        requires last { round ≤ self.now.log.setup.rounds + 1 }
+        ensures value { result ≡ P.start self.now.plan round }
+        ensures small { result < 2 ^ 32 }
+    {
+        u64::from(self.plan.start(round))
+    }
+
+    /// Whether a round of the node is due and isn't closed.
+    pub fn is_due(&self, node: u32) -> bool
+        requires { node < self.now.log.setup.nodes }
+        ensures { IsTrue result ↔ IsDue (P.start self.now.plan) self.now.log node }
+    {
+        let round = self.round_of(node);
+        if round > self.setup.rounds {
+            return false;
+        }
+        self.start(round + 1) <= self.count_of(node)
+    }
+
+    /// Whether the next step of a node that isn't due is a receive.
+    fn is_receive(&self, node: u32) -> bool
+        requires node { node < self.now.log.setup.nodes }
+        requires not_due { ¬ IsDue (P.start self.now.plan) self.now.log node }
+        ensures { IsTrue result ↔ IsReceive (P.start self.now.plan) self.now.log node }
+    {
+        let round = self.round_of(node);
+        if round > self.setup.rounds {
+            return false;
+        }
+        self.start(round) + u64::from(self.setup.nodes) <= self.count_of(node)
+    }
+
+    /// Why a send would be refused, where it would be for another cause than memory.
+    pub fn refuses_send(&self, prepared: &Prepared) -> Option<SendFault>
+        requires { IsName self.now.log.setup prepared.now.name }
+        ensures { MatchOption result
+            (IsSendFit (P.start self.now.plan) self.now.log prepared.now)
+            (SendCause (P.start self.now.plan) self.now.log prepared.now) }
+    {
+        let name = prepared.name();
+        if self.is_due(name.from) {
+            return Some(SendFault::NotClosed);
+        }
+        if self.count_of(name.from) != self.start(name.round) + u64::from(name.to) {
+            return Some(SendFault::NotItsSlot);
+        }
+        let row = &self.states[name.from as usize];
+        if !row[name.round as usize - 1].same(prepared.state()) {
+            return Some(SendFault::Stranger);
+        }
+        None
+    }
+
+    /// Records a send that isn't refused, with a message or silence.
+    pub fn record_send(&mut self, prepared: &Prepared) -> Result<(), NoMemory>
+        requires name { IsName self.old.log.setup prepared.now.name }
+        requires work { IsPrepared (algorithm_of self.old.log.program self.old.log.setup) prepared.now }
+        requires fit { IsSendFit (P.start self.old.plan) self.old.log prepared.now }
+        ensures ok { OnOk result (self.new ≡ record self.old { log = happened self.old.log (Event.Step prepared.now.name.from) }) }
+        ensures err { OnErr result (self.new ≡ self.old) }
+        ensures round { OnOk result (round_of self.old.log prepared.now.name.from ≡ prepared.now.name.round) }
+        ensures unsent { OnOk result (mark_in (P.start self.old.plan) self.old.log prepared.now.name ≡ Mark.Unsent) }
+        ensures sent { OnOk result (mark_in (P.start self.old.plan) self.new.log prepared.now.name ≡ spoken prepared.now.message) }
+        ensures marks { OnOk result (SameMarksBut (P.start self.old.plan) prepared.now.name self.old.log self.new.log) }
+        ensures waiting { OnOk result (SameWaiting (P.start self.old.plan) self.old.log self.new.log) }
+    {
+        let name = prepared.name();
+        let place = self.place(name);
+        let mark = spoken(prepared);
+        note_send(
+            &mut self.trace,
+            &mut self.steps,
+            &mut self.marks,
+            name.from,
+            place,
+            mark,
+        )?;
+        Ok(())
+    }
+
+    /// A receive step: what waits for the node is handed out.
+    pub fn receive(&mut self, node: u32) -> Result<(), ReceiveFault>
+        requires { node < self.old.log.setup.nodes }
+        ensures ok { OnOk result (self.new ≡ record self.old { log = happened self.old.log (Event.Step node) }) }
+        ensures err { OnErr result (self.new ≡ self.old) }
+        ensures cause { IfErr result (ReceiveCause (P.start self.old.plan) self.old.log node) }
+        ensures fit { OnOk result (IsReceiveFit (P.start self.old.plan) self.old.log node) }
+        ensures once { OnOk result (IsBuffer (world_of (P.start self.old.plan) self.old.log) (history self.old.log) node (waiting_in (P.start self.old.plan) self.old.log node)) }
+        ensures marks { OnOk result (SameMarks (P.start self.old.plan) self.old.log self.new.log) }
+        ensures taken { OnOk result (waiting_in (P.start self.old.plan) self.new.log node ≡ []) }
+        ensures waiting { OnOk result (SameWaitingBut (P.start self.old.plan) node self.old.log self.new.log) }
+    {
+        if self.is_due(node) {
+            return Err(ReceiveFault::NotClosed);
+        }
+        if !self.is_receive(node) {
+            return Err(ReceiveFault::NotItsSlot);
+        }
+        let alloc = self.alloc;
+        note_receive(
+            alloc,
+            &mut self.trace,
+            &mut self.steps,
+            &mut self.handed[node as usize],
+            &mut self.waiting[node as usize],
+            node,
+        )?;
+        Ok(())
+    }
+
+    /// A release by the network: true where a message went from flight to those that wait.
+    pub fn release(&mut self, name: Name) -> Result<bool, NoMemory>
+        requires { IsName self.old.log.setup name }
+        ensures ok { OnOk result (self.new ≡ record self.old { log = happened self.old.log (Event.Release name) }) }
+        ensures err { OnErr result (self.new ≡ self.old) }
+        ensures moved { IfOk result (λ moved. IsTrue moved ↔ IsFlying (P.start self.old.plan) self.old.log name) }
+        ensures released { OnOk result (mark_in (P.start self.old.plan) self.new.log name
+            ≡ let_go (count_of self.old.log name.to) (mark_in (P.start self.old.plan) self.old.log name)) }
+        ensures marks { OnOk result (SameMarksBut (P.start self.old.plan) name self.old.log self.new.log) }
+        ensures arrived { OnOk result (waiting_in (P.start self.old.plan) self.new.log name.to
+            ≡ waiting_in (P.start self.old.plan) self.old.log name.to ++ arrival name (mark_in (P.start self.old.plan) self.old.log name)) }
+        ensures waiting { OnOk result (SameWaitingBut (P.start self.old.plan) name.to self.old.log self.new.log) }
+    {
+        let place = self.place(name);
+        let count = self.count_of(name.to);
+        if self.is_flying(name) {
+            note_release(
+                &mut self.trace,
+                &mut self.told,
+                &mut self.waiting[name.to as usize],
+                name,
+            )?;
+            self.marks[place] = Mark::Released(count);
+            return Ok(true);
+        }
+        note_idle_release(&mut self.trace, &mut self.told, name)?;
+        Ok(false)
+    }
+
+    /// Closes the due round that a node of the run finished.
+    pub fn close(&mut self, finished: &Finished<'_>) -> Result<(), CloseFault>
+        requires program { finished.now.node.now.program ≡ self.old.log.program }
+        requires setup { finished.now.node.now.setup ≡ self.old.log.setup }
+        ensures ok { OnOk result (self.new ≡ record self.old { log = closed self.old.log finished.now.node.now }) }
+        ensures err { OnErr result (self.new ≡ self.old) }
+        ensures cause { IfErr result (CloseCause (P.start self.old.plan) self.old.log finished.now.node.now) }
+        ensures fit { OnOk result (IsDueIn (P.start self.old.plan) self.old.log finished.now.node.now
+            × IsKnown (P.start self.old.plan) self.old.log finished.now.node.now) }
+    {
+        let node = finished.node();
+        let round = self.round_of(node);
+        if !self.is_due(node) || finished.round() != round {
+            return Err(CloseFault::NotDue);
+        }
+        if !self.is_known(node, finished.old(), finished.frames()) {
+            return Err(CloseFault::Stranger);
+        }
+        note_close(&mut self.states[node as usize], finished)?;
+        Ok(())
+    }
+
+    /// A step after the last round.
+    pub fn idle_step(&mut self, node: u32) -> Result<(), IdleFault>
+        requires { node < self.old.log.setup.nodes }
+        ensures ok { OnOk result (self.new ≡ record self.old { log = happened self.old.log (Event.Step node) }) }
+        ensures err { OnErr result (self.new ≡ self.old) }
+        ensures cause { IfErr result (IdleCause self.old.log node) }
+        ensures fit { OnOk result (self.old.log.setup.rounds < round_of self.old.log node) }
+        ensures marks { OnOk result (SameMarks (P.start self.old.plan) self.old.log self.new.log) }
+        ensures waiting { OnOk result (SameWaiting (P.start self.old.plan) self.old.log self.new.log) }
+    {
+        if self.round_of(node) <= self.setup.rounds {
+            return Err(IdleFault::NotPast);
+        }
+        note_step(&mut self.trace, &mut self.steps, node)?;
+        Ok(())
+    }
+
+    /// Whether the state is the one before the node's due round, and the frames, by sender, are those
+    /// that were carried to it.
+    fn is_known(&self, node: u32, old: &Vars, frames: &[Option<Sealed>]) -> bool
+        requires node { node < self.now.log.setup.nodes }
+        requires due { IsDue (P.start self.now.plan) self.now.log node }
+        requires sized { length frames.now ≡ self.now.log.setup.nodes }
+        ensures { IsTrue result ↔ (state_before self.now.log node (round_of self.now.log node) ≡ old.now)
+            × AreCarried (world_of (P.start self.now.plan) self.now.log) (history self.now.log) node (round_of self.now.log node - 1) frames.now }
+    {
+        let round = self.round_of(node);
+        let row = &self.states[node as usize];
+        if !row[round as usize - 1].same(old) {
+            return false;
+        }
+        self.are_carried(node, frames)
+    }
+
+    fn are_carried(&self, node: u32, frames: &[Option<Sealed>]) -> bool
+        requires node { node < self.now.log.setup.nodes }
+        requires due { IsDue (P.start self.now.plan) self.now.log node }
+        requires sized { length frames.now ≡ self.now.log.setup.nodes }
+        ensures { IsTrue result ↔ AreCarried (world_of (P.start self.now.plan) self.now.log) (history self.now.log) node (round_of self.now.log node - 1) frames.now }
+    {
+        for from in 0..self.setup.nodes {
+            if !self.is_carried(node, from, &frames[from as usize]) {
+                return false;
+            }
+        }
+        true
+    }
+
+    fn is_carried(&self, node: u32, from: u32, frame: &Option<Sealed>) -> bool
+        requires node { node < self.now.log.setup.nodes }
+        requires from { from < self.now.log.setup.nodes }
+        requires due { IsDue (P.start self.now.plan) self.now.log node }
+        ensures { IsTrue result ↔ (option_map tag_of frame.now
+            ≡ heard_from (world_of (P.start self.now.plan) self.now.log) (history self.now.log) node (round_of self.now.log node - 1) from) }
+    {
+        let round = self.round_of(node);
+        let row = &self.states[from as usize];
+        let name = Name {
+            from,
+            to: node,
+            round,
+        };
+        if !is_within(self.mark(name), self.start(round), self.start(round + 1)) {
+            return frame.is_none();
+        }
+        is_tagged(frame, name, &row[round as usize - 1])
+    }
+}
+
+/// The mark of what is sent.
+fn spoken(prepared: &Prepared) -> Mark
+    ensures { result ≡ spoken prepared.now.message }
+{
+    if prepared.is_silent() {
+        Mark::Silent
+    } else {
+        Mark::Flying
+    }
+}

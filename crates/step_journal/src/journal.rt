@@ -1,0 +1,192 @@
+//! The record of a run with the frames that it names.
+ghost use Rattle.std.specs.Prelude.{◌≡◌, ◌+◌, ◌-◌, ◌*◌, ◌<◌, ◌↔◌, All, IfErr, IfOk, IsTrue, OnErr, OnOk};
+ghost use Rattle.round_meaning.specs.Rounds.{algorithm_of};
+ghost use Rattle.round_meaning.specs.Setups.{IsLawful};
+ghost use Rattle.step_machine.specs.Frames.{IsPrepared};
+ghost use Rattle.step_journal.specs.Agreement.{IsBuffer};
+ghost use Rattle.step_journal.specs.Causes.{CloseCause, IdleCause, IsDueIn, IsKnown, IsReceiveFit, IsSendFit, ReceiveCause, SendCause};
+ghost use Rattle.step_journal.specs.Log.{IsFlying, IsName, closed, happened, history, opened, round_of, waiting_in, world_of};
+ghost use Rattle.step_journal.specs.Stock.{AreEmpty, IsGenuine, names_in, place_among};
+
+use crate::book::Book;
+use crate::buffer::Buffer;
+use crate::fault::{CloseFault, IdleFault, ReceiveFault, Refused, SendFault};
+use round_check::Checked;
+use round_lang::NoMemory;
+use round_meaning::Setup;
+use slot_plans::Plan;
+use std::alloc::Global;
+use std::marker::Model;
+use step_machine::{Event, Finished, Name, Prepared, Sealed};
+
+/// What a receive handed out, in the order of the releases.
+#[derive(Drop)]
+pub struct Took {
+    pub frames: Vec<Sealed>,
+}
+
+/// A run in single steps: its record, and one buffer of frames for each node.
+#[derive(Drop)]
+pub struct Journal<P: Plan> {
+    book: Book<P>,
+    buffers: Vec<Buffer>,
+}
+
+impl<P: Plan> Model for Journal<P> {
+    ghost use Rattle.round_lang.specs.contracts.formula.Formula as formula;
+    ghost use Rattle.std.specs.Coded.{codes};
+    ghost use Rattle.step_journal.specs.Log.{Recorded};
+
+    ghost Value = { Recorded P };
+
+    ghost coded = { Prim.hlevel (codes, formula.the_row.coded) };
+
+    ghost use Rattle.step_journal.specs.Stock.{Fits};
+
+    ghost view = { λ s. s.book };
+
+    ghost invariant = { λ s. Fits (P.start s.book.plan) s.book.log s.buffers.items };
+}
+
+/// As many empty buffers.
+fn no_buffers(alloc: Global, count: u32) -> Result<Vec<Buffer>, NoMemory>
+    ensures { IfOk result (λ buffers. AreEmpty count buffers.items) }
+{
+    let mut buffers = Vec::new(alloc);
+    for _node in 0..count {
+        buffers.push(Buffer::new(alloc))?;
+    }
+    Ok(buffers)
+}
+
+impl<P: Plan> Journal<P> {
+    /// A journal with an empty trace.
+    pub fn open(
+        alloc: Global,
+        program: &Checked,
+        setup: &Setup,
+        plan: P,
+    ) -> Result<Journal<P>, NoMemory>
+        requires lawful { IsLawful program.now.values setup.now }
+        requires nodes { P.nodes plan ≡ setup.now.nodes }
+        ensures { IfOk result (λ journal. journal ≡ record { plan = plan; log = opened program.now setup.now }) }
+    {
+        let buffers = no_buffers(alloc, setup.nodes)?;
+        let book = Book::open(alloc, program, setup, plan)?;
+        Ok(Journal { book, buffers })
+    }
+
+    /// What is recorded.
+    pub fn book(&self) -> &Book<P>
+        ensures { result.now ≡ self.now }
+    {
+        &self.book
+    }
+
+    /// The place of a message among those to its receiver.
+    fn place(&self, name: Name) -> usize
+        requires { IsName self.now.log.setup name }
+        ensures { result ≡ place_among self.now.log.setup.nodes name }
+    {
+        let nodes = self.book.setup().nodes as usize;
+        (name.round as usize - 1) * nodes + name.from as usize
+    }
+
+    /// A send step: the message is in flight, or there was silence.
+    pub fn send(&mut self, prepared: Prepared) -> Result<(), Refused>
+        requires name { IsName self.old.log.setup prepared.name }
+        requires work { IsPrepared (algorithm_of self.old.log.program self.old.log.setup) prepared }
+        ensures ok { OnOk result (self.new ≡ record self.old { log = happened self.old.log (Event.Step prepared.name.from) }) }
+        ensures err { OnErr result (self.new ≡ self.old) }
+        ensures cause { IfErr result (λ refused. SendCause (P.start self.old.plan) self.old.log prepared refused.fault) }
+        ensures back { IfErr result (λ refused. refused.prepared ≡ prepared) }
+        ensures fit { OnOk result (IsSendFit (P.start self.old.plan) self.old.log prepared) }
+    {
+        if let Some(fault) = self.book.refuses_send(&prepared) {
+            return Err(Refused { fault, prepared });
+        }
+        let name = prepared.name();
+        let place = self.place(name);
+        let buffer = &mut self.buffers[name.to as usize];
+        match buffer.reserve_flying(place) {
+            Ok(()) => {}
+            Err(_) => return Err(Refused::memory(prepared)),
+        }
+        match self.book.record_send(&prepared) {
+            Ok(()) => {}
+            Err(_) => return Err(Refused::memory(prepared)),
+        }
+        match prepared.into_sealed() {
+            Some(frame) => {
+                let buffer = &mut self.buffers[name.to as usize];
+                buffer.put(place, frame);
+                Ok(())
+            }
+            None => Ok(()),
+        }
+    }
+
+    /// A receive step: every frame that was released to the node and not yet taken.
+    pub fn receive(&mut self, node: u32) -> Result<Took, ReceiveFault>
+        requires { node < self.old.log.setup.nodes }
+        ensures ok { OnOk result (self.new ≡ record self.old { log = happened self.old.log (Event.Step node) }) }
+        ensures err { OnErr result (self.new ≡ self.old) }
+        ensures cause { IfErr result (ReceiveCause (P.start self.old.plan) self.old.log node) }
+        ensures fit { OnOk result (IsReceiveFit (P.start self.old.plan) self.old.log node) }
+        ensures names { IfOk result (λ took. names_in took.frames.items ≡ waiting_in (P.start self.old.plan) self.old.log node) }
+        ensures once { IfOk result (λ took. IsBuffer (world_of (P.start self.old.plan) self.old.log) (history self.old.log) node (names_in took.frames.items)) }
+        ensures genuine { IfOk result (λ took. All (IsGenuine (algorithm_of self.old.log.program self.old.log.setup) self.old.log.rows) took.frames.items) }
+    {
+        self.book.receive(node)?;
+        let buffer = &mut self.buffers[node as usize];
+        let frames = buffer.take();
+        Ok(Took { frames })
+    }
+
+    /// A release: true where a frame went from flight to its buffer.
+    pub fn release(&mut self, name: Name) -> Result<bool, NoMemory>
+        requires { IsName self.old.log.setup name }
+        ensures ok { OnOk result (self.new ≡ record self.old { log = happened self.old.log (Event.Release name) }) }
+        ensures err { OnErr result (self.new ≡ self.old) }
+        ensures moved { IfOk result (λ moved. IsTrue moved ↔ IsFlying (P.start self.old.plan) self.old.log name) }
+    {
+        let place = self.place(name);
+        let buffer = &mut self.buffers[name.to as usize];
+        buffer.reserve_waiting()?;
+        let moved = self.book.release(name)?;
+        if moved {
+            let buffer = &mut self.buffers[name.to as usize];
+            buffer.let_go(place);
+            return Ok(true);
+        }
+        Ok(false)
+    }
+
+    /// Closes the due round that a node of the run finished.
+    pub fn close(&mut self, finished: &Finished<'_>) -> Result<(), CloseFault>
+        requires program { finished.now.node.now.program ≡ self.old.log.program }
+        requires setup { finished.now.node.now.setup ≡ self.old.log.setup }
+        ensures ok { OnOk result (self.new ≡ record self.old { log = closed self.old.log finished.now.node.now }) }
+        ensures err { OnErr result (self.new ≡ self.old) }
+        ensures cause { IfErr result (CloseCause (P.start self.old.plan) self.old.log finished.now.node.now) }
+        ensures fit { OnOk result (IsDueIn (P.start self.old.plan) self.old.log finished.now.node.now
+            × IsKnown (P.start self.old.plan) self.old.log finished.now.node.now) }
+    {
+        self.book.agrees();
+        let _one = finished.node();
+        self.book.close(finished)?;
+        Ok(())
+    }
+
+    /// A step after the last round.
+    pub fn idle_step(&mut self, node: u32) -> Result<(), IdleFault>
+        requires { node < self.old.log.setup.nodes }
+        ensures ok { OnOk result (self.new ≡ record self.old { log = happened self.old.log (Event.Step node) }) }
+        ensures err { OnErr result (self.new ≡ self.old) }
+        ensures cause { IfErr result (IdleCause self.old.log node) }
+        ensures fit { OnOk result (self.old.log.setup.rounds < round_of self.old.log node) }
+    {
+        self.book.idle_step(node)?;
+        Ok(())
+    }
+}

@@ -1,0 +1,152 @@
+//! What an event adds to a record, field by field. All growth goes before any change, so an error
+//! leaves each field as it was.
+ghost use Rattle.std.specs.Prelude.{◌≡◌, ◌+◌, ◌<◌, ◌≤◌, [], ◌∷◌, ◌++◌, OnOk, OnErr, false, slice_index, slice_set, true, vec_len};
+ghost use Rattle.step_journal.specs.Agreement.{Puts, SameTable};
+ghost use Rattle.step_journal.specs.Log.{ended, names_of, states_of};
+
+use crate::mark::{Mark, Told};
+use round_lang::{NoMemory, Vars};
+use std::alloc::Global;
+use std::mem;
+use std::sync::Arc;
+use step_machine::{Event, Finished, Name};
+
+/// A step of a node.
+pub(crate) fn note_step(
+    trace: &mut Vec<Event>,
+    steps: &mut Vec<u64>,
+    node: u32,
+) -> Result<(), NoMemory>
+    requires node_in { node < vec_len steps.old }
+    requires counted { slice_index steps.old.items node ≤ vec_len trace.old }
+    ensures trace { OnOk result (trace.new.items ≡ trace.old.items ++ Event.Step node ∷ []) }
+    ensures steps { OnOk result (steps.new.items ≡ slice_set steps.old.items node (slice_index steps.old.items node + 1)) }
+    ensures trace_kept { OnErr result (trace.new.items ≡ trace.old.items) }
+    ensures steps_kept { OnErr result (steps.new.items ≡ steps.old.items) }
+{
+    trace.push(Event::Step(node))?;
+    steps[node as usize] += 1;
+    Ok(())
+}
+
+/// Makes the table longer than a place.
+fn grow(marks: &mut Vec<Mark>, place: usize) -> Result<(), NoMemory>
+    ensures long { OnOk result (place < vec_len marks.new) }
+    ensures same { SameTable marks.old.items marks.new.items }
+{
+    while marks.len() <= place {
+        marks.push(Mark::Unsent)?;
+    }
+    Ok(())
+}
+
+/// A send step, with the mark of its message.
+pub(crate) fn note_send(
+    trace: &mut Vec<Event>,
+    steps: &mut Vec<u64>,
+    marks: &mut Vec<Mark>,
+    node: u32,
+    place: usize,
+    mark: Mark,
+) -> Result<(), NoMemory>
+    requires node_in { node < vec_len steps.old }
+    requires counted { slice_index steps.old.items node ≤ vec_len trace.old }
+    ensures trace { OnOk result (trace.new.items ≡ trace.old.items ++ Event.Step node ∷ []) }
+    ensures steps { OnOk result (steps.new.items ≡ slice_set steps.old.items node (slice_index steps.old.items node + 1)) }
+    ensures marks { OnOk result (Puts marks.old.items marks.new.items place mark) }
+    ensures trace_kept { OnErr result (trace.new.items ≡ trace.old.items) }
+    ensures steps_kept { OnErr result (steps.new.items ≡ steps.old.items) }
+    ensures marks_kept { OnErr result (SameTable marks.old.items marks.new.items) }
+{
+    grow(marks, place)?;
+    note_step(trace, steps, node)?;
+    marks[place] = mark;
+    Ok(())
+}
+
+/// A receive: what waits is handed out.
+pub(crate) fn note_receive(
+    alloc: Global,
+    trace: &mut Vec<Event>,
+    steps: &mut Vec<u64>,
+    handed: &mut Vec<Vec<Name>>,
+    waiting: &mut Vec<Name>,
+    node: u32,
+) -> Result<(), NoMemory>
+    requires node_in { node < vec_len steps.old }
+    requires counted { slice_index steps.old.items node ≤ vec_len trace.old }
+    ensures trace { OnOk result (trace.new.items ≡ trace.old.items ++ Event.Step node ∷ []) }
+    ensures steps { OnOk result (steps.new.items ≡ slice_set steps.old.items node (slice_index steps.old.items node + 1)) }
+    ensures handed { OnOk result (names_of handed.new.items ≡ names_of handed.old.items ++ waiting.old.items ∷ []) }
+    ensures waiting { OnOk result (waiting.new.items ≡ []) }
+    ensures trace_kept { OnErr result (trace.new.items ≡ trace.old.items) }
+    ensures steps_kept { OnErr result (steps.new.items ≡ steps.old.items) }
+    ensures handed_kept { OnErr result (handed.new.items ≡ handed.old.items) }
+    ensures waiting_kept { OnErr result (waiting.new.items ≡ waiting.old.items) }
+{
+    handed.reserve(1)?;
+    note_step(trace, steps, node)?;
+    handed.push_reserved(take_all(alloc, waiting));
+    Ok(())
+}
+
+/// Takes what waits.
+fn take_all(alloc: Global, waiting: &mut Vec<Name>) -> Vec<Name>
+    ensures all { result.items ≡ waiting.old.items }
+    ensures none { waiting.new.items ≡ [] }
+{
+    mem::replace(waiting, Vec::new(alloc))
+}
+
+/// A release of a message to those that wait.
+pub(crate) fn note_release(
+    trace: &mut Vec<Event>,
+    told: &mut Vec<Told>,
+    waiting: &mut Vec<Name>,
+    name: Name,
+) -> Result<(), NoMemory>
+    ensures trace { OnOk result (trace.new.items ≡ trace.old.items ++ Event.Release name ∷ []) }
+    ensures told { OnOk result (told.new.items ≡ told.old.items ++ record { name = name; moved = true } ∷ []) }
+    ensures waiting { OnOk result (waiting.new.items ≡ waiting.old.items ++ name ∷ []) }
+    ensures trace_kept { OnErr result (trace.new.items ≡ trace.old.items) }
+    ensures told_kept { OnErr result (told.new.items ≡ told.old.items) }
+    ensures waiting_kept { OnErr result (waiting.new.items ≡ waiting.old.items) }
+{
+    trace.reserve(1)?;
+    told.reserve(1)?;
+    waiting.push(name)?;
+    told.push_reserved(Told { name, moved: true });
+    trace.push_reserved(Event::Release(name));
+    Ok(())
+}
+
+/// A release that moves nothing.
+pub(crate) fn note_idle_release(
+    trace: &mut Vec<Event>,
+    told: &mut Vec<Told>,
+    name: Name,
+) -> Result<(), NoMemory>
+    ensures trace { OnOk result (trace.new.items ≡ trace.old.items ++ Event.Release name ∷ []) }
+    ensures told { OnOk result (told.new.items ≡ told.old.items ++ record { name = name; moved = false } ∷ []) }
+    ensures trace_kept { OnErr result (trace.new.items ≡ trace.old.items) }
+    ensures told_kept { OnErr result (told.new.items ≡ told.old.items) }
+{
+    trace.reserve(1)?;
+    told.push(Told { name, moved: false })?;
+    trace.push_reserved(Event::Release(name));
+    Ok(())
+}
+
+/// The state that a node ended its round with goes to its row.
+pub(crate) fn note_close(
+    states: &mut Vec<Arc<Vars>>,
+    finished: &Finished<'_>,
+) -> Result<(), NoMemory>
+    ensures ok { OnOk result (states_of states.new.items ≡ states_of states.old.items ++ ended finished.now.node.now ∷ []) }
+    ensures err { OnErr result (states.new.items ≡ states.old.items) }
+{
+    states.reserve(1)?;
+    let state = finished.new_state()?;
+    states.push_reserved(state);
+    Ok(())
+}

@@ -1,0 +1,27 @@
+//! Frames by name and sender's state, and when a message was carried.
+ghost use Rattle.std.specs.Prelude.{◌≡◌, ◌↔◌, IsTrue, Some, option_map};
+ghost use Rattle.step_journal.specs.Work.{is_within, tag_of};
+
+use crate::mark::Mark;
+use round_lang::Vars;
+use step_machine::{Name, Sealed};
+
+/// Whether a message was released while its receiver's step count stood in these steps.
+pub(crate) fn is_within(mark: Mark, first: u64, end: u64) -> bool
+    ensures { result ≡ is_within mark first end }
+{
+    match mark {
+        Mark::Released(count) => first <= count && count < end,
+        Mark::Unsent | Mark::Silent | Mark::Flying => false,
+    }
+}
+
+/// Whether there is a frame, and it has this name and this state of its sender.
+pub(crate) fn is_tagged(frame: &Option<Sealed>, name: Name, state: &Vars) -> bool
+    ensures { IsTrue result ↔ (option_map tag_of frame.now ≡ Some (record { name = name; state = state.now })) }
+{
+    match frame {
+        Some(frame) => frame.name() == name && state.same(frame.state()),
+        None => false,
+    }
+}
