@@ -1,0 +1,13 @@
+pub mod Numbers
+pub mod Fronts
+pub mod Inputs
+pub mod Lines
+pub mod Digits
+pub mod Split
+pub mod Written
+pub mod Frames
+pub mod Handed
+pub mod Closed
+pub mod Starting
+pub mod Runs
+mod Rows

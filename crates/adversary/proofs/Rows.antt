@@ -1,0 +1,150 @@
+-- Schedules whose runs compute from the definitions: which messages are carried, the states after the rounds, and the releases' answers.
+use Rattle.std.proofs.Common.{◌≡◌, ℕ, Bool, true, false, List, [], ◌∷◌, refl, map}
+use Rattle.std.specs.Prelude.{codes, slice_index, reverse}
+use Rattle.round_lang.specs.declared.expr.BinaryOperator.TheVariants.{Equal, Union}
+use Rattle.round_lang.specs.declared.expr.Constant.TheVariants.{Empty, From, True}
+use Rattle.round_lang.specs.declared.expr.Ty.TheVariants.{Set as SetTy}
+use Rattle.round_lang.specs.declared.expr.UnaryOperator.TheVariants.{Single}
+use Rattle.round_lang.specs.declared.program.VariableKind.TheVariants.{Input, State}
+use Rattle.round_lang.specs.declared.value.Value.{Value}
+use Rattle.round_lang.specs.declared.value.Value.TheVariants.{Num}
+use Rattle.round_lang.specs.Sets.{is_in, set_of}
+use Rattle.round_lang.specs.Syntax.{ProgramTree}
+use Rattle.round_lang.specs.Tree.{TBinary, TFixed, TNamed, TNumber, TUnary}
+use Rattle.round_lang.specs.Values.{of_set}
+use Rattle.round_meaning.specs.Rounds.{algorithm, inbox, rounds}
+use Rattle.slot_plans.specs.Known.{known_start}
+use Rattle.step_machine.specs.declared.event.Event.{Event}
+use Rattle.step_machine.specs.declared.event.Event.TheVariants.{Step, Release}
+use Rattle.step_machine.specs.declared.event.Name.{Name}
+use Rattle.step_journal.specs.declared.mark.Mark.TheVariants.{Silent}
+use Rattle.step_journal.specs.History.{mark_of, state, told_of}
+use Rattle.step_journal.specs.Trace.{carried, first, steps}
+use Rattle.step_journal.specs.World.{World}
+
+-- each node tells all that it has seen
+abbrev gather : ProgramTree
+gather = record {
+  values = 2;
+  period = 1;
+  variables = record { name = codes "x"; kind = Input } ∷ record { name = codes "seen"; kind = State SetTy (TUnary Single (TNamed (codes "x"))) } ∷ [];
+  decides = codes "seen" ∷ [];
+  blocks = record {
+    number = 1;
+    fields = record { name = codes "s"; ty = SetTy } ∷ [];
+    condition = TFixed True;
+    sent = TNamed (codes "seen") ∷ [];
+    on_message = record { target = codes "seen"; formula = TBinary Union (TNamed (codes "seen")) (TNamed (codes "s")) } ∷ [];
+    end = [];
+  } ∷ [];
+}
+
+-- a run of `gather` under the known plan with one receive a round
+abbrev world : List ℕ → ℕ → ℕ → World
+world inputs nodes last = record { algorithm = algorithm gather nodes 0 (slice_index inputs); rounds = last; start = known_start nodes 1 }
+
+abbrev release : ℕ → ℕ → ℕ → Event
+release j i r = Release (record { from = j; to = i; round = r })
+
+-- a node hears its own frame
+abbrev heard_own : List Event
+heard_own = reverse (Step 0 ∷ release 0 0 1 ∷ Step 0 ∷ [])
+
+heard_own_carried : carried (world (0 ∷ []) 1 1) heard_own 0 1 0 ≡ true
+unfolding carried first steps algorithm
+heard_own_carried = refl
+
+heard_own_state : state (world (0 ∷ []) 1 1) heard_own 1 0 ≡ Num 0 ∷ of_set 1 ∷ []
+unfolding carried first steps algorithm inbox rounds set_of is_in
+heard_own_state = refl
+
+-- a node misses its own frame
+abbrev missed_own : List Event
+missed_own = reverse (Step 0 ∷ Step 0 ∷ [])
+
+missed_own_carried : carried (world (0 ∷ []) 1 1) missed_own 0 1 0 ≡ false
+unfolding carried first steps algorithm
+missed_own_carried = refl
+
+missed_own_state : state (world (0 ∷ []) 1 1) missed_own 1 0 ≡ Num 0 ∷ of_set 1 ∷ []
+unfolding carried first steps algorithm inbox rounds set_of is_in
+missed_own_state = refl
+
+-- one of two nodes ends its round before the other has sent
+abbrev one_misses : List Event
+one_misses = reverse (Step 0 ∷ Step 0 ∷ release 0 0 1 ∷ Step 0 ∷ Step 1 ∷ Step 1 ∷ release 0 1 1 ∷ release 1 1 1 ∷ Step 1 ∷ [])
+
+one_misses_carried : map (λ j. carried (world (0 ∷ 1 ∷ []) 2 1) one_misses 0 1 j) (0 ∷ 1 ∷ []) ≡ true ∷ false ∷ []
+unfolding carried first steps algorithm
+one_misses_carried = refl
+
+other_hears_carried : map (λ j. carried (world (0 ∷ 1 ∷ []) 2 1) one_misses 1 1 j) (0 ∷ 1 ∷ []) ≡ true ∷ true ∷ []
+unfolding carried first steps algorithm
+other_hears_carried = refl
+
+one_misses_state : state (world (0 ∷ 1 ∷ []) 2 1) one_misses 1 0 ≡ Num 0 ∷ of_set 1 ∷ []
+unfolding carried first steps algorithm inbox rounds set_of is_in
+one_misses_state = refl
+
+other_hears_state : state (world (0 ∷ 1 ∷ []) 2 1) one_misses 1 1 ≡ Num 1 ∷ of_set 3 ∷ []
+unfolding carried first steps algorithm inbox rounds set_of is_in
+other_hears_state = refl
+
+-- a release before its send moves nothing, the one after it does
+abbrev before_send : List Event
+before_send = reverse (release 0 0 1 ∷ Step 0 ∷ release 0 0 1 ∷ Step 0 ∷ [])
+
+before_send_carried : carried (world (0 ∷ []) 1 1) before_send 0 1 0 ≡ true
+unfolding carried first steps algorithm
+before_send_carried = refl
+
+before_send_told : map (λ t. t.moved) (told_of (world (0 ∷ []) 1 1) before_send) ≡ false ∷ true ∷ []
+unfolding told_of mark_of carried first steps algorithm inbox rounds set_of is_in
+before_send_told = refl
+
+-- a message of round 2 is taken in round 1, too early
+abbrev early : List Event
+early = reverse (Step 1 ∷ Step 1 ∷ Step 1 ∷ Step 1 ∷ release 1 0 2 ∷ Step 0 ∷ Step 0 ∷ Step 0 ∷ Step 0 ∷ Step 0 ∷ Step 0 ∷ [])
+
+early_carried : map (λ r. carried (world (0 ∷ 1 ∷ []) 2 2) early 0 r 1) (1 ∷ 2 ∷ []) ≡ false ∷ false ∷ []
+unfolding carried first steps algorithm
+early_carried = refl
+
+early_state : state (world (0 ∷ 1 ∷ []) 2 2) early 2 0 ≡ Num 0 ∷ of_set 1 ∷ []
+unfolding carried first steps algorithm inbox rounds set_of is_in
+early_state = refl
+
+-- only the node with the input 1 sends, and each node notes whom it heard
+abbrev speaks_of_one : ProgramTree
+speaks_of_one = record {
+  values = 2;
+  period = 1;
+  variables = record { name = codes "x"; kind = Input } ∷ record { name = codes "s"; kind = State SetTy (TFixed Empty) } ∷ [];
+  decides = codes "s" ∷ [];
+  blocks = record {
+    number = 1;
+    fields = [];
+    condition = TBinary Equal (TNamed (codes "x")) (TNumber 1);
+    sent = [];
+    on_message = record { target = codes "s"; formula = TBinary Union (TNamed (codes "s")) (TUnary Single (TFixed From)) } ∷ [];
+    end = [];
+  } ∷ [];
+}
+
+abbrev silent_world : World
+silent_world = record { algorithm = algorithm speaks_of_one 2 0 (slice_index (0 ∷ 1 ∷ [])); rounds = 1; start = known_start 2 1 }
+
+abbrev silent : List Event
+silent = reverse (Step 0 ∷ Step 0 ∷ Step 1 ∷ Step 1 ∷ release 0 1 1 ∷ release 1 0 1 ∷ release 1 1 1 ∷ Step 0 ∷ Step 1 ∷ [])
+
+silent_mark : mark_of silent_world silent 0 1 0 ≡ Silent
+unfolding mark_of carried first steps algorithm inbox rounds set_of is_in
+silent_mark = refl
+
+silent_told : map (λ t. t.moved) (told_of silent_world silent) ≡ false ∷ true ∷ true ∷ []
+unfolding told_of mark_of carried first steps algorithm inbox rounds set_of is_in
+silent_told = refl
+
+silent_state : state silent_world silent 1 0 ≡ Num 0 ∷ of_set 2 ∷ []
+unfolding carried first steps algorithm inbox rounds set_of is_in
+silent_state = refl

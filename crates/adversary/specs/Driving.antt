@@ -1,0 +1,73 @@
+-- What holds while a schedule is run, and which events it may have.
+use Rattle.std.specs.Prelude.{◌≡◌, ◌≢◌, ℕ, ◌<◌, List, ◌++◌, length, slice_index_or}
+use Rattle.step_journal.specs.Log.{Log, IsName, round_of}
+use Rattle.round_meaning.specs.declared.setup.Setup.{Setup}
+use Rattle.step_machine.specs.declared.event.Event.{Event}
+use Rattle.step_machine.specs.declared.event.Event.TheVariants.{Step, Release}
+use Rattle.round_meaning.specs.Rounds.{Algorithm}
+use Rattle.step_machine.specs.Frames.{Frame, Spells}
+use Rattle.step_machine.specs.Nodes.{NodeView}
+use Rattle.adversary.specs.declared.fault.RunFault.{RunFault}
+use Rattle.adversary.specs.declared.fault.RunFault.TheVariants as fault
+
+-- the node is node i of the run, and in its round
+pub record IsNodeOf (v : Log) (i : ℕ) (n : NodeView) : Type 0 where
+  pub program : n.program ≡ v.program
+  pub setup : n.setup ≡ v.setup
+  pub me : n.me ≡ i
+  pub round : n.round ≡ round_of v i
+
+-- a frame of one of n nodes to node i, which says what its state sends
+pub record IsFor (a : Algorithm) (n i : ℕ) (f : Frame) : Type 0 where
+  pub from : f.name.from < n
+  pub to : f.name.to ≡ i
+  pub spells : Spells a f
+
+-- the event names a node and a message of the run
+abbrev pub IsKnown : Setup → Event → Type 0
+IsKnown s (Step i) = i < s.nodes
+IsKnown s (Release n) = IsName s n
+
+-- the run went on by these events, and no other node closed a round
+pub record GoesOn (old new : Log) (i : ℕ) (events : List Event) : Type 0 where
+  pub program : new.program ≡ old.program
+  pub setup : new.setup ≡ old.setup
+  pub trace : new.trace ≡ old.trace ++ events
+  pub others : (j : ℕ) → j ≢ i → round_of new j ≡ round_of old j
+
+-- all but the frames held and the next state is as it was
+pub record IsSameBut (old new : NodeView) : Type 0 where
+  pub program : new.program ≡ old.program
+  pub setup : new.setup ≡ old.setup
+  pub me : new.me ≡ old.me
+  pub round : new.round ≡ old.round
+
+-- the nodes are those of the run, each in its round
+pub record AreNodesOf (v : Log) (nodes : List NodeView) : Type 0 where
+  pub sized : length nodes ≡ v.setup.nodes
+  pub each : (i : ℕ) (d : NodeView) → i < v.setup.nodes → IsNodeOf v i (slice_index_or nodes i d)
+
+abbrev pub IsStep : Event → Type 0
+IsStep (Step i) = Unit {0}
+IsStep (Release n) = ⊥
+
+abbrev pub IsRelease : Event → Type 0
+IsRelease (Step i) = ⊥
+IsRelease (Release n) = Unit {0}
+
+-- an event at this place names a node or a message that the run hasn't, and none before it does
+abbrev pub IsFirstAt : Setup → List Event → ℕ → Type 0
+IsFirstAt s events k =
+    (k < length events) × ((d : Event) → ¬ IsKnown s (slice_index_or events k d)) × ((j : ℕ) (d : Event) → j < k → IsKnown s (slice_index_or events j d))
+
+-- the fault says of which kind the event at its place is
+abbrev pub IsUnknownAt : Setup → List Event → RunFault → Type 0
+IsUnknownAt s events (fault.UnknownNode k) = IsFirstAt s events k × ((d : Event) → IsStep (slice_index_or events k d))
+IsUnknownAt s events (fault.UnknownMessage k) = IsFirstAt s events k × ((d : Event) → IsRelease (slice_index_or events k d))
+IsUnknownAt s events f = ⊥
+
+abbrev pub IsFirstUnknown : Setup → List Event → RunFault → Type 0
+IsFirstUnknown s events (fault.UnknownNode k) = IsFirstAt s events k × ((d : Event) → IsStep (slice_index_or events k d))
+IsFirstUnknown s events (fault.UnknownMessage k) = IsFirstAt s events k × ((d : Event) → IsRelease (slice_index_or events k d))
+IsFirstUnknown s events fault.BadSetup = Unit {0}
+IsFirstUnknown s events fault.NoMemory = Unit {0}

@@ -1,0 +1,32 @@
+-- How what was returned stands to what a text says.
+use Rattle.std.specs.Prelude.{◌≡◌, ℕ, List, Result, Ok, Err}
+use Rattle.std.specs.Global.{Vec}
+use Rattle.adversary.specs.declared.fault.LineFault.{LineFault}
+use Rattle.adversary.specs.declared.fault.LineFault.TheVariants as line
+use Rattle.adversary.specs.declared.fault.ScheduleFault.{ScheduleFault}
+use Rattle.adversary.specs.declared.fault.ScheduleFault.TheVariants as fault
+use Rattle.adversary.specs.declared.draft.Draft.{Draft}
+use Rattle.adversary.specs.declared.reading.Schedule.{Schedule}
+use Rattle.adversary.specs.Reading.{Read, State}
+
+-- the state that a draft shows
+abbrev pub state_of : Draft → State
+state_of d = record { stage = d.stage; inputs = d.inputs.items; events = d.events.items }
+
+-- only memory excuses other items than these
+abbrev pub GivesItems : Result (Vec ℕ) LineFault → Result (List ℕ) LineFault → Type 0
+GivesItems (Ok v) said = said ≡ Ok v.items
+GivesItems (Err line.NoMemory) said = Unit {0}
+GivesItems (Err e) said = said ≡ Err e
+
+-- the draft shows the state that follows, and only memory excuses another answer
+abbrev pub GivesState : {A : Type 0} → Result A LineFault → Draft → Result State LineFault → Type 0
+GivesState (Ok _) d said = said ≡ Ok (state_of d)
+GivesState (Err line.NoMemory) d said = Unit {0}
+GivesState (Err e) d said = said ≡ Err e
+
+-- only memory excuses another answer than this
+abbrev pub Gives : Result Schedule ScheduleFault → Result Read ScheduleFault → Type 0
+Gives (Ok s) said = said ≡ Ok (s.setup, s.plan, s.events.items)
+Gives (Err fault.NoMemory) said = Unit {0}
+Gives (Err e) said = said ≡ Err e

@@ -1,0 +1,50 @@
+//! Reading a schedule's text.
+ghost use Rattle.std.specs.Prelude.{◌≡◌};
+ghost use Rattle.adversary.specs.Reading as spec;
+ghost use Rattle.adversary.specs.Outcome.{Gives};
+
+use crate::draft::Draft;
+use crate::fault::ScheduleFault;
+use round_meaning::Setup;
+use slot_plans::PlanKind;
+use std::alloc::Global;
+use step_machine::Event;
+
+/// What a schedule's text says.
+#[derive(Drop)]
+pub struct Schedule {
+    pub setup: Setup,
+    pub plan: PlanKind,
+    pub events: Vec<Event>,
+}
+
+/// The most bytes that a text may have.
+pub const MAX_TEXT: usize = 16_777_216;
+
+/// The schedule that a text is.
+///
+/// Lines end with LF, which the last may lack, and a CR before it is dropped. Empty lines and lines
+/// that begin with `#` are skipped. Words are parted by one space, and numbers are decimal digits of
+/// any count. The header is `nodes N`, `faults T`, `inputs V V ..` with one value at least, `rounds R`,
+/// and `plan known D` or `plan growing`, in this order; then come events, `step I`, or `release J I R`
+/// for the message of round R from J to I.
+///
+/// Refused are first a text that is too long, and then the first line at fault: one of another shape
+/// or at another place before one with too large a number. `NoMemory` comes only for want of memory.
+#[tactic(auto, unfolding(crate::specs::Reading::schedule_of))]
+pub fn read_schedule(alloc: Global, text: &str) -> Result<Schedule, ScheduleFault>
+    ensures { Gives result (spec.schedule_of text.now) }
+{
+    if text.len() > MAX_TEXT {
+        return Err(ScheduleFault::TooLong);
+    }
+    let mut draft = Draft::new(alloc);
+    let mut number = 1u64;
+    for line in text.lines() {
+        if let Err(fault) = draft.read_line(alloc, line) {
+            return Err(fault.at(number));
+        }
+        number += 1;
+    }
+    draft.finish(number)
+}

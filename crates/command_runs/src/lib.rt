@@ -1,0 +1,17 @@
+//! The commands of the program, over any desk of files and any writers.
+#![tactic(auto)]
+
+mod desk;
+mod library;
+mod memory_desk;
+mod refusal;
+mod run;
+
+pub use desk::{Desk, DeskFault};
+pub use library::{LibraryFault, gather};
+pub use memory_desk::MemoryDesk;
+pub use refusal::Refusal;
+pub use run::run_words;
+
+#[cfg(test)]
+mod tests;

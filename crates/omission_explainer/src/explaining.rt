@@ -1,0 +1,135 @@
+//! From a journal to its report.
+ghost use Rattle.std.specs.Prelude.{◌≡◌, ◌+◌, ◌<◌, ◌≤◌, ℕ, IfOk};
+ghost use Rattle.std.specs.Arc.{arc_value};
+ghost use Rattle.round_meaning.specs.Turn.{decision};
+ghost use Rattle.step_journal.specs.Agreement.{row};
+ghost use Rattle.step_journal.specs.Log.{IsName, history, round_of, world_of};
+ghost use Rattle.step_journal.specs.History.{state};
+
+use crate::listed::Listed;
+use crate::report::{Report, ReportRow};
+use round_lang::{Identifier, NoMemory, Program, Ty, VariableKind};
+use round_meaning::{NodeSet, decision_of};
+use slot_plans::Plan;
+use std::alloc::Global;
+use std::sync::Arc;
+use step_journal::{Book, Journal, Mark};
+use step_machine::Name;
+
+/// The report of a journal: its closed rounds, as rounds with omissions.
+pub fn explain<P: Plan>(alloc: Global, journal: &Journal<P>) -> Result<Report, NoMemory> {
+    let book = journal.book();
+    book.agrees();
+    let program = book.program().program();
+    Ok(Report {
+        values: program.values(),
+        names: names_of(alloc, program)?,
+        types: types_of(alloc, program)?,
+        rows: Listed::new(rows_of(alloc, book)?),
+        counts: Listed::new(counts_of(alloc, book)?),
+    })
+}
+
+fn names_of(alloc: Global, program: &Program) -> Result<Listed<Identifier>, NoMemory> {
+    let mut names = Vec::new(alloc);
+    for variable in program.variables() {
+        names.push(variable.name.copy()?)?;
+    }
+    Ok(Listed::new(names))
+}
+
+fn types_of(alloc: Global, program: &Program) -> Result<Listed<Ty>, NoMemory> {
+    let mut types = Vec::new(alloc);
+    for variable in program.variables() {
+        types.push(type_of(&variable.kind))?;
+    }
+    Ok(Listed::new(types))
+}
+
+fn type_of(kind: &VariableKind) -> Ty {
+    match kind {
+        VariableKind::Input => Ty::Num,
+        VariableKind::State { ty, start: _ } => *ty,
+    }
+}
+
+/// A row for each closed round of each node, by round and then by node.
+fn rows_of<P: Plan>(alloc: Global, book: &Book<P>) -> Result<Vec<ReportRow>, NoMemory> {
+    let mut rows = Vec::new(alloc);
+    for round in 1..book.setup().rounds.saturating_add(1) {
+        for node in 0..book.setup().nodes {
+            if round < book.round_of(node) {
+                rows.push(row_of(book, node, round)?)?;
+            }
+        }
+    }
+    Ok(rows)
+}
+
+/// For each node its steps and its closed rounds.
+fn counts_of<P: Plan>(alloc: Global, book: &Book<P>) -> Result<Vec<(u64, u64)>, NoMemory> {
+    let mut counts = Vec::new(alloc);
+    for node in 0..book.setup().nodes {
+        let closed = u64::from(book.round_of(node)).saturating_sub(1);
+        counts.push((book.count_of(node), closed))?;
+    }
+    Ok(counts)
+}
+
+/// What came of a message for its receiver.
+#[derive(Clone, Copy, PartialEq, Eq, Debug)]
+enum Outcome {
+    Heard,
+    Silent,
+    Omitted,
+}
+
+/// A message is carried where its release came while its receiver was in its round.
+fn outcome_of(mark: Mark, first: u64, end: u64) -> Outcome {
+    match mark {
+        Mark::Silent => Outcome::Silent,
+        Mark::Released(count) if first <= count && count < end => Outcome::Heard,
+        Mark::Released(_) | Mark::Flying | Mark::Unsent => Outcome::Omitted,
+    }
+}
+
+/// The row of a node's closed round.
+fn row_of<P: Plan>(book: &Book<P>, node: u32, round: u32) -> Result<ReportRow, NoMemory>
+    requires node { node < book.now.log.setup.nodes }
+    requires first { 0 < round }
+    requires few { round ≤ 4096 }
+    requires closed { round < round_of book.now.log node }
+    ensures round { IfOk result (λ r. r.round ≡ round) }
+    ensures node { IfOk result (λ r. r.node ≡ node) }
+    ensures state { IfOk result (λ r. r.state ≡ state (world_of (P.start book.now.plan) book.now.log) (history book.now.log) round node) }
+    ensures decision { IfOk result (λ r. r.decision ≡ decision book.now.log.program r.state) }
+{
+    book.agrees();
+    let first = u64::from(book.plan().start(round));
+    let end = u64::from(book.plan().start(round + 1));
+    let mut heard = NodeSet::empty();
+    let mut silent = NodeSet::empty();
+    let mut omitted = NodeSet::empty();
+    for from in 0..book.setup().nodes {
+        let name = Name {
+            from,
+            to: node,
+            round,
+        };
+        match outcome_of(book.mark(name), first, end) {
+            Outcome::Heard => heard = heard.with(from),
+            Outcome::Silent => silent = silent.with(from),
+            Outcome::Omitted => omitted = omitted.with(from),
+        }
+    }
+    let state = &book.states(node)[round as usize];
+    Ok(ReportRow {
+        round,
+        node,
+        heard,
+        silent,
+        omitted,
+        decision: decision_of(book.program(), state),
+        state: Arc::try_clone(state)?,
+    })
+}

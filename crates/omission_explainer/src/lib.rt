@@ -1,0 +1,14 @@
+//! A run of single steps explained as a run in rounds with omissions: the report and its text.
+#![tactic(auto)]
+
+mod explaining;
+mod listed;
+mod printed;
+mod report;
+mod writing;
+
+pub use explaining::explain;
+pub use listed::Listed;
+pub use printed::{omissions_give_inbox, sets_part_nodes};
+pub use report::{Report, ReportRow};
+pub use writing::write_report;
