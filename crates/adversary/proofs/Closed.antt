@@ -25,5 +25,5 @@ node_closed v f n m same is h program setup me round = record {
   setup = setup ∙ is.setup;
   me = me;
   round = round ∙ ap (λ x. x + 1) (is.round ∙ ap (round_of v) (sym same))
-    ∙ sym (round-closed v f (subst (λ (i : ℕ). 0 < round_of v i) (sym same) h)) ∙ ap (round_of (closed v f)) same;
+      ∙ sym (round-closed v f (subst (λ (i : ℕ). 0 < round_of v i) (sym same) h)) ∙ ap (round_of (closed v f)) same;
 }

@@ -170,7 +170,8 @@ static REFUSED: [Refused; 6] = [
     },
 ];
 
-static SCHEDULE: &str = "# One node alone sends to itself, the network lets the message go, and the node hears it in its round.\nnodes 1\nfaults 0\ninputs 0\nrounds 1\nplan known 1\nstep 0\nrelease 0 0 1\nstep 0\n";
+static SCHEDULE: &str =
+    "# One node alone sends to itself, the network lets the message go, and the node hears it in its round.\nnodes 1\nfaults 0\ninputs 0\nrounds 1\nplan known 1\nstep 0\nrelease 0 0 1\nstep 0\n";
 
 #[test]
 fn refusals(rt: HostRuntime) -> Result<(), Fail> {

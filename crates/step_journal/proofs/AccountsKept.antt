@@ -33,10 +33,10 @@ step_at w t k i h (inr apart) = handed_kept w i (Step k) t (and_left _ _ (ne_eqb
 
 pub accounts_step : (w : World) (t : List Event) (handed : List (List (List Name))) (told : List Told) (k : ℕ) → is_receive w (steps k t) ≡ false → Accounts w t handed told → Accounts w (Step k ∷ t) handed told
 accounts_step w t handed told k h a = record {
-    sized = a.sized;
-    handed = λ i b. a.handed i b ∙ sym (step_at w t k i h (cases_eq i k));
-    told = a.told ∙ sym (told_step w k t);
-  }
+  sized = a.sized;
+  handed = λ i b. a.handed i b ∙ sym (step_at w t k i h (cases_eq i k));
+  told = a.told ∙ sym (told_step w k t);
+}
 
 receive_at : (w : World) (t : List Event) (handed : List (List (List Name))) (k i : ℕ) (b : List Name) → k < length handed → is_receive w (steps k t) ≡ true → b ≡ buffer_of w k t → get_or handed k [] ≡ handed_of w k t → get_or handed i [] ≡ handed_of w i t → (i ≡ k) ⊎ (i ≡ k → ⊥) → get_or (set handed k (get_or handed k [] ++ b ∷ [])) i [] ≡ handed_of w i (Step k ∷ t)
 receive_at w t handed k i b l h x own e (inl same) =
@@ -47,14 +47,14 @@ receive_at w t handed k i b l h x own e (inr apart) =
 
 pub accounts_receive : (w : World) (t : List Event) (handed : List (List (List Name))) (told : List Told) (k : ℕ) (b : List Name) → k < nodes_of w → is_receive w (steps k t) ≡ true → b ≡ buffer_of w k t → Accounts w t handed told → Accounts w (Step k ∷ t) (set handed k (get_or handed k [] ++ b ∷ [])) told
 accounts_receive w t handed told k b l h x a = record {
-    sized = length-set handed k _ ∙ a.sized;
-    handed = λ i z. receive_at w t handed k i b (let n = a.sized in omega arith) h x (a.handed k l) (a.handed i z) (cases_eq i k);
-    told = a.told ∙ sym (told_step w k t);
-  }
+  sized = length-set handed k _ ∙ a.sized;
+  handed = λ i z. receive_at w t handed k i b (let n = a.sized in omega arith) h x (a.handed k l) (a.handed i z) (cases_eq i k);
+  told = a.told ∙ sym (told_step w k t);
+}
 
 pub accounts_release : (w : World) (t : List Event) (handed : List (List (List Name))) (told next : List Told) (n : Name) (b : Bool) → b ≡ is_flying (mark_of w t n.from n.to (n.round - 1)) → next ≡ told ++ record { name = n; moved = b } ∷ [] → Accounts w t handed told → Accounts w (Release n ∷ t) handed next
 accounts_release w t handed told next n b h e a = record {
-    sized = a.sized;
-    handed = λ i z. a.handed i z ∙ sym (handed_kept w i (Release n) t refl);
-    told = e ∙ ap (λ z. z ++ record { name = n; moved = b } ∷ []) a.told ∙ ap (λ z. told_of w t ++ record { name = n; moved = z } ∷ []) h ∙ sym (told_more w n t);
-  }
+  sized = a.sized;
+  handed = λ i z. a.handed i z ∙ sym (handed_kept w i (Release n) t refl);
+  told = e ∙ ap (λ z. z ++ record { name = n; moved = b } ∷ []) a.told ∙ ap (λ z. told_of w t ++ record { name = n; moved = z } ∷ []) h ∙ sym (told_more w n t);
+}

@@ -52,7 +52,7 @@ was_sent w t b j i r h n = let k : released w t j i r ≡ None = rw n refl in cc
 buffered_same : (w : World) → IsPlan w → (e : Event) (t : List Event) (j i q : ℕ) → suc q ≤ w.rounds → (is_step i e && is_receive w (steps i t)) ≡ false → is_release j i (suc q) e ≡ false → ReleasedBy w j i (suc q) e t → is_buffered w (e ∷ t) j i q ≡ is_buffered w t j i q
 buffered_same w p e t j i q l h k (Before b s s2) =
     held_same _ _ _ _ _ _ (s2 ∙ sym s) (message_same w p e t j i q l (sent_by w j i (suc q) t) (was_sent w t b j i (suc q) s))
-        (ap (λ o. from_moment o (λ b. first (takes w i b) (e ∷ t))) (s2 ∙ sym s) ∙ taken_same w i e t (released w t j i (suc q)) h)
+    (ap (λ o. from_moment o (λ b. first (takes w i b) (e ∷ t))) (s2 ∙ sym s) ∙ taken_same w i e t (released w t j i (suc q)) h)
 buffered_same w p e t j i q l h k (Now a s f c s2) = cc
 buffered_same w p e t j i q l h k (TooEarly s f s2) = held_off _ _ _ s2 ∙ sym (held_off _ _ _ f)
 buffered_same w p e t j i q l h k (NotIt a s c f s2) = held_off _ _ _ s2 ∙ sym (held_off _ _ _ f)
@@ -112,7 +112,7 @@ and_true false = refl
 buffered_now : (w : World) → IsPlan w → (e : Event) (t a : List Event) (j i q : ℕ) → suc q ≤ w.rounds → is_step i e ≡ false → sent w t j i (suc q) ≡ Some a → released w (e ∷ t) j i (suc q) ≡ Some t → is_buffered w (e ∷ t) j i q ≡ is_some (message w t q j i)
 buffered_now w p e t a j i q l h s s2 =
     let none : taken w (e ∷ t) j i (suc q) ≡ None =
-        ap (λ o. from_moment o (λ b. first (takes w i b) (e ∷ t))) s2 ∙ first_later_none (λ e past. is_step i e && is_receive w (steps i past)) t (e ∷ t) (omega arith) in
+    ap (λ o. from_moment o (λ b. first (takes w i b) (e ∷ t))) s2 ∙ first_later_none (λ e past. is_step i e && is_receive w (steps i past)) t (e ∷ t) (omega arith) in
     let same = message_same w p e t j i q l (sent_by w j i (suc q) t) (λ n. cc) in
     held_same _ (Some t) _ _ _ None s2 same none ∙ and_true (is_some (message w t q j i))
 
@@ -144,8 +144,8 @@ count_release : (w : World) → IsPlan w → (m : Name) (t : List Event) (j i q 
 unfolding mark_of
 count_release w p m t j i q n l h e (Before b s s2) =
     let same : is_buffered w (Release m ∷ t) j i q ≡ is_buffered w t j i q =
-        held_same _ _ _ _ _ _ (s2 ∙ sym s) (message_same w p (Release m) t j i q l (sent_by w j i (suc q) t) (was_sent w t b j i (suc q) s))
-            (ap (λ o. from_moment o (λ b. first (takes w i b) (Release m ∷ t))) (s2 ∙ sym s) ∙ taken_same w i (Release m) t (released w t j i (suc q)) refl) in
+    held_same _ _ _ _ _ _ (s2 ∙ sym s) (message_same w p (Release m) t j i q l (sent_by w j i (suc q) t) (was_sent w t b j i (suc q) s))
+    (ap (λ o. from_moment o (λ b. first (takes w i b) (Release m ∷ t))) (s2 ∙ sym s) ∙ taken_same w i (Release m) t (released w t j i (suc q)) refl) in
     let none = arrives_late j i q m (sent w t j i (suc q)) (message w t q j i) (released w t j i (suc q)) b s in
     let both = ap as_count same in
     omega arith
@@ -182,7 +182,7 @@ count_event w p (Release m) t j i q l ih false h true k =
     let n = parts j i q m k in
     let round : m.round - 1 ≡ q = let r = n.2 in omega arith in
     let slot : mark_of w t m.from m.to (m.round - 1) ≡ mark_of w t j i q =
-        ap (λ z. mark_of w t z m.to (m.round - 1)) n.0 ∙ ap (λ z. mark_of w t j z (m.round - 1)) n.1 ∙ ap (λ z. mark_of w t j i z) round in
+    ap (λ z. mark_of w t z m.to (m.round - 1)) n.0 ∙ ap (λ z. mark_of w t j z (m.round - 1)) n.1 ∙ ap (λ z. mark_of w t j i z) round in
     ap (count_by (is_it j i q)) (buffer_grown w i m t n.1 ∙ ap (λ z. buffer_of w i t ++ arrival m z) slot)
     ∙ count_append (is_it j i q) (buffer_of w i t) (arrival m (mark_of w t j i q))
     ∙ count_release w p m t j i q _ l k ih (released_by w j i (suc q) (Release m) t)

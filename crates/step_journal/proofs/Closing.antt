@@ -77,9 +77,10 @@ due_in start v n k r due a is on b d =
 
 pub known_in : (start : ℕ → ℕ) (v : Log) (n : NodeView) (k : ℕ) (old : List Value) (held : List (Option Frame)) (known : Bool) → IsDueIn start v n → k ≡ n.me → old ≡ n.state → held ≡ n.held → (known ≡ true → IsMet start v (round_of v k) k old held) × (IsMet start v (round_of v k) k old held → known ≡ true) → (known ≡ true → IsKnown start v n) × (IsKnown start v n → known ≡ true)
 known_in start v n k old held known due a b d is =
-    let round : round_of v k ≡ n.round = ap (round_of v) a ∙ due.1 in
-    (λ e. met_to start v n (round_of v k) k old held round a b d (is.0 e),
-     λ e. is.1 (met_from start v n (round_of v k) k old held round a b d e))
+    let round : round_of v k ≡ n.round = ap (round_of v) a ∙ due.1 in (
+      λ e. met_to start v n (round_of v k) k old held round a b d (is.0 e),
+      λ e. is.1 (met_from start v n (round_of v k) k old held round a b d e),
+    )
 
 -- what holds anyway holds of an error
 pub on_err : {A E : Type 0} {P : Type 0} (r : Result A E) → P → OnErr r P
@@ -102,13 +103,13 @@ module _ {start : ℕ → ℕ} {nodes : ℕ} {v : Log} {counts : List ℕ} {mark
   -- rows that stay
   pub same_rows : (rows : List Row) → rows ≡ v.rows → Holds start nodes (record v { rows = rows }) counts marks waiting handed told
   same_rows rows e = record {
-      lawful = h.lawful;
-      sized = h.sized;
-      plan = h.plan;
-      book = rw e h.book;
-      waits = h.waits;
-      accounts = h.accounts;
-    }
+    lawful = h.lawful;
+    sized = h.sized;
+    plan = h.plan;
+    book = rw e h.book;
+    waits = h.waits;
+    accounts = h.accounts;
+  }
 
   -- what was carried to a due round, by the marks
   pub heard_read : (i j : ℕ) → i < v.setup.nodes → j < v.setup.nodes → IsDue start v i → heard_from (world_of start v) (history v) i (round_of v i - 1) j ≡ (if is_within (mark_in start v (record { from = j; to = i; round = round_of v i })) (start (round_of v i)) (start (round_of v i + 1)) then Some (record { name = record { from = j; to = i; round = round_of v i }; state = state_before v j (round_of v i) }) else None)
@@ -123,12 +124,12 @@ module _ {start : ℕ → ℕ} {nodes : ℕ} {v : Log} {counts : List ℕ} {mark
       let end : start (suc q + 1) ≡ start (round_of v i + 1) = ap (λ x. start (x + 1)) r in
       let late : start (suc q + 1) ≤ steps i t = let d = due.1 in omega arith in
       let same : is_within (mark_of w t j i q) (start (suc q)) (start (suc q + 1)) ≡ is_within (mark_of w t j i q) (start (round_of v i)) (start (round_of v i + 1)) =
-          ap (λ x. is_within (mark_of w t j i q) x (start (suc q + 1))) first ∙ ap (is_within (mark_of w t j i q) (start (round_of v i))) end in
+      ap (λ x. is_within (mark_of w t j i q) x (start (suc q + 1))) first ∙ ap (is_within (mark_of w t j i q) (start (round_of v i))) end in
       let known : is_within (mark_of w t j i q) (start (round_of v i)) (start (round_of v i + 1)) ≡ true → ◌≡◌ {A = Tag} (tagged j i q (state w t q j)) (record { name = record { from = j; to = i; round = round_of v i }; state = state_before v j (round_of v i) }) =
-          λ c.
-              let closed = sender_closed w h.plan t counts v.rows marks j i q (start (round_of v i)) (start (round_of v i + 1)) (one_of start v j m) (omega arith) c h.book in
-              ap (λ x. record { name = record { from = j; to = i; round = x }; state = state w t q j }) r
-              ∙ ap (λ x. record { name = record { from = j; to = i; round = round_of v i }; state = x }) (sym (h.book.stated j q (one_of start v j m) closed)) in
+      λ c.
+      let closed = sender_closed w h.plan t counts v.rows marks j i q (start (round_of v i)) (start (round_of v i + 1)) (one_of start v j m) (omega arith) c h.book in
+      ap (λ x. record { name = record { from = j; to = i; round = x }; state = state w t q j }) r
+      ∙ ap (λ x. record { name = record { from = j; to = i; round = round_of v i }; state = x }) (sym (h.book.stated j q (one_of start v j m) closed)) in
       heard_is w h.plan t i q j (omega arith) late
       ∙ ap (λ (c : Bool). if c then Some (tagged j i q (state w t q j)) else None) same
       ∙ if_some (is_within (mark_of w t j i q) (start (round_of v i)) (start (round_of v i + 1))) known
@@ -138,7 +139,7 @@ module _ {start : ℕ → ℕ} {nodes : ℕ} {v : Log} {counts : List ℕ} {mark
   heard_by i j r m first end b l k due e a x y is =
       let mark = mark_in start v (record { from = j; to = i; round = r }) in
       let here : is_within mark (start r) (start (r + 1)) ≡ b =
-          ap (λ z. is_within z (start r) (start (r + 1))) (sym a) ∙ ap (λ z. is_within m z (start (r + 1))) (sym x) ∙ ap (is_within m first) (sym y) ∙ is in
+      ap (λ z. is_within z (start r) (start (r + 1))) (sym a) ∙ ap (λ z. is_within m z (start (r + 1))) (sym x) ∙ ap (is_within m first) (sym y) ∙ is in
       heard_read i j l k due
       ∙ ap (λ (z : ℕ). if is_within (mark_in start v (record { from = j; to = i; round = z })) (start z) (start (z + 1)) then Some (record { name = record { from = j; to = i; round = z }; state = state_before v j z }) else None) (sym e)
       ∙ ap (λ (c : Bool). if c then Some (record { name = record { from = j; to = i; round = r }; state = state_before v j r }) else None) here
@@ -154,7 +155,7 @@ module _ {start : ℕ → ℕ} {nodes : ℕ} {v : Log} {counts : List ℕ} {mark
   pub sender_by : (i j r : ℕ) (m : Mark) (first end : ℕ) → i < v.setup.nodes → j < v.setup.nodes → IsDue start v i → r ≡ round_of v i → m ≡ mark_in start v (record { from = j; to = i; round = r }) → first ≡ start r → end ≡ start (r + 1) → is_within m first end ≡ true → r - 1 < round_of v j
   sender_by i j r m first end l k due e a x y is =
       let here : is_within (mark_in start v (record { from = j; to = i; round = r })) (start r) (start (r + 1)) ≡ true =
-          ap (λ z. is_within z (start r) (start (r + 1))) (sym a) ∙ ap (λ z. is_within m z (start (r + 1))) (sym x) ∙ ap (is_within m first) (sym y) ∙ is in
+      ap (λ z. is_within z (start r) (start (r + 1))) (sym a) ∙ ap (λ z. is_within m z (start (r + 1))) (sym x) ∙ ap (is_within m first) (sym y) ∙ is in
       let P : ℕ → Type 0 = λ z. is_within (mark_in start v (record { from = j; to = i; round = z })) (start z) (start (z + 1)) ≡ true in
       let long = sender_in i j l k due (subst P e here) in
       omega arith
@@ -176,16 +177,16 @@ module _ {start : ℕ → ℕ} {nodes : ℕ} {v : Log} {counts : List ℕ} {mark
       let Q : ℕ → Type 0 = λ x. (j : ℕ) → j < n.setup.nodes → ForSome (held_at n.held j) (IsFrom w.algorithm j n.me x) in
       let from = subst Q r (subst P same held.each) in
       let end : ended n ≡ w.algorithm.end (suc q) n.me (inbox_of n.held) n.state =
-          ap (λ a. a.end n.round n.me (inbox_of n.held) n.state) same ∙ ap (λ x. w.algorithm.end x n.me (inbox_of n.held) n.state) r in
+      ap (λ a. a.end n.round n.me (inbox_of n.held) n.state) same ∙ ap (λ x. w.algorithm.end x n.me (inbox_of n.held) n.state) r in
       ends_with w t n.me q n.state (ended n) n.held own (size ∙ setup_nodes ∙ sym m) known.1 (λ j b. from j (omega arith)) end
       ∙ ap (λ x. state w t x n.me) (sym r ∙ sym round_is)
 
   pub close : (n : NodeView) (rows : List Row) → n.me < v.setup.nodes → n.program ≡ v.program → n.setup ≡ v.setup → length n.held ≡ n.setup.nodes → IsHeld (algorithm_in n) n.setup.nodes n.me n.round n.held → IsDueIn start v n → IsKnown start v n → rows ≡ (closed v n).rows → Holds start nodes (record v { rows = rows }) counts marks waiting handed told
   close n rows l p s size held due known e = record {
-      lawful = h.lawful;
-      sized = h.sized;
-      plan = h.plan;
-      book = rw e (keeps_close (world_of start v) h.plan (history v) counts v.rows marks n.me (ended n) (one_of start v n.me l) due.0.0 due.0.1 (ended_is n l p s size held due known) h.book);
-      waits = h.waits;
-      accounts = h.accounts;
-    }
+    lawful = h.lawful;
+    sized = h.sized;
+    plan = h.plan;
+    book = rw e (keeps_close (world_of start v) h.plan (history v) counts v.rows marks n.me (ended n) (one_of start v n.me l) due.0.0 due.0.1 (ended_is n l p s size held due known) h.book);
+    waits = h.waits;
+    accounts = h.accounts;
+  }

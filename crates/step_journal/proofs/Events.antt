@@ -38,16 +38,16 @@ pushed xs x ys h = ap reverse h ∙ reverse-append xs (x ∷ [])
 
 same_marks : (w : World) (t : List Event) (counts : List ℕ) (rows : List Row) (old new : List Mark) → SameTable old new → Agrees w t counts rows old → Agrees w t counts rows new
 same_marks w t counts rows old new e a = record {
-    counted = a.counted;
-    count = a.count;
-    rowed = a.rowed;
-    began = a.began;
-    bounded = a.bounded;
-    past = a.past;
-    near = a.near;
-    stated = a.stated;
-    mark = λ j i q x y z. e (place_of w j i q) ∙ a.mark j i q x y z;
-  }
+  counted = a.counted;
+  count = a.count;
+  rowed = a.rowed;
+  began = a.began;
+  bounded = a.bounded;
+  past = a.past;
+  near = a.near;
+  stated = a.stated;
+  mark = λ j i q x y z. e (place_of w j i q) ∙ a.mark j i q x y z;
+}
 
 -- a release changes no mark but Flying
 pub let_go_idle : (x : ℕ) (m : Mark) → (m ≡ Flying → ⊥) → let_go x m ≡ m
@@ -73,13 +73,13 @@ module _ {start : ℕ → ℕ} {nodes : ℕ} {v : Log} {counts : List ℕ} {mark
   -- nothing was recorded
   pub kept : (trace : List Event) (st : List ℕ) (mk : List Mark) (wt : List (List Name)) (hd : List (List (List Name))) (tl : List Told) → trace ≡ v.trace → st ≡ counts → SameTable marks mk → wt ≡ waiting → hd ≡ handed → tl ≡ told → Holds start nodes (record v { trace = trace }) st mk wt hd tl
   kept trace st mk wt hd tl a b c d e f = record {
-      lawful = h.lawful;
-      sized = h.sized;
-      plan = h.plan;
-      book = rw (a, b) (same_marks (world_of start v) (history v) counts v.rows marks mk c h.book);
-      waits = rw (a, d) h.waits;
-      accounts = rw (a, e, f) h.accounts;
-    }
+    lawful = h.lawful;
+    sized = h.sized;
+    plan = h.plan;
+    book = rw (a, b) (same_marks (world_of start v) (history v) counts v.rows marks mk c h.book);
+    waits = rw (a, d) h.waits;
+    accounts = rw (a, e, f) h.accounts;
+  }
 
   -- an event was recorded
   noted : (e : Event) (trace : List Event) (st : List ℕ) (mk : List Mark) (wt : List (List Name)) (hd : List (List (List Name))) (tl : List Told) → trace ≡ v.trace ++ e ∷ [] → Agrees (world_of start v) (e ∷ history v) st v.rows mk → Waits (world_of start v) (e ∷ history v) wt → Accounts (world_of start v) (e ∷ history v) hd tl → Holds start nodes (record v { trace = trace }) st mk wt hd tl
@@ -134,9 +134,9 @@ module _ {start : ℕ → ℕ} {nodes : ℕ} {v : Log} {counts : List ℕ} {mark
       let n : round_of v k ≡ v.setup.rounds + 1 = omega arith in
       let none = idle_is_no_receive w h.plan (count_of v k) (count_idle k l b) in
       noted (Step k) trace st marks waiting handed told e
-          (rw f (keeps_idle w h.plan (history v) counts v.rows marks k _ (one_of start v k l) (next_count k l) n h.book))
-          (waits_step w (history v) waiting k none h.waits)
-          (accounts_step w (history v) handed told k none h.accounts)
+      (rw f (keeps_idle w h.plan (history v) counts v.rows marks k _ (one_of start v k l) (next_count k l) n h.book))
+      (waits_step w (history v) waiting k none h.waits)
+      (accounts_step w (history v) handed told k none h.accounts)
 
   -- ---- a receive
 
@@ -165,9 +165,9 @@ module _ {start : ℕ → ℕ} {nodes : ℕ} {v : Log} {counts : List ℕ} {mark
       let n = nodes_are start v in
       let low : start (round_of v k) + nodes_of w ≤ count_of v k = let a = at.1 in omega arith in
       noted (Step k) trace st marks wt hd told e
-          (rw f (keeps_receive w h.plan (history v) counts v.rows marks k _ m (next_count k l) at.0 low at.2 h.book))
-          (rw g (waits_receive w (history v) waiting k m fit.1 h.waits))
-          (rw i (accounts_receive w (history v) handed told k b m fit.1 (x ∙ h.waits.held k m) h.accounts))
+      (rw f (keeps_receive w h.plan (history v) counts v.rows marks k _ m (next_count k l) at.0 low at.2 h.book))
+      (rw g (waits_receive w (history v) waiting k m fit.1 h.waits))
+      (rw i (accounts_receive w (history v) handed told k b m fit.1 (x ∙ h.waits.held k m) h.accounts))
 
   -- ---- a send
 
@@ -214,7 +214,7 @@ module _ {start : ℕ → ℕ} {nodes : ℕ} {v : Log} {counts : List ℕ} {mark
       let e : n.round ≡ suc (n.round - 1) = omega arith in
       let round_is = send_round n a fit.0 fit.1 in
       let own : p.state ≡ state w (history v) (n.round - 1) n.from =
-          sym fit.2 ∙ h.book.stated n.from (n.round - 1) (one_of start v n.from a.from) (omega arith) in
+      sym fit.2 ∙ h.book.stated n.from (n.round - 1) (one_of start v n.from a.from) (omega arith) in
       sym work.says ∙ ap (λ r. w.algorithm.send r p.state n.from n.to) e ∙ ap (λ x. w.algorithm.send (suc (n.round - 1)) x n.from n.to) own
 
   pub sent : (p : Ready) (trace : List Event) (st : List ℕ) (mk : List Mark) (place : ℕ) (x : Mark) → IsName v.setup p.name → IsPrepared (algorithm_of v.program v.setup) p → IsSendFit start v p → place ≡ ((p.name.round - 1) * v.setup.nodes + p.name.from) * v.setup.nodes + p.name.to → x ≡ spoken p.message → trace ≡ v.trace ++ Step p.name.from ∷ [] → st ≡ set counts p.name.from (get_or counts p.name.from 0 + 1) → Puts marks mk place x → Holds start nodes (record v { trace = trace }) st mk waiting handed told
@@ -228,11 +228,11 @@ module _ {start : ℕ → ℕ} {nodes : ℕ} {v : Log} {counts : List ℕ} {mark
       let slot : count_of v n.from ≡ start (suc (n.round - 1)) + n.to = fit.1 ∙ ap (λ y. start y + n.to) r in
       let none = slot_no_receive n a fit.1 in
       noted (Step n.from) trace st mk waiting handed told e
-          (rw f (keeps_send w h.plan (history v) counts v.rows marks mk n.from n.to (n.round - 1) _ x (one_of start v n.from a.from) (one_of start v n.to a.to) (omega arith)
-              (next_count n.from a.from) (send_round n a fit.0 fit.1 ∙ r) slot (is ∙ ap spoken (message_is p a work fit))
-              (subst (λ (z : ℕ). Puts marks mk z x) there g) h.book))
-          (waits_step w (history v) waiting n.from none h.waits)
-          (accounts_step w (history v) handed told n.from none h.accounts)
+      (rw f (keeps_send w h.plan (history v) counts v.rows marks mk n.from n.to (n.round - 1) _ x (one_of start v n.from a.from) (one_of start v n.to a.to) (omega arith)
+      (next_count n.from a.from) (send_round n a fit.0 fit.1 ∙ r) slot (is ∙ ap spoken (message_is p a work fit))
+      (subst (λ (z : ℕ). Puts marks mk z x) there g) h.book))
+      (waits_step w (history v) waiting n.from none h.waits)
+      (accounts_step w (history v) handed told n.from none h.accounts)
 
   -- ---- a release
 
@@ -249,11 +249,11 @@ module _ {start : ℕ → ℕ} {nodes : ℕ} {v : Log} {counts : List ℕ} {mark
       let read : get_or marks (place_of w n.from n.to (n.round - 1)) Unsent ≡ Flying = h.book.mark n.from n.to (n.round - 1) from to (omega arith) ∙ fly in
       let arrives : arrival n (mark_in start v n) ≡ n ∷ [] = ap (arrival n) fly in
       noted (Release n) trace counts mk wt handed tl e
-          (keeps_release w h.plan (history v) counts v.rows marks mk n n.from n.to (n.round - 1) (Released (count_of v n.to)) from to (omega arith) refl refl r
-              (ap Released (sym (h.book.count n.to to)) ∙ sym (ap (let_go (get_or counts n.to 0)) read))
-              (subst (λ (z : ℕ). Puts marks mk z (Released (count_of v n.to))) there f) h.book)
-          (rw g (subst (λ (x : List Name). Waits w (Release n ∷ history v) (set waiting n.to (get_or waiting n.to [] ++ x))) arrives (waits_release w (history v) waiting n to h.waits)))
-          (accounts_release w (history v) handed told tl n true (sym (ap is_flying fly)) i h.accounts)
+      (keeps_release w h.plan (history v) counts v.rows marks mk n n.from n.to (n.round - 1) (Released (count_of v n.to)) from to (omega arith) refl refl r
+      (ap Released (sym (h.book.count n.to to)) ∙ sym (ap (let_go (get_or counts n.to 0)) read))
+      (subst (λ (z : ℕ). Puts marks mk z (Released (count_of v n.to))) there f) h.book)
+      (rw g (subst (λ (x : List Name). Waits w (Release n ∷ history v) (set waiting n.to (get_or waiting n.to [] ++ x))) arrives (waits_release w (history v) waiting n to h.waits)))
+      (accounts_release w (history v) handed told tl n true (sym (ap is_flying fly)) i h.accounts)
 
   -- what isn't in flight doesn't move
   pub let_be : (n : Name) (trace : List Event) (tl : List Told) → IsName v.setup n → (IsFlying start v n → ⊥) → trace ≡ v.trace ++ Release n ∷ [] → tl ≡ told ++ record { name = n; moved = false } ∷ [] → Holds start nodes (record v { trace = trace }) counts marks waiting handed tl
@@ -267,11 +267,11 @@ module _ {start : ℕ → ℕ} {nodes : ℕ} {v : Log} {counts : List ℕ} {mark
       let place = place_of w n.from n.to (n.round - 1) in
       let read : get_or marks place Unsent ≡ mark_in start v n = h.book.mark n.from n.to (n.round - 1) from to (omega arith) in
       noted (Release n) trace counts marks waiting handed tl e
-          (keeps_release w h.plan (history v) counts v.rows marks marks n n.from n.to (n.round - 1) (mark_in start v n) from to (omega arith) refl refl r
-              (sym (ap (let_go (get_or counts n.to 0)) read ∙ let_go_idle (get_or counts n.to 0) (mark_in start v n) off))
-              (puts_same marks place (mark_in start v n) read) h.book)
-          (waits_late w (history v) waiting n (arrival_idle n (mark_in start v n) off) h.waits)
-          (accounts_release w (history v) handed told tl n false (sym (idle_flag (mark_in start v n) off)) i h.accounts)
+      (keeps_release w h.plan (history v) counts v.rows marks marks n n.from n.to (n.round - 1) (mark_in start v n) from to (omega arith) refl refl r
+      (sym (ap (let_go (get_or counts n.to 0)) read ∙ let_go_idle (get_or counts n.to 0) (mark_in start v n) off))
+      (puts_same marks place (mark_in start v n) read) h.book)
+      (waits_late w (history v) waiting n (arrival_idle n (mark_in start v n) off) h.waits)
+      (accounts_release w (history v) handed told tl n false (sym (idle_flag (mark_in start v n) off)) i h.accounts)
 
   -- ---- what the tests say
 

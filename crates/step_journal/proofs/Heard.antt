@@ -96,8 +96,8 @@ same_entry w j i q s true (Some m) (Some h) e f g =
     let state_is : h.state ≡ s = ap (λ (t : Tag). t.state) tag in
     let says = k.spells.says in
     let sends : w.algorithm.send h.name.round h.state h.name.from h.name.to ≡ w.algorithm.send (suc q) s j i =
-        ap (λ r. w.algorithm.send r h.state h.name.from h.name.to) k.round ∙ ap (λ x. w.algorithm.send (suc q) x h.name.from h.name.to) state_is
-        ∙ ap (λ x. w.algorithm.send (suc q) s x h.name.to) k.from ∙ ap (w.algorithm.send (suc q) s j) k.to in
+    ap (λ r. w.algorithm.send r h.state h.name.from h.name.to) k.round ∙ ap (λ x. w.algorithm.send (suc q) x h.name.from h.name.to) state_is
+    ∙ ap (λ x. w.algorithm.send (suc q) s x h.name.to) k.from ∙ ap (w.algorithm.send (suc q) s j) k.to in
     let message_is : h.message ≡ m = (let both : Some h.message ≡ Some m = sym says ∙ sends ∙ e in cc) in
     ap (λ x. Some (record { from = x; message = h.message })) k.from ∙ ap (λ x. Some (record { from = j; message = x })) message_is
 same_entry w j i q s false m None e f g = refl
@@ -108,6 +108,6 @@ pub ends_with : (w : World) (t : List Event) (i q : ℕ) (old new : List Value) 
 unfolding rounds inbox
 ends_with w t i q old new held e n f g h =
     let places = by_places held (λ j. if not (carried w t i (suc q) j) then None else received j (message w t q j i)) 0
-            (λ k l. same_entry w k i q (state w t q k) (carried w t i (suc q) k) (message w t q k i) (held_at held k) refl (f k (omega arith)) (g k (omega arith))
-              ∙ ap (λ j. if not (carried w t i (suc q) j) then None else received j (message w t q j i)) (omega arith)) in
+    (λ k l. same_entry w k i q (state w t q k) (carried w t i (suc q) k) (message w t q k i) (held_at held k) refl (f k (omega arith)) (g k (omega arith))
+    ∙ ap (λ j. if not (carried w t i (suc q) j) then None else received j (message w t q j i)) (omega arith)) in
     h ∙ end_same w (suc q) i _ _ _ _ (places ∙ ap (λ m. filter_map (λ j. if not (carried w t i (suc q) j) then None else received j (message w t q j i)) (range_with_len 0 m)) n) e

@@ -25,9 +25,10 @@ use Rattle.step_journal.proofs.Kept.{state_kept, mark_kept, mark_before, mark_no
 
 -- a number has one quotient and one rest
 pub row_same : (n a b c d : ℕ) → b < n → d < n → a * n + b ≡ c * n + d → (a ≡ c) × (b ≡ d)
-row_same n a b c d l k e =
-    (sym (div-mul-add a n b l) ∙ ap (λ z. z / n) e ∙ div-mul-add c n d k,
-     sym (mod-mul-add a n b l) ∙ ap (λ z. z % n) e ∙ mod-mul-add c n d k)
+row_same n a b c d l k e = (
+  sym (div-mul-add a n b l) ∙ ap (λ z. z / n) e ∙ div-mul-add c n d k,
+  sym (mod-mul-add a n b l) ∙ ap (λ z. z % n) e ∙ mod-mul-add c n d k,
+)
 
 pub place_same : (w : World) (j i q j' i' q' : ℕ) → j < nodes_of w → i < nodes_of w → j' < nodes_of w → i' < nodes_of w → place_of w j i q ≡ place_of w j' i' q' → (j ≡ j') × (i ≡ i') × (q ≡ q')
 place_same w j i q j' i' q' a b c d e =
@@ -85,16 +86,16 @@ Tabled w t marks = (j i q : ℕ) → j < nodes_of w → i < nodes_of w → q < w
 
 pub keeps_step : (w : World) → IsPlan w → (t : List Event) (counts : List ℕ) (rows : List Row) (marks : List Mark) (k y : ℕ) (next : List Mark) → k < nodes_of w → y ≡ steps k t + 1 → (length (row rows k) ≤ w.rounds → steps k t < w.start (length (row rows k) + 1)) → ((j i q : ℕ) → j < nodes_of w → i < nodes_of w → q < w.rounds → get_or next (place_of w j i q) Unsent ≡ mark_of w (Step k ∷ t) j i q) → Agrees w t counts rows marks → Agrees w (Step k ∷ t) (set counts k y) rows next
 keeps_step w p t counts rows marks k y next l e d h a = record {
-    counted = length-set counts k y ∙ a.counted;
-    count = λ i b. count_at t counts k y i (let c = a.counted in omega arith) e (a.count i b) (step_of k i t);
-    rowed = a.rowed;
-    began = a.began;
-    bounded = a.bounded;
-    past = λ i b. (let up = steps_grow i (Step k) t in omega (arith, a.past i b));
-    near = λ i b c. near_at w t rows k i d c (a.near i b c) (step_of k i t);
-    stated = λ i r b c. stated_at w p (Step k) t (length (row rows i)) r i _ c (a.bounded i b) (a.past i b) (a.stated i r b c);
-    mark = h;
-  }
+  counted = length-set counts k y ∙ a.counted;
+  count = λ i b. count_at t counts k y i (let c = a.counted in omega arith) e (a.count i b) (step_of k i t);
+  rowed = a.rowed;
+  began = a.began;
+  bounded = a.bounded;
+  past = λ i b. (let up = steps_grow i (Step k) t in omega (arith, a.past i b));
+  near = λ i b c. near_at w t rows k i d c (a.near i b c) (step_of k i t);
+  stated = λ i r b c. stated_at w p (Step k) t (length (row rows i)) r i _ c (a.bounded i b) (a.past i b) (a.stated i r b c);
+  mark = h;
+}
 
 -- ---- what a step does to the table
 
@@ -135,8 +136,8 @@ idle_no_slot w p q i x l b h e =
 pub keeps_receive : (w : World) → IsPlan w → (t : List Event) (counts : List ℕ) (rows : List Row) (marks : List Mark) (k y : ℕ) → k < nodes_of w → y ≡ steps k t + 1 → length (row rows k) ≤ w.rounds → w.start (length (row rows k)) + nodes_of w ≤ steps k t → steps k t < w.start (length (row rows k) + 1) → Agrees w t counts rows marks → Agrees w (Step k ∷ t) (set counts k y) rows marks
 keeps_receive w p t counts rows marks k y l e b low high a =
     keeps_step w p t counts rows marks k y marks l e (λ h. high)
-        (λ j i q x z c. a.mark j i q x z c ∙ sym (mark_passed w p t k j i q (omega arith)
-            (λ same at. receive_no_slot w p (length (row rows k)) q i (steps k t) (a.began k l) z low high (sym (ap (λ m. steps m t) same) ∙ at)))) a
+    (λ j i q x z c. a.mark j i q x z c ∙ sym (mark_passed w p t k j i q (omega arith)
+    (λ same at. receive_no_slot w p (length (row rows k)) q i (steps k t) (a.began k l) z low high (sym (ap (λ m. steps m t) same) ∙ at)))) a
 
 pub keeps_idle : (w : World) → IsPlan w → (t : List Event) (counts : List ℕ) (rows : List Row) (marks : List Mark) (k y : ℕ) → k < nodes_of w → y ≡ steps k t + 1 → length (row rows k) ≡ w.rounds + 1 → Agrees w t counts rows marks → Agrees w (Step k ∷ t) (set counts k y) rows marks
 keeps_idle w p t counts rows marks k y l e b a =
@@ -144,8 +145,8 @@ keeps_idle w p t counts rows marks k y l e b a =
     let h : w.start (length (row rows k)) ≤ steps k t = a.past k l in
     let after : w.start (w.rounds + 1) ≤ steps k t = omega (arith, at, h) in
     keeps_step w p t counts rows marks k y marks l e (λ h. absurd (omega arith))
-        (λ j i q x z c. a.mark j i q x z c ∙ sym (mark_passed w p t k j i q (omega arith)
-            (λ same at. idle_no_slot w p q i (steps k t) (omega arith) z after (sym (ap (λ m. steps m t) same) ∙ at)))) a
+    (λ j i q x z c. a.mark j i q x z c ∙ sym (mark_passed w p t k j i q (omega arith)
+    (λ same at. idle_no_slot w p q i (steps k t) (omega arith) z after (sym (ap (λ m. steps m t) same) ∙ at)))) a
 
 -- ---- one place of the table is written
 
@@ -179,18 +180,18 @@ send_mark w p t marks next k d q v x y z n e f j i q' x' y' z' h (Same a b c) =
 send_mark w p t marks next k d q v x y z n e f j i q' x' y' z' h (Apart apart) =
     set_off w marks next k d q j i q' v n x y x' y' apart ∙ h
     ∙ sym (mark_passed w p t k j i q' (omega arith) (λ same at.
-        let s : steps k t ≡ w.start (suc q') + i = sym (ap (λ m. steps m t) same) ∙ at in
-        let long = p.next (suc q) (omega arith) in
-        let r : suc q ≡ suc q' = round_same w p (suc q) q' i (steps k t) (omega arith) y' (omega arith) (omega arith) s in
-        let again = ap w.start r in
-        apart (same, omega arith, omega arith)))
+    let s : steps k t ≡ w.start (suc q') + i = sym (ap (λ m. steps m t) same) ∙ at in
+    let long = p.next (suc q) (omega arith) in
+    let r : suc q ≡ suc q' = round_same w p (suc q) q' i (steps k t) (omega arith) y' (omega arith) (omega arith) s in
+    let again = ap w.start r in
+    apart (same, omega arith, omega arith)))
 
 pub keeps_send : (w : World) → IsPlan w → (t : List Event) (counts : List ℕ) (rows : List Row) (marks next : List Mark) (k d q y : ℕ) (v : Mark) → k < nodes_of w → d < nodes_of w → q < w.rounds → y ≡ steps k t + 1 → length (row rows k) ≡ suc q → steps k t ≡ w.start (suc q) + d → v ≡ spoken (message w t q k d) → Puts marks next (place_of w k d q) v → Agrees w t counts rows marks → Agrees w (Step k ∷ t) (set counts k y) rows next
 keeps_send w p t counts rows marks next k d q y v x z b e n h f g a =
     let size : w.start (length (row rows k) + 1) ≡ w.start (suc q + 1) = ap (λ m. w.start (m + 1)) n in
     let long : w.start (suc q) + nodes_of w < w.start (suc q + 1) = p.next (suc q) (omega arith) in
     keeps_step w p t counts rows marks k y next x e (λ u. omega (arith, size, long, h, z))
-        (λ j i q' x' y' z'. send_mark w p t marks next k d q v x z b g h f j i q' x' y' z' (a.mark j i q' x' y' z') (one_name k d q j i q')) a
+    (λ j i q' x' y' z'. send_mark w p t marks next k d q v x z b g h f j i q' x' y' z' (a.mark j i q' x' y' z') (one_name k d q j i q')) a
 
 -- ---- a release
 
@@ -202,12 +203,12 @@ is_it n j i r a b c = and_from _ _ (and_from _ _ (eq-eqb _ _ a) (eq-eqb _ _ b)) 
 pub is_not_it : (n : Name) (j i q j' i' q' : ℕ) → n.from ≡ j → n.to ≡ i → n.round ≡ suc q → ((j' ≡ j) × (i' ≡ i) × (q' ≡ q) → ⊥) → is_release j' i' (suc q') (Release n) ≡ false
 is_not_it n j i q j' i' q' a b c apart =
     false_from_ne_true _ (λ h.
-        let outer : ((n.from == j' && n.to == i') ≡ true) × ((n.round == suc q') ≡ true) = and_parts _ _ h in
-        let inner : ((n.from == j') ≡ true) × ((n.to == i') ≡ true) = and_parts _ _ outer.0 in
-        let x : n.from ≡ j' = eqb-true _ _ inner.0 in
-        let y : n.to ≡ i' = eqb-true _ _ inner.1 in
-        let z : n.round ≡ suc q' = eqb-true _ _ outer.1 in
-        apart (omega arith, omega arith, omega arith))
+    let outer : ((n.from == j' && n.to == i') ≡ true) × ((n.round == suc q') ≡ true) = and_parts _ _ h in
+    let inner : ((n.from == j') ≡ true) × ((n.to == i') ≡ true) = and_parts _ _ outer.0 in
+    let x : n.from ≡ j' = eqb-true _ _ inner.0 in
+    let y : n.to ≡ i' = eqb-true _ _ inner.1 in
+    let z : n.round ≡ suc q' = eqb-true _ _ outer.1 in
+    apart (omega arith, omega arith, omega arith))
 
 release_mark : (w : World) → IsPlan w → (t : List Event) (marks next : List Mark) (n : Name) (k d q : ℕ) (v : Mark) → k < nodes_of w → d < nodes_of w → q < w.rounds → Puts marks next (place_of w k d q) v → n.from ≡ k → n.to ≡ d → n.round ≡ suc q → v ≡ let_go (steps d t) (mark_of w t k d q) → (j i q' : ℕ) → j < nodes_of w → i < nodes_of w → q' < w.rounds → get_or marks (place_of w j i q') Unsent ≡ mark_of w t j i q' → OneName k d q j i q' → get_or next (place_of w j i q') Unsent ≡ mark_of w (Release n ∷ t) j i q'
 release_mark w p t marks next n k d q v x y z m e f g u j i q' x' y' z' h (Same a b c) =
@@ -222,18 +223,18 @@ release_no_count i n t = steps_other i (Release n) t refl
 
 pub keeps_release : (w : World) → IsPlan w → (t : List Event) (counts : List ℕ) (rows : List Row) (marks next : List Mark) (n : Name) (k d q : ℕ) (v : Mark) → k < nodes_of w → d < nodes_of w → q < w.rounds → n.from ≡ k → n.to ≡ d → n.round ≡ suc q → v ≡ let_go (get_or counts d 0) (get_or marks (place_of w k d q) Unsent) → Puts marks next (place_of w k d q) v → Agrees w t counts rows marks → Agrees w (Release n ∷ t) counts rows next
 keeps_release w p t counts rows marks next n k d q v x y z e f g u m a = record {
-    counted = a.counted;
-    count = λ i b. a.count i b ∙ sym (release_no_count i n t);
-    rowed = a.rowed;
-    began = a.began;
-    bounded = a.bounded;
-    past = λ i b. (let c = release_no_count i n t in omega (arith, a.past i b));
-    near = λ i b l. (let c = release_no_count i n t in omega (arith, a.near i b l));
-    stated = λ i r b c. stated_at w p (Release n) t (length (row rows i)) r i _ c (a.bounded i b) (a.past i b) (a.stated i r b c);
-    mark = λ j i q' x' y' z'. release_mark w p t marks next n k d q v x y z m e f g
-        (u ∙ ap (λ o. let_go o (get_or marks (place_of w k d q) Unsent)) (a.count d y) ∙ ap (let_go (steps d t)) (a.mark k d q x y z))
-        j i q' x' y' z' (a.mark j i q' x' y' z') (one_name k d q j i q');
-  }
+  counted = a.counted;
+  count = λ i b. a.count i b ∙ sym (release_no_count i n t);
+  rowed = a.rowed;
+  began = a.began;
+  bounded = a.bounded;
+  past = λ i b. (let c = release_no_count i n t in omega (arith, a.past i b));
+  near = λ i b l. (let c = release_no_count i n t in omega (arith, a.near i b l));
+  stated = λ i r b c. stated_at w p (Release n) t (length (row rows i)) r i _ c (a.bounded i b) (a.past i b) (a.stated i r b c);
+  mark = λ j i q' x' y' z'. release_mark w p t marks next n k d q v x y z m e f g
+      (u ∙ ap (λ o. let_go o (get_or marks (place_of w k d q) Unsent)) (a.count d y) ∙ ap (let_go (steps d t)) (a.mark k d q x y z))
+      j i q' x' y' z' (a.mark j i q' x' y' z') (one_name k d q j i q');
+}
 
 -- ---- a round is closed
 
@@ -294,15 +295,15 @@ keeps_close w p t counts rows marks k v x d e f a =
     let of : (i : ℕ) → RowOf rows k v i (set rows k (row rows k ++ v ∷ [])) = λ i. row_of_by rows k v i (let n = a.rowed in omega arith) (cases_eq i k) in
     let next = set rows k (row rows k ++ v ∷ []) in
     record {
-        counted = a.counted;
-        count = a.count;
-        rowed = length-set rows k (row rows k ++ v ∷ []) ∙ a.rowed;
-        began = λ i b. close_began rows next k v i (a.began i b) (of i);
-        bounded = λ i b. close_bounded rows next k v i w.rounds d (a.bounded i b) (of i);
-        past = λ i b. close_past w t rows next k v i e (a.past i b) (of i);
-        near = λ i b. close_near w p t rows next k v i d (a.near i b) (of i);
-        stated = λ i r b l. close_stated w t rows next k v i r x f a.stated (of i) b l;
-        mark = a.mark;
+      counted = a.counted;
+      count = a.count;
+      rowed = length-set rows k (row rows k ++ v ∷ []) ∙ a.rowed;
+      began = λ i b. close_began rows next k v i (a.began i b) (of i);
+      bounded = λ i b. close_bounded rows next k v i w.rounds d (a.bounded i b) (of i);
+      past = λ i b. close_past w t rows next k v i e (a.past i b) (of i);
+      near = λ i b. close_near w p t rows next k v i d (a.near i b) (of i);
+      stated = λ i r b l. close_stated w t rows next k v i r x f a.stated (of i) b l;
+      mark = a.mark;
     }
 
 -- ---- the start
@@ -315,17 +316,17 @@ row_first w i l = get_or-map-range_with_len (λ j. w.algorithm.init j ∷ []) 0 
 pub agrees_empty : (w : World) → IsPlan w → (counts : List ℕ) (rows : List Row) → counts ≡ replicate (nodes_of w) 0 → rows ≡ first_rows w → Agrees w [] counts rows []
 unfolding steps rounds
 agrees_empty w p counts rows a b = record {
-    counted = ap length a ∙ length-replicate (nodes_of w) 0;
-    count = λ i l. ap (λ z. get_or z i 0) a ∙ get_or-replicate (nodes_of w) i 0 0 l;
-    rowed = ap length b ∙ length-map-range_with_len (λ j. w.algorithm.init j ∷ []) 0 (nodes_of w);
-    began = λ i l. rw (b, row_first w i l) (omega arith);
-    bounded = λ i l. rw (b, row_first w i l) (omega arith);
-    past = λ i l. rw (b, row_first w i l) (let h = p.first in omega arith);
-    near = λ i l k. omega arith;
-    stated = λ i r l k.
-        let row_is : row rows i ≡ w.algorithm.init i ∷ [] = ap (λ z. row z i) b ∙ row_first w i l in
-        let size = ap length row_is in
-        let zero_is : r ≡ 0 = omega arith in
-        ap (λ z. get_or z r []) row_is ∙ rw zero_is refl;
-    mark = λ j i q x y z. sym (mark_before w [] j i q (omega arith));
-  }
+  counted = ap length a ∙ length-replicate (nodes_of w) 0;
+  count = λ i l. ap (λ z. get_or z i 0) a ∙ get_or-replicate (nodes_of w) i 0 0 l;
+  rowed = ap length b ∙ length-map-range_with_len (λ j. w.algorithm.init j ∷ []) 0 (nodes_of w);
+  began = λ i l. rw (b, row_first w i l) (omega arith);
+  bounded = λ i l. rw (b, row_first w i l) (omega arith);
+  past = λ i l. rw (b, row_first w i l) (let h = p.first in omega arith);
+  near = λ i l k. omega arith;
+  stated = λ i r l k.
+      let row_is : row rows i ≡ w.algorithm.init i ∷ [] = ap (λ z. row z i) b ∙ row_first w i l in
+      let size = ap length row_is in
+      let zero_is : r ≡ 0 = omega arith in
+      ap (λ z. get_or z r []) row_is ∙ rw zero_is refl;
+  mark = λ j i q x y z. sym (mark_before w [] j i q (omega arith));
+}

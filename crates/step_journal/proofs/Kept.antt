@@ -43,15 +43,15 @@ state_kept w p e t (suc r) i l n =
     let up : w.start (r + 1) ≤ w.start (suc r + 1) = start_le w p (r + 1) (suc r + 1) (omega arith) (omega arith) in
     let me : state w (e ∷ t) r i ≡ state w t r i = state_kept w p e t r i (omega arith) (omega arith) in
     let same = inbox_same
-            (λ j. if not (carried w (e ∷ t) i (suc r) j) then None else received j (w.algorithm.send (suc r) (state w (e ∷ t) r j) j i))
-            (λ j. if not (carried w t i (suc r) j) then None else received j (w.algorithm.send (suc r) (state w t r j) j i))
-            (nodes_of w)
-            (λ j b. heard_same (carried w t i (suc r) j) (carried w (e ∷ t) i (suc r) j) j _ _
-                (carried_kept w p i (suc r) j e t (omega arith) l n)
-                (λ c.
-                    let past = carried_sent w t i (suc r) j c in
-                    let again = ap w.start (add-one r) in
-                    ap (λ z. w.algorithm.send (suc r) z j i) (state_kept w p e t r j (omega arith) (omega arith)))) in
+    (λ j. if not (carried w (e ∷ t) i (suc r) j) then None else received j (w.algorithm.send (suc r) (state w (e ∷ t) r j) j i))
+    (λ j. if not (carried w t i (suc r) j) then None else received j (w.algorithm.send (suc r) (state w t r j) j i))
+    (nodes_of w)
+    (λ j b. heard_same (carried w t i (suc r) j) (carried w (e ∷ t) i (suc r) j) j _ _
+    (carried_kept w p i (suc r) j e t (omega arith) l n)
+    (λ c.
+    let past = carried_sent w t i (suc r) j c in
+    let again = ap w.start (add-one r) in
+    ap (λ z. w.algorithm.send (suc r) z j i) (state_kept w p e t r j (omega arith) (omega arith)))) in
     end_same w (suc r) i _ _ _ _ same me
 
 -- ---- the record of a message
@@ -83,7 +83,7 @@ released_same w j i r e t h (NotIt a s k x y) = y ∙ sym x
 pub mark_kept : (w : World) → IsPlan w → (e : Event) (t : List Event) (j i q : ℕ) → suc q ≤ w.rounds → sends w j i (suc q) e t ≡ false → is_release j i (suc q) e ≡ false → mark_of w (e ∷ t) j i q ≡ mark_of w t j i q
 mark_kept w p e t j i q l s r =
     mark_kept_at w p e t j i q l (sent_by w j i (suc q) t) (first_skip (sends w j i (suc q)) e t s)
-        (released_same w j i (suc q) e t r (released_by w j i (suc q) e t))
+    (released_same w j i (suc q) e t r (released_by w j i (suc q) e t))
 
 -- before its slot
 mark_before_at : (w : World) (t : List Event) (j i q : ℕ) → SentBy w j i (suc q) t → steps j t ≤ w.start (suc q) + i → mark_of w t j i q ≡ Unsent

@@ -26,7 +26,6 @@ use Rattle.step_journal.proofs.WaitsKept.{idle_is_no_receive, waits_step, waits_
 use Rattle.step_journal.proofs.AccountsKept.{accounts_step, accounts_receive, accounts_release}
 use Rattle.step_journal.proofs.Tables.{puts_same}
 use Rattle.step_journal.proofs.Reading.{nodes_are, one_of}
-
 use Rattle.step_journal.proofs.Events.{pushed, send_round, no_slot, slot_no_receive, message_is, idle_none}
 
 -- names are equal by their parts
@@ -128,8 +127,8 @@ module _ {start : ℕ → ℕ} {nodes : ℕ} {v : Log} {counts : List ℕ} {mark
       let first_too = b.first in
       ap (λ t. mark_of w t m.from m.to (m.round - 1)) (happened_first v (Release n))
       ∙ mark_kept w h.plan (Release n) (history v) m.from m.to (m.round - 1) (omega arith) refl
-          (is_not_it n n.from n.to (n.round - 1) m.from m.to (m.round - 1) refl refl (omega arith)
-              (λ same. apart (name_same m n same.0 same.1 (let q = same.2 in omega arith))))
+      (is_not_it n n.from n.to (n.round - 1) m.from m.to (m.round - 1) refl refl (omega arith)
+      (λ same. apart (name_same m n same.0 same.1 (let q = same.2 in omega arith))))
 
   pub released_waiting : (n : Name) → waiting_in start (happened v (Release n)) n.to ≡ waiting_in start v n.to ++ arrival n (mark_in start v n)
   released_waiting n = ap (buffer_of (world_of start v) n.to) (happened_first v (Release n)) ∙ buffer_grown (world_of start v) n.to n (history v) refl

@@ -23,7 +23,6 @@ receives_by_before w p (suc n) q x l h =
     let off : ltb x (w.start (suc n + 1)) ≡ false = le-ltb x (w.start (suc n + 1)) (omega arith) in
     rw (receives_by_before w p n q x (omega arith) h) (and_right (leb (w.start (suc n) + nodes_of w) x) (ltb x (w.start (suc n + 1))) off)
 
-
 -- the newest round is q, or one after it
 receives_by_more : (w : World) → IsPlan w → (n q x : ℕ) → 0 < q → q ≤ suc n → w.start q ≤ x → x < w.start (q + 1) → (n < q) ⊎ (q ≤ n) → (q ≤ n → receives_by w n x ≡ leb (w.start q + nodes_of w) x) → receives_by w (suc n) x ≡ leb (w.start q + nodes_of w) x
 receives_by_more w p n q x z l h k (inl new) ih =

@@ -47,13 +47,13 @@ module _ {start : ℕ → ℕ} {nodes : ℕ} {v : Log} {counts : List ℕ} {mark
 
   pub faithful : IsFaithful start v
   faithful = record {
-      rowed = rows_len;
-      began = λ i l. h.book.began i (one_of start v i l);
-      bounded = λ i l. h.book.bounded i (one_of start v i l);
-      past = λ i l. h.book.past i (one_of start v i l);
-      near = λ i l m. h.book.near i (one_of start v i l) m;
-      stated = λ i r l m. h.book.stated i r (one_of start v i l) m;
-    }
+    rowed = rows_len;
+    began = λ i l. h.book.began i (one_of start v i l);
+    bounded = λ i l. h.book.bounded i (one_of start v i l);
+    past = λ i l. h.book.past i (one_of start v i l);
+    near = λ i l m. h.book.near i (one_of start v i l) m;
+    stated = λ i r l m. h.book.stated i r (one_of start v i l) m;
+  }
 
   pub count_read : (k x : ℕ) → k < v.setup.nodes → x ≡ get_or counts k x → x ≡ count_of v k
   count_read k x l e = e ∙ sym (get_or_default counts k 0 x (let n = counts_len in omega (arith, n))) ∙ h.book.count k (one_of start v k l)

@@ -29,9 +29,9 @@ rows_push {A} {B} xs ys y f n e s h =
 -- a plan that keeps the laws is a plan of the run
 pub plan_is : (start receives : ℕ → ℕ) (nodes : ℕ) (v : Log) → PlanLaws nodes receives start → nodes ≡ v.setup.nodes → IsPlan (world_of start v)
 plan_is start receives nodes v laws e = record {
-    first = laws.first_start;
-    next = λ r z. (let n = nodes_are start v in let up = laws.next_start r z in let some = laws.some_receive r z in omega arith);
-  }
+  first = laws.first_start;
+  next = λ r z. (let n = nodes_are start v in let up = laws.next_start r z in let some = laws.some_receive r z in omega arith);
+}
 
 buffer_empty : (w : World) (i : ℕ) → buffer_of w i [] ≡ []
 unfolding buffer_of
@@ -53,19 +53,19 @@ begins start receives nodes v p s counts marks waiting handed told laws lawful n
     let m = nodes_are start o in
     let plan = plan_is start receives nodes o laws n in
     rw (is, b) (record {
-        lawful = lawful;
-        sized = n;
-        plan = plan;
-        book = agrees_empty w plan counts o.rows (a ∙ ap (λ x. replicate x 0) (sym m)) (ap (λ x. map (λ i. w.algorithm.init i ∷ []) (range_with_len 0 x)) (sym m));
-        waits = rw c (record {
-            sized = length-replicate s.nodes [] ∙ sym m;
-            held = λ i l. get_or-replicate s.nodes i [] [] (omega arith) ∙ sym (buffer_empty w i);
-        });
-        accounts = rw (d, e) (record {
-            sized = length-replicate s.nodes [] ∙ sym m;
-            handed = λ i l. get_or-replicate s.nodes i [] [] (omega arith) ∙ sym (handed_empty w i);
-            told = sym (told_empty w);
-        });
+      lawful = lawful;
+      sized = n;
+      plan = plan;
+      book = agrees_empty w plan counts o.rows (a ∙ ap (λ x. replicate x 0) (sym m)) (ap (λ x. map (λ i. w.algorithm.init i ∷ []) (range_with_len 0 x)) (sym m));
+      waits = rw c (record {
+        sized = length-replicate s.nodes [] ∙ sym m;
+        held = λ i l. get_or-replicate s.nodes i [] [] (omega arith) ∙ sym (buffer_empty w i);
+      });
+      accounts = rw (d, e) (record {
+        sized = length-replicate s.nodes [] ∙ sym m;
+        handed = λ i l. get_or-replicate s.nodes i [] [] (omega arith) ∙ sym (handed_empty w i);
+        told = sym (told_empty w);
+      });
     })
 
 -- the parts of a run that begins

@@ -64,19 +64,19 @@ name_cases n m = name_cases_by n m (cases_eq _ _) (cases_eq _ _) (cases_eq _ _)
 -- a frame is as genuine where a row grew
 grown_frame : (a : Algorithm) (rows next : List Row) (k : ℕ) (x : List Value) (g : Frame) → RowOf rows k x g.name.from next → IsGenuine a rows g → IsGenuine a next g
 grown_frame a rows next k x g (Stays e) h = record {
-    spells = h.spells;
-    first = h.first;
-    past = (let p = h.past in let s = ap length e in omega arith);
-    own = ap (λ r. get_or r (g.name.round - 1) []) e ∙ h.own;
-  }
+  spells = h.spells;
+  first = h.first;
+  past = (let p = h.past in let s = ap length e in omega arith);
+  own = ap (λ r. get_or r (g.name.round - 1) []) e ∙ h.own;
+}
 grown_frame a rows next k x g (Grown same e) h = record {
-    spells = h.spells;
-    first = h.first;
-    past = (let p = h.past in let s = ap length e ∙ length_push (row rows k) x in let t = ap (λ z. length (row rows z)) same in omega arith);
-    own = ap (λ r. get_or r (g.name.round - 1) []) e
+  spells = h.spells;
+  first = h.first;
+  past = (let p = h.past in let s = ap length e ∙ length_push (row rows k) x in let t = ap (λ z. length (row rows z)) same in omega arith);
+  own = ap (λ r. get_or r (g.name.round - 1) []) e
       ∙ get_or_append_left (row rows k) (x ∷ []) [] (g.name.round - 1) (let p = h.past in let q = h.first in let t = ap (λ z. length (row rows z)) same in omega arith)
       ∙ ap (λ z. get_or (row rows z) (g.name.round - 1) []) (sym same) ∙ h.own;
-  }
+}
 
 grown_flies : (a : Algorithm) (rows : List Row) (k : ℕ) (x : List Value) (n : Name) (m : Mark) (o : Option Frame) → k < length rows → Flies a rows n m o → Flies a (set rows k (row rows k ++ x ∷ [])) n m o
 grown_flies a rows k x n Unsent o l h = h
@@ -128,42 +128,46 @@ place_view {P} n place e h = subst (λ (z : Recorded P). place ≡ place_among z
 pub fits_open : (start : ℕ → ℕ) (p : ProgramTree) (s : Setup) (bs : List Stock) → AreEmpty s.nodes bs → Fits start (opened p s) bs
 unfolding buffer_of steps
 fits_open start p s bs h = record {
-    sized = h.sized;
-    waiting = λ i l. ap names_in (stock i l).1;
-    genuine = λ i l. All-same (IsGenuine (algorithm_of p s) (opened p s).rows) _ [] (stock i l).1 (λ x y z. absurd (omega arith));
-    flying = λ n a. flies_same (algorithm_of p s) (opened p s).rows n Unsent _ None _ (before n) (ap (λ (x : List (Option Frame)). get_or x (place_among s.nodes n) None) (stock n.to a.to).0) refl;
-  }
+  sized = h.sized;
+  waiting = λ i l. ap names_in (stock i l).1;
+  genuine = λ i l. All-same (IsGenuine (algorithm_of p s) (opened p s).rows) _ [] (stock i l).1 (λ x y z. absurd (omega arith));
+  flying = λ n a. flies_same (algorithm_of p s) (opened p s).rows n Unsent _ None _ (before n) (ap (λ (x : List (Option Frame)). get_or x (place_among s.nodes n) None) (stock n.to a.to).0) refl;
+}
   where
     stock : (i : ℕ) → i < s.nodes → ((stock_at bs i).flying ≡ []) × ((stock_at bs i).waiting ≡ [])
     stock i l = h.each i no_stock (let z = h.sized in omega arith)
+
     before : (n : Name) → mark_in start (opened p s) n ≡ Unsent
     before n = mark_before (world_of start (opened p s)) [] n.from n.to (n.round - 1) (omega arith)
 
 -- one empty stock more
 pub empty_push : (n : ℕ) (xs ys : List Stock) (b : Stock) → ys ≡ xs ++ b ∷ [] → b.flying ≡ [] → b.waiting ≡ [] → AreEmpty n xs → AreEmpty (n + 1) ys
 empty_push n xs ys b e x y h = record {
-    sized = ap length e ∙ length_push xs b ∙ ap (λ z. z + 1) h.sized;
-    each = All-same (λ (b : Stock). (b.flying ≡ []) × (b.waiting ≡ [])) _ _ e (All-push (λ (b : Stock). (b.flying ≡ []) × (b.waiting ≡ [])) xs b h.each (x, y));
-  }
+  sized = ap length e ∙ length_push xs b ∙ ap (λ z. z + 1) h.sized;
+  each = All-same (λ (b : Stock). (b.flying ≡ []) × (b.waiting ≡ [])) _ _ e (All-push (λ (b : Stock). (b.flying ≡ []) × (b.waiting ≡ [])) xs b h.each (x, y));
+}
 
 module _ {start : ℕ → ℕ} {v : Log} {bs : List Stock} (f : Fits start v bs) where
   -- a receive takes what waits for its node, and leaves all else
   pub fits_receive : (k : ℕ) (old new : Stock) → k < v.setup.nodes → old ≡ get_or bs k old → new.flying ≡ old.flying → new.waiting ≡ [] → SameMarks start v (happened v (Step k)) → waiting_in start (happened v (Step k)) k ≡ [] → SameWaitingBut start k v (happened v (Step k)) → Fits start (happened v (Step k)) (set bs k new)
   fits_receive k old new l h e d marks own others = record {
-      sized = length-set bs k new ∙ f.sized;
-      waiting = λ i m. waits i m (cases_eq i k);
-      genuine = λ i m. each i m (cases_eq i k);
-      flying = λ n a. flies_same _ _ n _ _ _ _ (marks n a) (flies n a (cases_eq n.to k)) (f.flying n a);
-    }
+    sized = length-set bs k new ∙ f.sized;
+    waiting = λ i m. waits i m (cases_eq i k);
+    genuine = λ i m. each i m (cases_eq i k);
+    flying = λ n a. flies_same _ _ n _ _ _ _ (marks n a) (flies n a (cases_eq n.to k)) (f.flying n a);
+  }
     where
       in_list : k < length bs
       in_list = let s = f.sized in omega arith
+
       waits : (i : ℕ) → i < v.setup.nodes → (i ≡ k) ⊎ (i ≡ k → ⊥) → names_in (stock_at (set bs k new) i).waiting ≡ waiting_in start (happened v (Step k)) i
       waits i m (inl same) = rw same (ap (λ (b : Stock). names_in b.waiting) (written_at bs k new in_list) ∙ ap names_in d ∙ sym own)
       waits i m (inr apart) = ap (λ (b : Stock). names_in b.waiting) (written_off bs k i new apart) ∙ f.waiting i m ∙ sym (others i apart)
+
       each : (i : ℕ) → i < v.setup.nodes → (i ≡ k) ⊎ (i ≡ k → ⊥) → All (IsGenuine (algorithm_of v.program v.setup) v.rows) (stock_at (set bs k new) i).waiting
       each i m (inl same) = All-same (IsGenuine (algorithm_of v.program v.setup) v.rows) _ [] (ap (λ x. (stock_at (set bs k new) x).waiting) same ∙ ap (λ (b : Stock). b.waiting) (written_at bs k new in_list) ∙ d) (λ x y z. absurd (omega arith))
       each i m (inr apart) = All-same (IsGenuine (algorithm_of v.program v.setup) v.rows) _ _ (ap (λ (b : Stock). b.waiting) (written_off bs k i new apart)) (f.genuine i m)
+
       flies : (n : Name) → IsName v.setup n → (n.to ≡ k) ⊎ (n.to ≡ k → ⊥) → flying_at (stock_at (set bs k new) n.to) (place_among v.setup.nodes n) ≡ flying_at (stock_at bs n.to) (place_among v.setup.nodes n)
       flies n a (inl same) =
           let there : stock_at (set bs k new) n.to ≡ new = ap (stock_at (set bs k new)) same ∙ written_at bs k new in_list in
@@ -175,28 +179,30 @@ module _ {start : ℕ → ℕ} {v : Log} {bs : List Stock} (f : Fits start v bs)
   -- an event that changes no message and no buffer
   pub fits_same : (e : Event) → SameMarks start v (happened v e) → SameWaiting start v (happened v e) → Fits start (happened v e) bs
   fits_same e marks waits = record {
-      sized = f.sized;
-      waiting = λ i m. f.waiting i m ∙ sym (waits i);
-      genuine = f.genuine;
-      flying = λ n a. flies_same _ _ n _ _ _ _ (marks n a) refl (f.flying n a);
-    }
+    sized = f.sized;
+    waiting = λ i m. f.waiting i m ∙ sym (waits i);
+    genuine = f.genuine;
+    flying = λ n a. flies_same _ _ n _ _ _ _ (marks n a) refl (f.flying n a);
+  }
 
   -- one stock that reads the same
   pub fits_kept : (k : ℕ) (old new : Stock) → k < v.setup.nodes → old ≡ get_or bs k old → SameFlying old new → new.waiting ≡ old.waiting → Fits start v (set bs k new)
   fits_kept k old new l h e d = record {
-      sized = length-set bs k new ∙ f.sized;
-      waiting = λ i m. ap names_in (waits i (cases_eq i k)) ∙ f.waiting i m;
-      genuine = λ i m. All-same (IsGenuine (algorithm_of v.program v.setup) v.rows) _ _ (waits i (cases_eq i k)) (f.genuine i m);
-      flying = λ n a. flies_same _ _ n _ _ _ _ refl (flies n (cases_eq n.to k)) (f.flying n a);
-    }
+    sized = length-set bs k new ∙ f.sized;
+    waiting = λ i m. ap names_in (waits i (cases_eq i k)) ∙ f.waiting i m;
+    genuine = λ i m. All-same (IsGenuine (algorithm_of v.program v.setup) v.rows) _ _ (waits i (cases_eq i k)) (f.genuine i m);
+    flying = λ n a. flies_same _ _ n _ _ _ _ refl (flies n (cases_eq n.to k)) (f.flying n a);
+  }
     where
       in_list : k < length bs
       in_list = let s = f.sized in omega arith
+
       waits : (i : ℕ) → (i ≡ k) ⊎ (i ≡ k → ⊥) → (stock_at (set bs k new) i).waiting ≡ (stock_at bs i).waiting
       waits i (inl same) =
           ap (λ x. (stock_at (set bs k new) x).waiting) same ∙ ap (λ (b : Stock). b.waiting) (written_at bs k new in_list) ∙ d
           ∙ ap (λ (b : Stock). b.waiting) (sym (stock_read bs k old in_list h)) ∙ ap (λ x. (stock_at bs x).waiting) (sym same)
       waits i (inr apart) = ap (λ (b : Stock). b.waiting) (written_off bs k i new apart)
+
       flies : (n : Name) → (n.to ≡ k) ⊎ (n.to ≡ k → ⊥) → flying_at (stock_at (set bs k new) n.to) (place_among v.setup.nodes n) ≡ flying_at (stock_at bs n.to) (place_among v.setup.nodes n)
       flies n (inl same) =
           let there : stock_at (set bs k new) n.to ≡ new = ap (stock_at (set bs k new)) same ∙ written_at bs k new in_list in
@@ -209,20 +215,23 @@ module _ {start : ℕ → ℕ} {v : Log} {bs : List Stock} (f : Fits start v bs)
   pub fits_mark : (e : Event) (n : Name) (old new : Stock) (o : Option Frame) → IsName v.setup n → old ≡ get_or bs n.to old → flying_at new (place_among v.setup.nodes n) ≡ o → ((p : ℕ) → p ≢ place_among v.setup.nodes n → flying_at new p ≡ flying_at old p) → SameMarksBut start n v (happened v e) → Flies (algorithm_of v.program v.setup) v.rows n (mark_in start (happened v e) n) o →
       names_in new.waiting ≡ waiting_in start (happened v e) n.to → All (IsGenuine (algorithm_of v.program v.setup) v.rows) new.waiting → SameWaitingBut start n.to v (happened v e) → Fits start (happened v e) (set bs n.to new)
   fits_mark e n old new o a h there others marks own names genuine waits = record {
-      sized = length-set bs n.to new ∙ f.sized;
-      waiting = λ i m. wait i m (cases_eq i n.to);
-      genuine = λ i m. each i m (cases_eq i n.to);
-      flying = λ m b. flies m b (name_cases m n);
-    }
+    sized = length-set bs n.to new ∙ f.sized;
+    waiting = λ i m. wait i m (cases_eq i n.to);
+    genuine = λ i m. each i m (cases_eq i n.to);
+    flying = λ m b. flies m b (name_cases m n);
+  }
     where
       in_list : n.to < length bs
       in_list = let s = f.sized in let t = a.to in omega arith
+
       wait : (i : ℕ) → i < v.setup.nodes → (i ≡ n.to) ⊎ (i ≡ n.to → ⊥) → names_in (stock_at (set bs n.to new) i).waiting ≡ waiting_in start (happened v e) i
       wait i m (inl same) = rw same (ap (λ (b : Stock). names_in b.waiting) (written_at bs n.to new in_list) ∙ names)
       wait i m (inr apart) = ap (λ (b : Stock). names_in b.waiting) (written_off bs n.to i new apart) ∙ f.waiting i m ∙ sym (waits i apart)
+
       each : (i : ℕ) → i < v.setup.nodes → (i ≡ n.to) ⊎ (i ≡ n.to → ⊥) → All (IsGenuine (algorithm_of v.program v.setup) v.rows) (stock_at (set bs n.to new) i).waiting
       each i m (inl same) = All-same (IsGenuine (algorithm_of v.program v.setup) v.rows) _ _ (ap (λ x. (stock_at (set bs n.to new) x).waiting) same ∙ ap (λ (b : Stock). b.waiting) (written_at bs n.to new in_list)) genuine
       each i m (inr apart) = All-same (IsGenuine (algorithm_of v.program v.setup) v.rows) _ _ (ap (λ (b : Stock). b.waiting) (written_off bs n.to i new apart)) (f.genuine i m)
+
       off : (m : Name) → IsName v.setup m → (m ≡ n → ⊥) → (m.to ≡ n.to) ⊎ (m.to ≡ n.to → ⊥) → flying_at (stock_at (set bs n.to new) m.to) (place_among v.setup.nodes m) ≡ flying_at (stock_at bs m.to) (place_among v.setup.nodes m)
       off m b apart (inl same) =
           let new_is : stock_at (set bs n.to new) m.to ≡ new = ap (stock_at (set bs n.to new)) same ∙ written_at bs n.to new in_list in
@@ -231,6 +240,7 @@ module _ {start : ℕ → ℕ} {v : Log} {bs : List Stock} (f : Fits start v bs)
           ∙ others (place_among v.setup.nodes m) (place_apart v.setup.nodes m n b.from a.from same b.first a.first apart)
           ∙ ap (λ (x : Stock). flying_at x (place_among v.setup.nodes m)) (sym old_is)
       off m b apart (inr other) = ap (λ (x : Stock). flying_at x (place_among v.setup.nodes m)) (written_off bs n.to m.to new other)
+
       flies : (m : Name) → IsName v.setup m → (m ≡ n) ⊎ (m ≡ n → ⊥) → Flies (algorithm_of v.program v.setup) v.rows m (mark_in start (happened v e) m) (flying_at (stock_at (set bs n.to new) m.to) (place_among v.setup.nodes m))
       flies m b (inl same) =
           let P : Name → Type 0 = λ x. Flies (algorithm_of v.program v.setup) v.rows x (mark_in start (happened v e) x) (flying_at (stock_at (set bs n.to new) x.to) (place_among v.setup.nodes x)) in
@@ -240,11 +250,11 @@ module _ {start : ℕ → ℕ} {v : Log} {bs : List Stock} (f : Fits start v bs)
   -- silence flies nowhere
   pub fits_silent : (n : Name) → mark_in start v n ≡ Unsent → mark_in start (happened v (Step n.from)) n ≡ Silent → SameMarksBut start n v (happened v (Step n.from)) → SameWaiting start v (happened v (Step n.from)) → Fits start (happened v (Step n.from)) bs
   fits_silent n before after marks waits = record {
-      sized = f.sized;
-      waiting = λ i m. f.waiting i m ∙ sym (waits i);
-      genuine = f.genuine;
-      flying = λ m b. flies m b (name_cases m n);
-    }
+    sized = f.sized;
+    waiting = λ i m. f.waiting i m ∙ sym (waits i);
+    genuine = f.genuine;
+    flying = λ m b. flies m b (name_cases m n);
+  }
     where
       flies : (m : Name) → IsName v.setup m → (m ≡ n) ⊎ (m ≡ n → ⊥) → Flies (algorithm_of v.program v.setup) v.rows m (mark_in start (happened v (Step n.from)) m) (flying_at (stock_at bs m.to) (place_among v.setup.nodes m))
       flies m b (inl same) =
@@ -266,13 +276,13 @@ module _ {start : ℕ → ℕ} {v : Log} {bs : List Stock} (f : Fits start v bs)
       let genuine : IsGenuine a0 v.rows frame = record { spells = record { says = work.says ∙ is }; first = a.first; past = omega arith; own = fit.2 } in
       let was : stock_at bs n.to ≡ old = stock_read bs n.to old (let s = f.sized in let t = a.to in omega arith) h in
       fits_mark (Step n.from) n old new (Some frame) a h
-          (ap (λ (x : List (Option Frame)). get_or x place None) e ∙ get_or-set_same old.flying place (Some frame) None l)
-          (λ q ne. ap (λ (x : List (Option Frame)). get_or x q None) e ∙ get_or-set_other old.flying place q (Some frame) None ne)
-          marks
-          (flies_same a0 v.rows n Flying _ (Some frame) (Some frame) flying refl (refl, genuine))
-          (ap names_in d ∙ ap (λ (b : Stock). names_in b.waiting) (sym was) ∙ f.waiting n.to a.to ∙ sym (waits n.to))
-          (All-same (IsGenuine a0 v.rows) _ _ (d ∙ ap (λ (b : Stock). b.waiting) (sym was)) (f.genuine n.to a.to))
-          (λ i apart. waits i)
+      (ap (λ (x : List (Option Frame)). get_or x place None) e ∙ get_or-set_same old.flying place (Some frame) None l)
+      (λ q ne. ap (λ (x : List (Option Frame)). get_or x q None) e ∙ get_or-set_other old.flying place q (Some frame) None ne)
+      marks
+      (flies_same a0 v.rows n Flying _ (Some frame) (Some frame) flying refl (refl, genuine))
+      (ap names_in d ∙ ap (λ (b : Stock). names_in b.waiting) (sym was) ∙ f.waiting n.to a.to ∙ sym (waits n.to))
+      (All-same (IsGenuine a0 v.rows) _ _ (d ∙ ap (λ (b : Stock). b.waiting) (sym was)) (f.genuine n.to a.to))
+      (λ i apart. waits i)
 
   -- the frame of a message in flight
   pub frame_there : (n : Name) (old : Stock) → IsName v.setup n → IsFlying start v n → old ≡ get_or bs n.to old → IsSomeAnd (flying_at old (place_among v.setup.nodes n)) (λ x. (x.name ≡ n) × IsGenuine (algorithm_of v.program v.setup) v.rows x)
@@ -290,13 +300,13 @@ module _ {start : ℕ → ℕ} {v : Log} {bs : List Stock} (f : Fits start v bs)
       let released : mark_in start (happened v (Release n)) n ≡ Released (count_of v n.to) = mark ∙ ap (let_go (count_of v n.to)) fly in
       let arrived = arrives a0 v.rows n old.waiting (flying_at old place) there in
       fits_mark (Release n) n old new None a h
-          (ap (λ (x : List (Option Frame)). get_or x place None) e ∙ get_or-set_same old.flying place None None (there_in a0 v.rows n old place there))
-          (λ q ne. ap (λ (x : List (Option Frame)). get_or x q None) e ∙ get_or-set_other old.flying place q None None ne)
-          marks
-          (flies_same a0 v.rows n (Released (count_of v n.to)) _ None None released refl refl)
-          (ap names_in d ∙ arrived.0 ∙ ap (λ x. x ++ n ∷ []) (ap (λ (b : Stock). names_in b.waiting) (sym was) ∙ f.waiting n.to a.to) ∙ ap (λ x. waiting_in start v n.to ++ arrival n x) (sym fly) ∙ sym names)
-          (All-same (IsGenuine a0 v.rows) _ _ d (arrived.1 (All-same (IsGenuine a0 v.rows) _ _ (ap (λ (b : Stock). b.waiting) (sym was)) (f.genuine n.to a.to))))
-          waits
+      (ap (λ (x : List (Option Frame)). get_or x place None) e ∙ get_or-set_same old.flying place None None (there_in a0 v.rows n old place there))
+      (λ q ne. ap (λ (x : List (Option Frame)). get_or x q None) e ∙ get_or-set_other old.flying place q None None ne)
+      marks
+      (flies_same a0 v.rows n (Released (count_of v n.to)) _ None None released refl refl)
+      (ap names_in d ∙ arrived.0 ∙ ap (λ x. x ++ n ∷ []) (ap (λ (b : Stock). names_in b.waiting) (sym was) ∙ f.waiting n.to a.to) ∙ ap (λ x. waiting_in start v n.to ++ arrival n x) (sym fly) ∙ sym names)
+      (All-same (IsGenuine a0 v.rows) _ _ d (arrived.1 (All-same (IsGenuine a0 v.rows) _ _ (ap (λ (b : Stock). b.waiting) (sym was)) (f.genuine n.to a.to))))
+      waits
 
   -- what isn't in flight doesn't move
   pub fits_let_be : (n : Name) → (IsFlying start v n → ⊥) → mark_in start (happened v (Release n)) n ≡ let_go (count_of v n.to) (mark_in start v n) → SameMarksBut start n v (happened v (Release n)) → waiting_in start (happened v (Release n)) n.to ≡ waiting_in start v n.to ++ arrival n (mark_in start v n) → SameWaitingBut start n.to v (happened v (Release n)) → Fits start (happened v (Release n)) bs
@@ -305,6 +315,7 @@ module _ {start : ℕ → ℕ} {v : Log} {bs : List Stock} (f : Fits start v bs)
       same : (m : Name) → IsName v.setup m → (m ≡ n) ⊎ (m ≡ n → ⊥) → mark_in start (happened v (Release n)) m ≡ mark_in start v m
       same m b (inl is) = ap (mark_in start (happened v (Release n))) is ∙ mark ∙ let_go_idle (count_of v n.to) (mark_in start v n) off ∙ ap (mark_in start v) (sym is)
       same m b (inr apart) = marks m b apart
+
       wait : (i : ℕ) → (i ≡ n.to) ⊎ (i ≡ n.to → ⊥) → waiting_in start (happened v (Release n)) i ≡ waiting_in start v i
       wait i (inl is) =
           ap (waiting_in start (happened v (Release n))) is ∙ names ∙ ap (λ x. waiting_in start v n.to ++ x) (arrival_idle n (mark_in start v n) off)
@@ -314,11 +325,11 @@ module _ {start : ℕ → ℕ} {v : Log} {bs : List Stock} (f : Fits start v bs)
   -- a closed round changes no frame
   pub fits_close : (n : NodeView) → n.me < v.setup.nodes → length v.rows ≡ v.setup.nodes → Fits start (closed v n) bs
   fits_close n l long = record {
-      sized = f.sized;
-      waiting = f.waiting;
-      genuine = λ i m. λ k d x. grown_frame (algorithm_of v.program v.setup) v.rows (closed v n).rows n.me (ended n) _ (row_of v.rows n.me (ended n) _ (omega arith)) (f.genuine i m k d x);
-      flying = λ m b. grown_flies (algorithm_of v.program v.setup) v.rows n.me (ended n) m (mark_in start v m) _ (omega arith) (f.flying m b);
-    }
+    sized = f.sized;
+    waiting = f.waiting;
+    genuine = λ i m. λ k d x. grown_frame (algorithm_of v.program v.setup) v.rows (closed v n).rows n.me (ended n) _ (row_of v.rows n.me (ended n) _ (omega arith)) (f.genuine i m k d x);
+    flying = λ m b. grown_flies (algorithm_of v.program v.setup) v.rows n.me (ended n) m (mark_in start v m) _ (omega arith) (f.flying m b);
+  }
 
 module _ {start : ℕ → ℕ} {v : Log} {bs : List Stock} (f : Fits start v bs) where
   -- a send with its frame, from the room that was made for it
@@ -331,8 +342,8 @@ module _ {start : ℕ → ℕ} {v : Log} {bs : List Stock} (f : Fits start v bs)
       let made = frame_made p frame (sym is ∙ some) in
       let there : place ≡ place_among v.setup.nodes p.name = at ∙ ap (place_among v.setup.nodes) en in
       let done = fits_put (fits_kept f n.to b0 b1 (let t = a.to in omega arith) h0 same wait) p made.0 b2 b3 a work fit round made.1
-              (h2 ∙ ap (λ k. get_or (set bs n.to b1) k b2) to) (omega arith)
-              (e ∙ ap (λ k. set b2.flying k (Some frame)) there ∙ ap (λ x. set b2.flying (place_among v.setup.nodes p.name) (Some x)) made.2) d mark marks waits in
+      (h2 ∙ ap (λ k. get_or (set bs n.to b1) k b2) to) (omega arith)
+      (e ∙ ap (λ k. set b2.flying k (Some frame)) there ∙ ap (λ x. set b2.flying (place_among v.setup.nodes p.name) (Some x)) made.2) d mark marks waits in
       subst (λ (k : ℕ). Fits start (happened v (Step p.name.from)) (set (set bs n.to b1) k b3)) (sym to) done
 
   -- a send with silence, from the room that was made

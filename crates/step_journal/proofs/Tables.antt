@@ -19,9 +19,9 @@ same_push xs ys zs e h = λ k. ap (λ z. get_or z k Unsent) e ∙ push_at ys k (
 -- a place of a grown table is written
 pub puts_set : (xs ys : List Mark) (p : ℕ) (v : Mark) → p < length ys → SameTable xs ys → Puts xs (set ys p v) p v
 puts_set xs ys p v l h = record {
-    there = get_or-set_same ys p v Unsent l;
-    others = λ k ne. get_or-set_other ys p k v Unsent ne ∙ h k;
-  }
+  there = get_or-set_same ys p v Unsent l;
+  others = λ k ne. get_or-set_other ys p k v Unsent ne ∙ h k;
+}
 
 -- a mark that stays is put
 pub puts_same : (xs : List Mark) (p : ℕ) (v : Mark) → get_or xs p Unsent ≡ v → Puts xs xs p v

@@ -34,9 +34,9 @@ waits_step_at w t k i h (inr apart) = buffer_kept w i (Step k) t (and_left _ _ (
 
 pub waits_step : (w : World) (t : List Event) (buffers : List (List Name)) (k : ℕ) → is_receive w (steps k t) ≡ false → Waits w t buffers → Waits w (Step k ∷ t) buffers
 waits_step w t buffers k h a = record {
-    sized = a.sized;
-    held = λ i b. a.held i b ∙ sym (waits_step_at w t k i h (cases_eq i k));
-  }
+  sized = a.sized;
+  held = λ i b. a.held i b ∙ sym (waits_step_at w t k i h (cases_eq i k));
+}
 
 waits_receive_at : (w : World) (t : List Event) (buffers : List (List Name)) (k i : ℕ) → k < length buffers → is_receive w (steps k t) ≡ true → get_or buffers i [] ≡ buffer_of w i t → (i ≡ k) ⊎ (i ≡ k → ⊥) → get_or (set buffers k []) i [] ≡ buffer_of w i (Step k ∷ t)
 waits_receive_at w t buffers k i l h e (inl same) =
@@ -47,9 +47,9 @@ waits_receive_at w t buffers k i l h e (inr apart) =
 
 pub waits_receive : (w : World) (t : List Event) (buffers : List (List Name)) (k : ℕ) → k < nodes_of w → is_receive w (steps k t) ≡ true → Waits w t buffers → Waits w (Step k ∷ t) (set buffers k [])
 waits_receive w t buffers k l h a = record {
-    sized = length-set buffers k [] ∙ a.sized;
-    held = λ i b. waits_receive_at w t buffers k i (let n = a.sized in omega arith) h (a.held i b) (cases_eq i k);
-  }
+  sized = length-set buffers k [] ∙ a.sized;
+  held = λ i b. waits_receive_at w t buffers k i (let n = a.sized in omega arith) h (a.held i b) (cases_eq i k);
+}
 
 pub arrived_other : (w : World) (t : List Event) (n : Name) (i : ℕ) → (i ≡ n.to → ⊥) → arrived w i (Release n) t ≡ []
 arrived_other w t n i h = rw (ne_eqb n.to i (λ e. h (sym e))) refl
@@ -63,9 +63,9 @@ waits_release_at w t buffers n i l f e (inr apart) =
 
 pub waits_release : (w : World) (t : List Event) (buffers : List (List Name)) (n : Name) → n.to < nodes_of w → Waits w t buffers → Waits w (Release n ∷ t) (set buffers n.to (get_or buffers n.to [] ++ arrival n (mark_of w t n.from n.to (n.round - 1))))
 waits_release w t buffers n l a = record {
-    sized = length-set buffers n.to _ ∙ a.sized;
-    held = λ i b. waits_release_at w t buffers n i (let m = a.sized in omega arith) (a.held n.to l) (a.held i b) (cases_eq i n.to);
-  }
+  sized = length-set buffers n.to _ ∙ a.sized;
+  held = λ i b. waits_release_at w t buffers n i (let m = a.sized in omega arith) (a.held n.to l) (a.held i b) (cases_eq i n.to);
+}
 
 pub waits_late_at : (w : World) (t : List Event) (n : Name) (i : ℕ) → arrival n (mark_of w t n.from n.to (n.round - 1)) ≡ [] → (i ≡ n.to) ⊎ (i ≡ n.to → ⊥) → buffer_of w i (Release n ∷ t) ≡ buffer_of w i t
 waits_late_at w t n i h (inl same) = rw same (buffer_grown w n.to n t refl ∙ rw h (append-nil (buffer_of w n.to t)))
@@ -74,6 +74,6 @@ waits_late_at w t n i h (inr apart) = buffer_kept w i (Release n) t refl (arrive
 -- a release of what isn't in flight
 pub waits_late : (w : World) (t : List Event) (buffers : List (List Name)) (n : Name) → arrival n (mark_of w t n.from n.to (n.round - 1)) ≡ [] → Waits w t buffers → Waits w (Release n ∷ t) buffers
 waits_late w t buffers n h a = record {
-    sized = a.sized;
-    held = λ i b. a.held i b ∙ sym (waits_late_at w t n i h (cases_eq i n.to));
-  }
+  sized = a.sized;
+  held = λ i b. a.held i b ∙ sym (waits_late_at w t n i h (cases_eq i n.to));
+}

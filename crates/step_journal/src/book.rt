@@ -44,7 +44,6 @@ pub struct Book<P: Plan> {
 
 impl<P: Plan> Model for Book<P> {
     ghost use Rattle.step_journal.specs.Log.{Recorded, Holds, rows_of, names_of, lists_of};
-
     ghost use Rattle.round_lang.specs.contracts.formula.Formula as formula;
     ghost use Rattle.std.specs.Coded.{codes};
 
@@ -53,21 +52,21 @@ impl<P: Plan> Model for Book<P> {
     ghost coded = { Prim.hlevel (codes, formula.the_row.coded) };
 
     ghost view = { λ s. record {
-        plan = s.plan;
-        log = record {
-            program = s.program;
-            setup = s.setup;
-            trace = s.trace.items;
-            rows = rows_of s.states.items;
-        };
+      plan = s.plan;
+      log = record {
+        program = s.program;
+        setup = s.setup;
+        trace = s.trace.items;
+        rows = rows_of s.states.items;
+      };
     } };
 
     ghost invariant = { λ s. Holds (P.start s.plan) (P.nodes s.plan)
         (record {
-            program = s.program;
-            setup = s.setup;
-            trace = s.trace.items;
-            rows = rows_of s.states.items;
+          program = s.program;
+          setup = s.setup;
+          trace = s.trace.items;
+          rows = rows_of s.states.items;
         })
         s.steps.items s.marks.items (names_of s.waiting.items) (lists_of s.handed.items) s.told.items };
 }

@@ -24,9 +24,9 @@ impl Model for Buffer {
     ghost Value = { Stock };
 
     ghost view = { λ s. record {
-        flying = s.flying.items;
-        waiting = s.waiting.items;
-        spare = vec_capacity s.waiting - vec_len s.waiting;
+      flying = s.flying.items;
+      waiting = s.waiting.items;
+      spare = vec_capacity s.waiting - vec_len s.waiting;
     } };
 }
 

@@ -50,13 +50,13 @@ inbox_from (o ∷ os) h k same from =
     let own : ForSome o (λ f. f.name.from ≡ k) = λ f is. from 0 (omega arith) f is ∙ k0 in
     ap (λ (x : Option Received). cons_option x (inbox_of os)) (said_own k o own ∙ ap (said k) here)
     ∙ ap (cons_option (said k (h k))) (inbox_from os h (k + 1)
-        (λ j l. same (suc j) (omega arith) ∙ (let e : k + suc j ≡ k + 1 + j = omega arith in ap h e))
-        (λ j l f is. from (suc j) (omega arith) f is ∙ (let e : k + suc j ≡ k + 1 + j = omega arith in e)))
+    (λ j l. same (suc j) (omega arith) ∙ (let e : k + suc j ≡ k + 1 + j = omega arith in ap h e))
+    (λ j l f is. from (suc j) (omega arith) f is ∙ (let e : k + suc j ≡ k + 1 + j = omega arith in e)))
 
 -- the frames held are the inbox of their senders, in rising order
 pub inbox_held : (a : Algorithm) (n i r : ℕ) (held : List (Option Frame)) → length held ≡ n → IsHeld a n i r held → inbox_of held ≡ filter_map (λ j. said j (held_at held j)) (range_with_len 0 n)
 inbox_held a n i r held size h =
     inbox_from held (held_at held) 0
-        (λ j l. let e : j ≡ 0 + j = omega arith in ap (held_at held) e)
-        (λ j l f is. let m : j < n = omega arith in (h.each j m f is).from ∙ (let e : j ≡ 0 + j = omega arith in e))
+    (λ j l. let e : j ≡ 0 + j = omega arith in ap (held_at held) e)
+    (λ j l f is. let m : j < n = omega arith in (h.each j m f is).from ∙ (let e : j ≡ 0 + j = omega arith in e))
     ∙ ap (λ m. filter_map (λ j. said j (held_at held j)) (range_with_len 0 m)) size

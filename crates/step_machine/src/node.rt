@@ -64,22 +64,17 @@ impl Node {
     ghost use Rattle.step_machine.specs.Lending.{LeavesEnded};
 
     /// The node `me` before its first round. The setup is lawful, and `me` is below its nodes.
-    pub fn new(
-        alloc: Global,
-        program: &Checked,
-        setup: &Setup,
-        me: u32,
-    ) -> Result<Node, NoMemory>
+    pub fn new(alloc: Global, program: &Checked, setup: &Setup, me: u32) -> Result<Node, NoMemory>
         requires sized { IsSized setup.now }
         requires me { me < setup.now.nodes }
         ensures { IfOk result (λ n. n ≡ record {
-            program = program.now;
-            setup = setup.now;
-            me = me;
-            round = 1;
-            state = (algorithm_of program.now setup.now).init me;
-            held = replicate setup.now.nodes None;
-            next = None;
+          program = program.now;
+          setup = setup.now;
+          me = me;
+          round = 1;
+          state = (algorithm_of program.now setup.now).init me;
+          held = replicate setup.now.nodes None;
+          next = None;
         }) }
     {
         let state = initial_of(alloc, program, setup, me)?;
@@ -111,9 +106,9 @@ impl Node {
     pub fn prepare(&mut self, dest: u32) -> Result<Prepared, NoMemory>
         requires { dest < self.old.setup.nodes }
         ensures ready { IfOk result (λ p. p ≡ record {
-            name = record { from = self.old.me; to = dest; round = self.old.round };
-            state = self.old.state;
-            message = (algorithm_in self.old).send self.old.round self.old.state self.old.me dest;
+          name = record { from = self.old.me; to = dest; round = self.old.round };
+          state = self.old.state;
+          message = (algorithm_in self.old).send self.old.round self.old.state self.old.me dest;
         }) }
         ensures same { self.new ≡ self.old }
     {

@@ -10,6 +10,6 @@ returns-in-Ok-clause-node g c =
     let kept = c.finish.follows.holds-at-none.0 in
     let P : Log → Type 0 = λ v. IsNodeOf v c.args.node.now.me c.settle.new.self in
     subst P (sym (ap (λ z. z.log) c.in-Ok.ensures.ok))
-        (node_closed c.args.journal.now.log c.in_ok-finished.finished.node.now c.args.node.now c.settle.new.self me c.requires.node c.requires.first
-            (c.settle.ensures.program ∙ kept.program) (c.settle.ensures.setup ∙ kept.setup) (c.settle.ensures.me ∙ kept.me)
-            (c.settle.ensures.round ∙ ap (λ x. x + 1) kept.round))
+    (node_closed c.args.journal.now.log c.in_ok-finished.finished.node.now c.args.node.now c.settle.new.self me c.requires.node c.requires.first
+    (c.settle.ensures.program ∙ kept.program) (c.settle.ensures.setup ∙ kept.setup) (c.settle.ensures.me ∙ kept.me)
+    (c.settle.ensures.round ∙ ap (λ x. x + 1) kept.round))

@@ -15,5 +15,5 @@ take_all-requires g c =
     let setup = is.setup in
     let me = is.me in
     rw (program, setup, me)
-        (for_node (world_of (g.P.Plan.start c.args.journal.now.plan) v) (history v) (algorithm_of v.program v.setup) v.rows v.setup.nodes c.args.me c.in-Ok.took.frames.items
-            long c.in-Ok.ensures.names c.in-Ok.ensures.genuine)
+    (for_node (world_of (g.P.Plan.start c.args.journal.now.plan) v) (history v) (algorithm_of v.program v.setup) v.rows v.setup.nodes c.args.me c.in-Ok.took.frames.items
+    long c.in-Ok.ensures.names c.in-Ok.ensures.genuine)

@@ -38,7 +38,7 @@ invariant_of-self g c =
     let one = c.node-node.ensures.one in
     let nodes = ap (λ (x : Setup). x.nodes) c.requires.setup in
     same_rows c.self.invariant _
-        (rows_same c.self.inside.states.items c.node-node.result c.index_mut.result.now c.note_close.new.states (omega arith) c.index_mut.ensures.value c.in_err-note_close.ensures.err)
+    (rows_same c.self.inside.states.items c.node-node.result c.index_mut.result.now c.note_close.new.states (omega arith) c.index_mut.ensures.value c.in_err-note_close.ensures.err)
 
 pub returns-in_err-note_close-clause-err : goal.returns-in_err-note_close-clause-err
 returns-in_err-note_close-clause-err g c =
@@ -48,7 +48,7 @@ returns-in_err-note_close-clause-err g c =
     let one = c.node-node.ensures.one in
     let nodes = ap (λ (x : Setup). x.nodes) c.requires.setup in
     on_err c.from_residual.result (same_view _ c.self.view_is
-        (rows_same c.self.inside.states.items c.node-node.result c.index_mut.result.now c.note_close.new.states (omega arith) c.index_mut.ensures.value c.in_err-note_close.ensures.err))
+    (rows_same c.self.inside.states.items c.node-node.result c.index_mut.result.now c.note_close.new.states (omega arith) c.index_mut.ensures.value c.in_err-note_close.ensures.err))
 
 pub invariant_of-self-2 : goal.invariant_of-self-2
 invariant_of-self-2 g c =
@@ -65,9 +65,9 @@ invariant_of-self-2 g c =
     let nodes = ap (λ (x : Setup). x.nodes) c.requires.setup in
     let P : List (Option Frame) → Type 0 = λ x. IsHeld (algorithm_in n) n.setup.nodes n.me n.round x in
     to_rows g.P.Plan.start g.P.Plan.nodes c.self.view_is
-        (close (of_view g.P.Plan.start g.P.Plan.nodes c.self.view_is c.self.invariant) n _ (omega arith) c.requires.program c.requires.setup (ap length (sym c.frames.ensures.value) ∙ c.frames.ensures.sized) (subst P c.frames.ensures.value c.frames.ensures.held) due (known.0 (cc))
-            (rows_closed n c.node-node.result _ c.self.view_is c.node-node.ensures.value
-                (rows_grow s.states.items c.node-node.result c.index_mut.result.now c.note_close.new.states (ended n) (omega arith) c.index_mut.ensures.value c.in_ok-note_close.ensures.ok)))
+    (close (of_view g.P.Plan.start g.P.Plan.nodes c.self.view_is c.self.invariant) n _ (omega arith) c.requires.program c.requires.setup (ap length (sym c.frames.ensures.value) ∙ c.frames.ensures.sized) (subst P c.frames.ensures.value c.frames.ensures.held) due (known.0 (cc))
+    (rows_closed n c.node-node.result _ c.self.view_is c.node-node.ensures.value
+    (rows_grow s.states.items c.node-node.result c.index_mut.result.now c.note_close.new.states (ended n) (omega arith) c.index_mut.ensures.value c.in_ok-note_close.ensures.ok)))
 
 pub returns-clause-ok : goal.returns-clause-ok
 returns-clause-ok g c =
@@ -78,5 +78,5 @@ returns-clause-ok g c =
     let one = c.node-node.ensures.one in
     let nodes = ap (λ (x : Setup). x.nodes) c.requires.setup in
     closed_view n _ c.self.view_is
-        (rows_closed n c.node-node.result _ c.self.view_is c.node-node.ensures.value
-            (rows_grow c.self.inside.states.items c.node-node.result c.index_mut.result.now c.note_close.new.states (ended n) (omega arith) c.index_mut.ensures.value c.in_ok-note_close.ensures.ok))
+    (rows_closed n c.node-node.result _ c.self.view_is c.node-node.ensures.value
+    (rows_grow c.self.inside.states.items c.node-node.result c.index_mut.result.now c.note_close.new.states (ended n) (omega arith) c.index_mut.ensures.value c.in_ok-note_close.ensures.ok))

@@ -18,8 +18,8 @@ invariant_of-self-2 g c =
     let rounds = rounds_view c.self.view_is in
     let late : v.log.setup.rounds < round_of v.log c.args.node = omega (arith, c.round_of.ensures.value) in
     to_fields g.P.Plan.start g.P.Plan.nodes c.self.view_is
-        (idle (of_view g.P.Plan.start g.P.Plan.nodes c.self.view_is c.self.invariant) c.args.node _ _ c.requires late
-            (trace_view (Step c.args.node) _ c.self.view_is c.in_ok-note_step.ensures.trace) c.in_ok-note_step.ensures.steps)
+    (idle (of_view g.P.Plan.start g.P.Plan.nodes c.self.view_is c.self.invariant) c.args.node _ _ c.requires late
+    (trace_view (Step c.args.node) _ c.self.view_is c.in_ok-note_step.ensures.trace) c.in_ok-note_step.ensures.steps)
 
 pub returns-clause-marks : goal.returns-clause-marks
 returns-clause-marks g c =
@@ -27,7 +27,7 @@ returns-clause-marks g c =
     let rounds = rounds_view c.self.view_is in
     let late : v.log.setup.rounds < round_of v.log c.args.node = omega (arith, c.round_of.ensures.value) in
     subst (λ (z : Log). SameMarks (g.P.Plan.start v.plan) v.log z) (sym (log_view (Step c.args.node) _ c.self.view_is c.in_ok-note_step.ensures.trace))
-        (idle_marks (of_view g.P.Plan.start g.P.Plan.nodes c.self.view_is c.self.invariant) c.args.node late)
+    (idle_marks (of_view g.P.Plan.start g.P.Plan.nodes c.self.view_is c.self.invariant) c.args.node late)
 
 pub returns-clause-waiting : goal.returns-clause-waiting
 returns-clause-waiting g c =
@@ -35,4 +35,4 @@ returns-clause-waiting g c =
     let rounds = rounds_view c.self.view_is in
     let late : v.log.setup.rounds < round_of v.log c.args.node = omega (arith, c.round_of.ensures.value) in
     subst (λ (z : Log). SameWaiting (g.P.Plan.start v.plan) v.log z) (sym (log_view (Step c.args.node) _ c.self.view_is c.in_ok-note_step.ensures.trace))
-        (idle_waiting (of_view g.P.Plan.start g.P.Plan.nodes c.self.view_is c.self.invariant) c.args.node c.requires late)
+    (idle_waiting (of_view g.P.Plan.start g.P.Plan.nodes c.self.view_is c.self.invariant) c.args.node c.requires late)

@@ -8,7 +8,7 @@ returns-in-Some g c =
     let v = c.deref.ensures.value in
     let n = c.deref.ensures.len in
     mark_some (of_view g.P.Plan.start g.P.Plan.nodes c.self.view_is c.self.invariant) c.args.name c.place.result _ c.requires c.place.ensures (let l = ltb-true _ _ (sym c.in-Some.ensures.lookup.0) in omega arith)
-        (c.in-Some.ensures.lookup.1 ∙ ap (λ z. get_or z c.place.result c.in-Some.mark.now) v)
+    (c.in-Some.ensures.lookup.1 ∙ ap (λ z. get_or z c.place.result c.in-Some.mark.now) v)
 
 pub returns-in-None : goal.returns-in-None
 returns-in-None g c =

@@ -41,9 +41,9 @@ invariant_of-self g c =
     let d = handed_len c.self.invariant in
     let e = lists_len s.handed.items in
     kept c.self.invariant _ _ _ _ _ _ c.in_err-note_receive.ensures.trace_kept c.in_err-note_receive.ensures.steps_kept (λ q. refl)
-        (names_same s.waiting.items k c.index_mut-2.result.now c.note_receive.new.waiting (omega (arith, c.requires)) c.index_mut-2.ensures.value c.in_err-note_receive.ensures.waiting_kept)
-        (lists_same s.handed.items k c.index_mut.result.now c.note_receive.new.handed (omega (arith, c.requires)) c.index_mut.ensures.value c.in_err-note_receive.ensures.handed_kept)
-        refl
+    (names_same s.waiting.items k c.index_mut-2.result.now c.note_receive.new.waiting (omega (arith, c.requires)) c.index_mut-2.ensures.value c.in_err-note_receive.ensures.waiting_kept)
+    (lists_same s.handed.items k c.index_mut.result.now c.note_receive.new.handed (omega (arith, c.requires)) c.index_mut.ensures.value c.in_err-note_receive.ensures.handed_kept)
+    refl
 
 pub invariant_of-self-2 : goal.invariant_of-self-2
 invariant_of-self-2 g c =
@@ -57,16 +57,16 @@ invariant_of-self-2 g c =
     let e = lists_len s.handed.items in
     let fit : IsReceiveFit (g.P.Plan.start v.plan) v.log k = (λ due. (let on = c.is_due.ensures.1 due in cc), c.is_receive.ensures.0 cc) in
     to_fields g.P.Plan.start g.P.Plan.nodes c.self.view_is
-        (received h k _ _ _ _ _ c.requires fit (sym (names_read s.waiting.items k c.index_mut-2.result.now (omega (arith, c.requires)) c.index_mut-2.ensures.value))
-            (trace_view (Step k) _ c.self.view_is c.in_ok-note_receive.ensures.trace) c.in_ok-note_receive.ensures.steps
-            (names_set s.waiting.items k c.note_receive.new.waiting _ c.in_ok-note_receive.ensures.waiting)
-            (lists_push s.handed.items k c.index_mut.result.now c.note_receive.new.handed _ (omega (arith, c.requires)) c.index_mut.ensures.value c.in_ok-note_receive.ensures.handed))
+    (received h k _ _ _ _ _ c.requires fit (sym (names_read s.waiting.items k c.index_mut-2.result.now (omega (arith, c.requires)) c.index_mut-2.ensures.value))
+    (trace_view (Step k) _ c.self.view_is c.in_ok-note_receive.ensures.trace) c.in_ok-note_receive.ensures.steps
+    (names_set s.waiting.items k c.note_receive.new.waiting _ c.in_ok-note_receive.ensures.waiting)
+    (lists_push s.handed.items k c.index_mut.result.now c.note_receive.new.handed _ (omega (arith, c.requires)) c.index_mut.ensures.value c.in_ok-note_receive.ensures.handed))
 
 pub returns-clause-marks : goal.returns-clause-marks
 returns-clause-marks g c =
     let v = c.args.self.now in
     subst (λ (z : Log). SameMarks (g.P.Plan.start v.plan) v.log z) (sym (log_view (Step c.args.node) _ c.self.view_is c.in_ok-note_receive.ensures.trace))
-        (received_marks (of_view g.P.Plan.start g.P.Plan.nodes c.self.view_is c.self.invariant) c.args.node (c.is_receive.ensures.0 cc))
+    (received_marks (of_view g.P.Plan.start g.P.Plan.nodes c.self.view_is c.self.invariant) c.args.node (c.is_receive.ensures.0 cc))
 
 pub returns-clause-taken : goal.returns-clause-taken
 returns-clause-taken g c =
@@ -78,7 +78,7 @@ pub returns-clause-waiting : goal.returns-clause-waiting
 returns-clause-waiting g c =
     let v = c.args.self.now in
     subst (λ (z : Log). SameWaitingBut (g.P.Plan.start v.plan) c.args.node v.log z) (sym (log_view (Step c.args.node) _ c.self.view_is c.in_ok-note_receive.ensures.trace))
-        (received_others (of_view g.P.Plan.start g.P.Plan.nodes c.self.view_is c.self.invariant) c.args.node)
+    (received_others (of_view g.P.Plan.start g.P.Plan.nodes c.self.view_is c.self.invariant) c.args.node)
 
 pub returns-clause-once : goal.returns-clause-once
 returns-clause-once g c = buffer_once (of_view g.P.Plan.start g.P.Plan.nodes c.self.view_is c.self.invariant) c.args.node

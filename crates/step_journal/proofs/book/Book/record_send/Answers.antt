@@ -20,12 +20,12 @@ invariant_of-self-2 g c =
     let v = c.args.self.now in
     let p = c.args.prepared.now in
     to_fields g.P.Plan.start g.P.Plan.nodes c.self.view_is
-        (sent (of_view g.P.Plan.start g.P.Plan.nodes c.self.view_is c.self.invariant) p _ _ _ c.place-place.result c.spoken-mark.result c.requires.name c.requires.work c.requires.fit
-            (subst (λ (n : Name). c.place-place.result ≡ ((n.round - 1) * v.log.setup.nodes + n.from) * v.log.setup.nodes + n.to) c.name-name.ensures c.place-place.ensures)
-            c.spoken-mark.ensures
-            (trace_view (Step p.name.from) _ c.self.view_is (c.in_ok-note_send.ensures.trace ∙ ap (λ (n : Name). c.self.inside.trace.items ++ Step n.from ∷ []) c.name-name.ensures))
-            (c.in_ok-note_send.ensures.steps ∙ ap (λ (n : Name). set c.self.inside.steps.items n.from (get_or c.self.inside.steps.items n.from 0 + 1)) c.name-name.ensures)
-            c.in_ok-note_send.ensures.marks)
+    (sent (of_view g.P.Plan.start g.P.Plan.nodes c.self.view_is c.self.invariant) p _ _ _ c.place-place.result c.spoken-mark.result c.requires.name c.requires.work c.requires.fit
+    (subst (λ (n : Name). c.place-place.result ≡ ((n.round - 1) * v.log.setup.nodes + n.from) * v.log.setup.nodes + n.to) c.name-name.ensures c.place-place.ensures)
+    c.spoken-mark.ensures
+    (trace_view (Step p.name.from) _ c.self.view_is (c.in_ok-note_send.ensures.trace ∙ ap (λ (n : Name). c.self.inside.trace.items ++ Step n.from ∷ []) c.name-name.ensures))
+    (c.in_ok-note_send.ensures.steps ∙ ap (λ (n : Name). set c.self.inside.steps.items n.from (get_or c.self.inside.steps.items n.from 0 + 1)) c.name-name.ensures)
+    c.in_ok-note_send.ensures.marks)
 
 pub returns-clause-sent : goal.returns-clause-sent
 returns-clause-sent g c =
@@ -41,7 +41,7 @@ returns-clause-marks g c =
     let p = c.args.prepared.now in
     let more = c.in_ok-note_send.ensures.trace ∙ ap (λ (n : Name). c.self.inside.trace.items ++ Step n.from ∷ []) c.name-name.ensures in
     subst (λ (z : Log). SameMarksBut (g.P.Plan.start v.plan) p.name v.log z) (sym (log_view (Step p.name.from) _ c.self.view_is more))
-        (sent_others (of_view g.P.Plan.start g.P.Plan.nodes c.self.view_is c.self.invariant) p.name c.requires.name c.requires.fit.0 c.requires.fit.1)
+    (sent_others (of_view g.P.Plan.start g.P.Plan.nodes c.self.view_is c.self.invariant) p.name c.requires.name c.requires.fit.0 c.requires.fit.1)
 
 pub returns-clause-waiting : goal.returns-clause-waiting
 returns-clause-waiting g c =
@@ -49,7 +49,7 @@ returns-clause-waiting g c =
     let p = c.args.prepared.now in
     let more = c.in_ok-note_send.ensures.trace ∙ ap (λ (n : Name). c.self.inside.trace.items ++ Step n.from ∷ []) c.name-name.ensures in
     subst (λ (z : Log). SameWaiting (g.P.Plan.start v.plan) v.log z) (sym (log_view (Step p.name.from) _ c.self.view_is more))
-        (sent_waiting (of_view g.P.Plan.start g.P.Plan.nodes c.self.view_is c.self.invariant) p.name c.requires.name c.requires.fit.1)
+    (sent_waiting (of_view g.P.Plan.start g.P.Plan.nodes c.self.view_is c.self.invariant) p.name c.requires.name c.requires.fit.1)
 
 pub returns-clause-round : goal.returns-clause-round
 returns-clause-round g c = send_round (of_view g.P.Plan.start g.P.Plan.nodes c.self.view_is c.self.invariant) c.args.prepared.now.name c.requires.name c.requires.fit.0 c.requires.fit.1

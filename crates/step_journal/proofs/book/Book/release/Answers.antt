@@ -22,8 +22,8 @@ invariant_of-self g c =
     let a = waiting_len (of_view g.P.Plan.start g.P.Plan.nodes c.self.view_is c.self.invariant) in
     let b = names_len s.waiting.items in
     kept c.self.invariant _ _ _ _ _ _ c.in_err-note_release.ensures.trace_kept refl (λ q. refl)
-        (names_same s.waiting.items c.args.name.to c.index_mut.result.now c.note_release.new.waiting (omega (arith, c.requires.to)) c.index_mut.ensures.value c.in_err-note_release.ensures.waiting_kept)
-        refl c.in_err-note_release.ensures.told_kept
+    (names_same s.waiting.items c.args.name.to c.index_mut.result.now c.note_release.new.waiting (omega (arith, c.requires.to)) c.index_mut.ensures.value c.in_err-note_release.ensures.waiting_kept)
+    refl c.in_err-note_release.ensures.told_kept
 
 pub index_mut-requires-then-is_flying : goal.index_mut-requires-then-is_flying
 index_mut-requires-then-is_flying g c =
@@ -40,12 +40,12 @@ invariant_of-self-then-is_flying g c =
     let b = names_len s.waiting.items in
     let fly : IsFlying (g.P.Plan.start v.plan) v.log n = c.is_flying.ensures.0 cc in
     to_fields g.P.Plan.start g.P.Plan.nodes c.self.view_is
-        (moved h n _ _ c.place-place.result _ _ c.requires fly c.place-place.ensures
-            (trace_view (Release n) _ c.self.view_is c.in_ok-note_release.ensures.trace)
-            (subst (λ x. Puts s.marks.items (set s.marks.items c.place-place.result (Released c.count_of-count.result)) c.place-place.result (Released x)) c.count_of-count.ensures
-                (puts_set s.marks.items s.marks.items c.place-place.result (Released c.count_of-count.result) (flying_in h n c.place-place.result c.requires fly c.place-place.ensures) (λ q. refl)))
-            (names_push s.waiting.items n.to c.index_mut.result.now c.note_release.new.waiting n (omega (arith, c.requires.to)) c.index_mut.ensures.value c.in_ok-note_release.ensures.waiting)
-            c.in_ok-note_release.ensures.told)
+    (moved h n _ _ c.place-place.result _ _ c.requires fly c.place-place.ensures
+    (trace_view (Release n) _ c.self.view_is c.in_ok-note_release.ensures.trace)
+    (subst (λ x. Puts s.marks.items (set s.marks.items c.place-place.result (Released c.count_of-count.result)) c.place-place.result (Released x)) c.count_of-count.ensures
+    (puts_set s.marks.items s.marks.items c.place-place.result (Released c.count_of-count.result) (flying_in h n c.place-place.result c.requires fly c.place-place.ensures) (λ q. refl)))
+    (names_push s.waiting.items n.to c.index_mut.result.now c.note_release.new.waiting n (omega (arith, c.requires.to)) c.index_mut.ensures.value c.in_ok-note_release.ensures.waiting)
+    c.in_ok-note_release.ensures.told)
 
 pub returns-then-is_flying-clause-released : goal.returns-then-is_flying-clause-released
 returns-then-is_flying-clause-released g c =
@@ -100,5 +100,5 @@ invariant_of-self-2 g c =
     let v = c.args.self.now in
     let n = c.args.name in
     to_fields g.P.Plan.start g.P.Plan.nodes c.self.view_is
-        (let_be (of_view g.P.Plan.start g.P.Plan.nodes c.self.view_is c.self.invariant) n _ _ c.requires (λ fly. (let on = c.is_flying.ensures.1 fly in cc))
-            (trace_view (Release n) _ c.self.view_is c.in_ok-note_idle_release.ensures.trace) c.in_ok-note_idle_release.ensures.told)
+    (let_be (of_view g.P.Plan.start g.P.Plan.nodes c.self.view_is c.self.invariant) n _ _ c.requires (λ fly. (let on = c.is_flying.ensures.1 fly in cc))
+    (trace_view (Release n) _ c.self.view_is c.in_ok-note_idle_release.ensures.trace) c.in_ok-note_idle_release.ensures.told)

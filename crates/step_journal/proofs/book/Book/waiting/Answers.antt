@@ -25,6 +25,6 @@ returns-clause-once g c =
     let m = names_len c.self.inside.waiting.items in
     let v = c.args.self.now in
     let names : c.deref.result.now ≡ waiting_in (g.P.Plan.start v.plan) v.log c.args.node =
-        c.deref.ensures.value ∙ sym (names_read c.self.inside.waiting.items c.args.node c.index.result.now (omega (arith, c.requires)) c.index.ensures)
-        ∙ waiting_read h c.args.node c.requires in
+    c.deref.ensures.value ∙ sym (names_read c.self.inside.waiting.items c.args.node c.index.result.now (omega (arith, c.requires)) c.index.ensures)
+    ∙ waiting_read h c.args.node c.requires in
     subst (λ (x : List Name). IsBuffer (world_of (g.P.Plan.start v.plan) v.log) (history v.log) c.args.node x) (sym names) (buffer_once h c.args.node)

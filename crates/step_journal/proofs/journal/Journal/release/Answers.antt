@@ -16,7 +16,7 @@ invariant_of-self-then-moved g c =
     let names = ap (λ (z : Recorded _). waiting_in start z.log n.to) (sym ok) ∙ c.in_ok-moved.ensures.arrived in
     let waits = subst (λ (z : Recorded _). SameWaitingBut start n.to s.log z.log) ok c.in_ok-moved.ensures.waiting in
     fits_view g.P.Plan.start ok
-        (fits_moved c.self.invariant n c.place-place.result c.index_mut-buffer.result.now c.reserve_waiting.new.self c.index_mut-buffer-then-moved.result.now c.let_go.new.self
-            name (c.in_ok-moved.ensures.moved.0 (cc)) (place_view n c.place-place.result c.self.view_is c.place-place.ensures)
-            c.index_mut-buffer.ensures.value c.in_ok-reserve_waiting.ensures.flying c.in_ok-reserve_waiting.ensures.waiting c.index_mut-buffer-then-moved.ensures.value
-            c.let_go.ensures.flying c.let_go.ensures.waiting mark marks names waits)
+    (fits_moved c.self.invariant n c.place-place.result c.index_mut-buffer.result.now c.reserve_waiting.new.self c.index_mut-buffer-then-moved.result.now c.let_go.new.self
+    name (c.in_ok-moved.ensures.moved.0 (cc)) (place_view n c.place-place.result c.self.view_is c.place-place.ensures)
+    c.index_mut-buffer.ensures.value c.in_ok-reserve_waiting.ensures.flying c.in_ok-reserve_waiting.ensures.waiting c.index_mut-buffer-then-moved.ensures.value
+    c.let_go.ensures.flying c.let_go.ensures.waiting mark marks names waits)
