@@ -48,7 +48,7 @@ same_sets a b ha hb same =
     same_from_bits_below 64 a b ha hb (λ i h. bit-is_in a i ∙ ap (λ c. cond c 1 0) (same i h) ∙ sym (bit-is_in b i))
 
 -- a set of nodes below n is one of 64 places
-small_set : (n : ℕ) (p : ℕ → Bool) → n ≤ 64 → set_of n p < 2 ^ 64
+pub small_set : (n : ℕ) (p : ℕ → Bool) → n ≤ 64 → set_of n p < 2 ^ 64
 small_set n p h = let m : 2 ^ n ≤ 2 ^ 64 = pow_mono h in omega (arith, set_of-lt n p)
 
 -- sets with no common member meet in the empty set

@@ -20,7 +20,7 @@ use Rattle.round_lang.specs.declared.value.Value.{Value}
 use Rattle.round_lang.specs.Values.{at}
 
 -- a range with its next number
-range_push : (a n : ℕ) → range_with_len a (suc n) ≡ range_with_len a n ++ (a + n) ∷ []
+pub range_push : (a n : ℕ) → range_with_len a (suc n) ≡ range_with_len a n ++ (a + n) ∷ []
 range_push a zero = ap (λ x. x ∷ []) (sym (add-zero a))
 range_push a (suc n) =
     let next : a + 1 + n ≡ a + suc n = omega arith in

@@ -1,10 +1,12 @@
 //! From a journal to its report.
-ghost use Rattle.std.specs.Prelude.{◌≡◌, ◌+◌, ◌<◌, ◌≤◌, ℕ, IfOk};
+ghost use Rattle.std.specs.Prelude.{◌≡◌, ◌+◌, ◌<◌, ◌≤◌, ◌↔◌, ℕ, All, IfOk, map, true};
 ghost use Rattle.std.specs.Arc.{arc_value};
 ghost use Rattle.round_meaning.specs.Turn.{decision};
 ghost use Rattle.step_journal.specs.Agreement.{row};
 ghost use Rattle.step_journal.specs.Log.{IsName, history, round_of, world_of};
 ghost use Rattle.step_journal.specs.History.{state};
+ghost use Rattle.step_journal.specs.Work.{is_within};
+ghost use Rattle.omission_explainer.specs.Reported.{IsReported, IsRowOf, closed_rounds, counts_in, heard_in, omitted_in, place, silent_in};
 
 use crate::listed::Listed;
 use crate::report::{Report, ReportRow};
@@ -17,7 +19,15 @@ use step_journal::{Book, Journal, Mark};
 use step_machine::Name;
 
 /// The report of a journal: its closed rounds, as rounds with omissions.
-pub fn explain<P: Plan>(alloc: Global, journal: &Journal<P>) -> Result<Report, NoMemory> {
+///
+/// A journal's plan is for as many nodes as its setup has from `Journal::open` on, and no call changes either.
+pub fn explain<P: Plan>(alloc: Global, journal: &Journal<P>) -> Result<Report, NoMemory>
+    ensures reported { P.nodes journal.now.plan ≡ journal.now.log.setup.nodes →
+        IfOk result (λ report. All (IsReported (P.start journal.now.plan) journal.now.log) report.rows) }
+    ensures listed { journal.now.log.setup.rounds ≤ 4096 →
+        IfOk result (λ report. map place report.rows ≡ closed_rounds journal.now.log) }
+    ensures counted { IfOk result (λ report. report.counts ≡ counts_in journal.now.log) }
+{
     let book = journal.book();
     book.agrees();
     let program = book.program().program();
@@ -54,7 +64,12 @@ fn type_of(kind: &VariableKind) -> Ty {
 }
 
 /// A row for each closed round of each node, by round and then by node.
-fn rows_of<P: Plan>(alloc: Global, book: &Book<P>) -> Result<Vec<ReportRow>, NoMemory> {
+fn rows_of<P: Plan>(alloc: Global, book: &Book<P>) -> Result<Vec<ReportRow>, NoMemory>
+    ensures reported { P.nodes book.now.plan ≡ book.now.log.setup.nodes →
+        IfOk result (λ rows. All (IsReported (P.start book.now.plan) book.now.log) rows.items) }
+    ensures listed { book.now.log.setup.rounds ≤ 4096 →
+        IfOk result (λ rows. map place rows.items ≡ closed_rounds book.now.log) }
+{
     let mut rows = Vec::new(alloc);
     for round in 1..book.setup().rounds.saturating_add(1) {
         for node in 0..book.setup().nodes {
@@ -67,7 +82,9 @@ fn rows_of<P: Plan>(alloc: Global, book: &Book<P>) -> Result<Vec<ReportRow>, NoM
 }
 
 /// For each node its steps and its closed rounds.
-fn counts_of<P: Plan>(alloc: Global, book: &Book<P>) -> Result<Vec<(u64, u64)>, NoMemory> {
+fn counts_of<P: Plan>(alloc: Global, book: &Book<P>) -> Result<Vec<(u64, u64)>, NoMemory>
+    ensures { IfOk result (λ counts. counts.items ≡ counts_in book.now.log) }
+{
     let mut counts = Vec::new(alloc);
     for node in 0..book.setup().nodes {
         let closed = u64::from(book.round_of(node)).saturating_sub(1);
@@ -85,7 +102,10 @@ enum Outcome {
 }
 
 /// A message is carried where its release came while its receiver was in its round.
-fn outcome_of(mark: Mark, first: u64, end: u64) -> Outcome {
+fn outcome_of(mark: Mark, first: u64, end: u64) -> Outcome
+    ensures heard { result ≡ Outcome.Heard ↔ is_within mark first end ≡ true }
+    ensures silent { result ≡ Outcome.Silent ↔ mark ≡ Mark.Silent }
+{
     match mark {
         Mark::Silent => Outcome::Silent,
         Mark::Released(count) if first <= count && count < end => Outcome::Heard,
@@ -93,16 +113,23 @@ fn outcome_of(mark: Mark, first: u64, end: u64) -> Outcome {
     }
 }
 
-/// The row of a node's closed round.
-fn row_of<P: Plan>(book: &Book<P>, node: u32, round: u32) -> Result<ReportRow, NoMemory>
+/// The senders of a round, parted by what came of their messages to one receiver.
+#[derive(Clone, Copy)]
+struct Outcomes {
+    heard: NodeSet,
+    silent: NodeSet,
+    omitted: NodeSet,
+}
+
+/// What came of the messages of a node's closed round.
+fn outcomes_of<P: Plan>(book: &Book<P>, node: u32, round: u32) -> Outcomes
     requires node { node < book.now.log.setup.nodes }
     requires first { 0 < round }
     requires few { round ≤ 4096 }
     requires closed { round < round_of book.now.log node }
-    ensures round { IfOk result (λ r. r.round ≡ round) }
-    ensures node { IfOk result (λ r. r.node ≡ node) }
-    ensures state { IfOk result (λ r. r.state ≡ state (world_of (P.start book.now.plan) book.now.log) (history book.now.log) round node) }
-    ensures decision { IfOk result (λ r. r.decision ≡ decision book.now.log.program r.state) }
+    ensures heard { P.nodes book.now.plan ≡ book.now.log.setup.nodes → result.heard.bits ≡ heard_in (P.start book.now.plan) book.now.log round node }
+    ensures silent { P.nodes book.now.plan ≡ book.now.log.setup.nodes → result.silent.bits ≡ silent_in (P.start book.now.plan) book.now.log round node }
+    ensures omitted { P.nodes book.now.plan ≡ book.now.log.setup.nodes → result.omitted.bits ≡ omitted_in (P.start book.now.plan) book.now.log round node }
 {
     book.agrees();
     let first = u64::from(book.plan().start(round));
@@ -122,13 +149,35 @@ fn row_of<P: Plan>(book: &Book<P>, node: u32, round: u32) -> Result<ReportRow, N
             Outcome::Omitted => omitted = omitted.with(from),
         }
     }
+    Outcomes {
+        heard,
+        silent,
+        omitted,
+    }
+}
+
+/// The row of a node's closed round.
+fn row_of<P: Plan>(book: &Book<P>, node: u32, round: u32) -> Result<ReportRow, NoMemory>
+    requires node { node < book.now.log.setup.nodes }
+    requires first { 0 < round }
+    requires few { round ≤ 4096 }
+    requires closed { round < round_of book.now.log node }
+    ensures round { IfOk result (λ r. r.round ≡ round) }
+    ensures node { IfOk result (λ r. r.node ≡ node) }
+    ensures printed { P.nodes book.now.plan ≡ book.now.log.setup.nodes →
+        IfOk result (λ r. IsRowOf (P.start book.now.plan) book.now.log round node r) }
+    ensures state { IfOk result (λ r. r.state ≡ state (world_of (P.start book.now.plan) book.now.log) (history book.now.log) round node) }
+    ensures decision { IfOk result (λ r. r.decision ≡ decision book.now.log.program r.state) }
+{
+    book.agrees();
+    let outcomes = outcomes_of(book, node, round);
     let state = &book.states(node)[round as usize];
     Ok(ReportRow {
         round,
         node,
-        heard,
-        silent,
-        omitted,
+        heard: outcomes.heard,
+        silent: outcomes.silent,
+        omitted: outcomes.omitted,
         decision: decision_of(book.program(), state),
         state: Arc::try_clone(state)?,
     })

@@ -1,0 +1,43 @@
+use Rattle.std.proofs.Common.{◌≡◌, ◌∙◌, ◌<◌, ◌+◌, ap, refl, arith}
+use Rattle.round_meaning.specs.declared.nodes.NodeSet.{NodeSet}
+use Rattle.omission_explainer.specs.declared.explaining.Outcome.TheVariants.{Heard, Silent, Omitted}
+use Rattle.omission_explainer.proofs.Outcomes.{shows, sorted_none, sorted_heard, sorted_silent, sorted_omitted}
+use Rattle.omission_explainer.proofs.explaining.outcomes_of.Goals as goal
+use Rattle.omission_explainer.proofs.explaining.outcomes_of.Goals.{in-Heard, in-Silent, in-Omitted}
+
+not_heard : Omitted ≡ Heard → ⊥
+not_heard e = cc
+
+not_quiet : Omitted ≡ Silent → ⊥
+not_quiet e = cc
+
+pub loop-from-init : goal.loop-from-init
+loop-from-init g c = λ few. sorted_none _ _ _ _ _ _ c.empty-heard.ensures c.empty-silent.ensures c.empty-omitted.ensures
+
+pub loop-from-preserved : goal.loop-from-preserved
+loop-from-preserved g c = λ few.
+    let k : c.loop-from.from < 64 = omega arith in
+    let before = c.loop-from.invariant (omega arith) in
+    let bits = λ (s : NodeSet). s.bits in
+    let first = c.from-first.ensures ∙ c.start.ensures ∙ ap (λ p. g.P.Plan.start p c.args.round) c.plan.ensures in
+    let end = c.from-end.ensures ∙ c.start-2.ensures ∙ ap (λ p. g.P.Plan.start p (c.args.round + 1)) c.plan-2.ensures in
+    elim c.match-outcome_of.branch [
+      | in-Heard w ↦ sorted_heard _ _ _ _ _ _ k c.mark.ensures first end before (w.in-Heard.ensures.heard.0 refl) (ap bits w.heard-is ∙ w.with-heard.ensures) (ap bits w.silent-is) (ap bits w.omitted-is)
+      | in-Silent w ↦ sorted_silent _ _ _ _ _ _ k c.mark.ensures first end before (w.in-Silent.ensures.silent.0 refl) (ap bits w.heard-is) (ap bits w.silent-is ∙ w.with-silent.ensures) (ap bits w.omitted-is)
+      | in-Omitted w ↦ sorted_omitted _ _ _ _ _ _ k c.mark.ensures first end before (λ e. not_heard (w.in-Omitted.ensures.heard.1 e)) (λ e. not_quiet (w.in-Omitted.ensures.silent.1 e)) (ap bits w.heard-is) (ap bits w.silent-is) (ap bits w.omitted-is ∙ w.with-omitted.ensures)
+    ]
+
+pub returns-clause-heard : goal.returns-clause-heard
+returns-clause-heard g c = λ n.
+    let p = c.args.book.now.plan in
+    (shows (g.P.Plan.start p) (g.P.Plan.receives p) (g.P.Plan.nodes p) c.args.book.now.log c.args.node c.args.round c.setup.result.now c.loop-from.from _ _ _ (g.met.P.Plan.laws p) n c.agrees.ensures c.requires.node c.requires.first c.requires.closed c.setup.ensures c.loop-from-test.false c.loop-from.auto.from-end c.loop-from.invariant).0
+
+pub returns-clause-silent : goal.returns-clause-silent
+returns-clause-silent g c = λ n.
+    let p = c.args.book.now.plan in
+    (shows (g.P.Plan.start p) (g.P.Plan.receives p) (g.P.Plan.nodes p) c.args.book.now.log c.args.node c.args.round c.setup.result.now c.loop-from.from _ _ _ (g.met.P.Plan.laws p) n c.agrees.ensures c.requires.node c.requires.first c.requires.closed c.setup.ensures c.loop-from-test.false c.loop-from.auto.from-end c.loop-from.invariant).1
+
+pub returns-clause-omitted : goal.returns-clause-omitted
+returns-clause-omitted g c = λ n.
+    let p = c.args.book.now.plan in
+    (shows (g.P.Plan.start p) (g.P.Plan.receives p) (g.P.Plan.nodes p) c.args.book.now.log c.args.node c.args.round c.setup.result.now c.loop-from.from _ _ _ (g.met.P.Plan.laws p) n c.agrees.ensures c.requires.node c.requires.first c.requires.closed c.setup.ensures c.loop-from-test.false c.loop-from.auto.from-end c.loop-from.invariant).2
