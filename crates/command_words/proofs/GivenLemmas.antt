@@ -1,5 +1,5 @@
 -- From what the matches' calls answer to what the words give.
-use Rattle.std.proofs.Common.{◌≡◌, ◌∙◌, List, Option, Some, None, Result, Ok, Err, Bool, true, false, ap₂, sym, refl, option_map, is_some, Bor, [], ◌∷◌}
+use Rattle.std.proofs.Common.{◌≡◌, ◌∙◌, List, Option, Some, None, Result, Ok, Err, Bool, true, false, ap₂, sym, refl, option_map, is_some, Bor, [], ◌∷◌, inl, inr}
 use Rattle.std.specs.Prelude.{Box, IfOk, OnErr, OnOk}
 use Rattle.std.specs.Option.{ok_or}
 use Rattle.std.specs.Box.{box_value}
@@ -62,9 +62,24 @@ ok_always (Err e) p = tt
 -- what the command lacks explains the fault, where `clap` found no mistake
 pub lack_explained : (words : List Text) (name : Text) (rows : List Row) (e : WordsFault) → fault_of roundc_app words ≡ []
     → subcommand_of roundc_app words ≡ Some (name, rows) → FailsByValue name rows e → Explains words e
-lack_explained words name rows (fault.Refused e) none is lack = absurd lack
+lack_explained words name rows (fault.Refused e) none is lack = absurd (elim lack [
+  | inl check ↦ check.1
+  | inr more ↦ elim more [
+    | inl run ↦ elim run.1 [ inl source ↦ source | inr file ↦ file ]
+    | inr more ↦ elim more [
+      | inl judge ↦ elim judge.1 [
+        | inl run ↦ elim run [ inl source ↦ source | inr file ↦ file ]
+        | inr value ↦ elim value [ inl list ↦ list | inr value ↦ elim value [ inl delta ↦ delta | inr gst ↦ gst ] ]
+      ]
+      | inr other ↦ cc (other.1)
+    ]
+  ]
+])
 lack_explained words name rows fault.Missing none is lack = (none, (name, rows, is, lack))
 lack_explained words name rows fault.Source none is lack = (none, (name, rows, is, lack))
+lack_explained words name rows fault.List none is lack = (none, (name, rows, is, lack))
+lack_explained words name rows fault.Delta none is lack = (none, (name, rows, is, lack))
+lack_explained words name rows fault.Gst none is lack = (none, (name, rows, is, lack))
 lack_explained words name rows fault.NoMemory none is lack = tt
 
 or_else_right : (a b : Kinds) → or_else a b ≡ [] → b ≡ []

@@ -23,3 +23,20 @@ help_refused = refl
 missing_refused : fault_of roundc_app (codes "run" ∷ codes "@gather:2" ∷ []) ≡ kind.MissingRequiredArgument ∷ []
 unfolding clap_on_literals
 missing_refused = refl
+
+abbrev judge_row : List Text
+judge_row =
+    codes "judge" ∷ codes "a" ∷ codes "--gst" ∷ codes "7" ∷ codes "--schedule" ∷ codes "b" ∷ codes "--delta" ∷ codes "1"
+    ∷ codes "--correct" ∷ codes "0,2" ∷ []
+
+judge_taken : takes roundc_app judge_row ≡ true
+unfolding clap_on_literals
+judge_taken = refl
+
+judge_gst : option_map (λ p. first_of (codes "gst") p.1) (subcommand_of roundc_app judge_row) ≡ Some (Some (codes "7"))
+unfolding clap_on_literals
+judge_gst = refl
+
+check_taken : takes roundc_app (codes "check" ∷ codes "a" ∷ []) ≡ true
+unfolding clap_on_literals
+check_taken = refl

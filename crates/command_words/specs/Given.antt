@@ -1,11 +1,11 @@
 -- What the words of a command line say, by `clap`'s own definition of a simple command's matches.
-use Rattle.std.specs.Prelude.{◌≡◌, ◌≢◌, ◌⊎◌, List, None, Some, codes, [], ⊤}
+use Rattle.std.specs.Prelude.{◌≡◌, ◌≢◌, ◌≤◌, ◌⊎◌, ℕ, List, None, Some, codes, [], ⊤}
 use Rattle.clap.specs.Words.{Row, Text, first_of, subcommand_of, fault_of, IsAmong, kind_of}
 use Rattle.command_words.specs.Commands.{roundc_app}
-use Rattle.command_words.specs.Values.{SourceText}
+use Rattle.command_words.specs.Values.{IsNoList, ListText, NumberText, SourceText}
 use Rattle.command_words.specs.declared.values.Source.{Source}
 use Rattle.command_words.specs.declared.words.Words.{Words}
-use Rattle.command_words.specs.declared.words.Words.TheVariants.{Run}
+use Rattle.command_words.specs.declared.words.Words.TheVariants.{Check, Judge, Run}
 use Rattle.command_words.specs.declared.words.WordsFault.{WordsFault}
 use Rattle.command_words.specs.declared.words.WordsFault.TheVariants.{Refused, Missing, NoMemory}
 use Rattle.command_words.specs.declared.words.WordsFault.TheVariants as fault
@@ -15,10 +15,26 @@ abbrev pub GivesSource : List Row → Source → Type 0
 GivesSource rows source =
     (text : Text) × (first_of (codes "source") rows ≡ Some text) × SourceText text source
 
+-- the argument has a value, and it is the text of the list
+abbrev pub GivesList : List Row → List ℕ → Type 0
+GivesList rows list = (text : Text) × (first_of (codes "correct") rows ≡ Some text) × ListText text list
+
+-- the argument has a value, and it is the text of a number of 1 to 1,024
+abbrev pub GivesDelta : List Row → ℕ → Type 0
+GivesDelta rows n = (text : Text) × (first_of (codes "delta") rows ≡ Some text) × NumberText text n × (1 ≤ n) × (n ≤ 1024)
+
+-- the argument has a value, and it is the text of the number
+abbrev pub GivesGst : List Row → ℕ → Type 0
+GivesGst rows n = (text : Text) × (first_of (codes "gst") rows ≡ Some text) × NumberText text n
+
 -- the command of this name with these matches is what the words say
 abbrev pub Gives : Text → List Row → Words → Type 0
+Gives name rows (Check source) = (name ≡ codes "check") × GivesSource rows source
 Gives name rows (Run source schedule) = (name ≡ codes "run") × GivesSource rows source
     × (first_of (codes "schedule") rows ≡ Some schedule.now)
+Gives name rows (Judge source schedule correct delta gst) = (name ≡ codes "judge") × GivesSource rows source
+    × (first_of (codes "schedule") rows ≡ Some schedule.now) × GivesList rows correct.items × GivesDelta rows delta
+    × GivesGst rows gst
 
 -- the words name a command, and give it its values
 abbrev pub Means : List Text → Words → Type 0
@@ -32,13 +48,46 @@ FailsBySource rows fault.Source = (text : Text) × (first_of (codes "source") ro
     × ((source : Source) → ¬ (SourceText text source))
 FailsBySource rows _ = ⊥
 
--- the fault of a command's values: there is no such command, or one of them isn't there, or
--- SOURCE has another fault
+-- the fault of FILE: it has no value
+abbrev pub FailsByFile : List Row → WordsFault → Type 0
+FailsByFile rows Missing = first_of (codes "schedule") rows ≡ None
+FailsByFile rows _ = ⊥
+
+-- the fault of LIST: it has no value, or one that is the text of no list, or there was no memory for the list
+abbrev pub FailsByList : List Row → WordsFault → Type 0
+FailsByList rows Missing = first_of (codes "correct") rows ≡ None
+FailsByList rows fault.List = (text : Text) × (first_of (codes "correct") rows ≡ Some text) × IsNoList text fault.List
+FailsByList rows NoMemory = ⊤
+FailsByList rows _ = ⊥
+
+-- the fault of D: it has no value, or one that is the text of no number of 1 to 1,024
+abbrev pub FailsByDelta : List Row → WordsFault → Type 0
+FailsByDelta rows Missing = first_of (codes "delta") rows ≡ None
+FailsByDelta rows fault.Delta = (text : Text) × (first_of (codes "delta") rows ≡ Some text)
+    × ((n : ℕ) → NumberText text n → 1 ≤ n → ¬ (n ≤ 1024))
+FailsByDelta rows _ = ⊥
+
+-- the fault of G: it has no value, or one that is the text of no number
+abbrev pub FailsByGst : List Row → WordsFault → Type 0
+FailsByGst rows Missing = first_of (codes "gst") rows ≡ None
+FailsByGst rows fault.Gst = (text : Text) × (first_of (codes "gst") rows ≡ Some text) × ((n : ℕ) → ¬ (NumberText text n))
+FailsByGst rows _ = ⊥
+
+-- the fault of a value of `run`
+abbrev pub FailsByRun : List Row → WordsFault → Type 0
+FailsByRun rows fault = FailsBySource rows fault ⊎ FailsByFile rows fault
+
+-- the fault of a value of `judge`
+abbrev pub FailsByJudge : List Row → WordsFault → Type 0
+FailsByJudge rows fault =
+    FailsByRun rows fault ⊎ (FailsByList rows fault ⊎ (FailsByDelta rows fault ⊎ FailsByGst rows fault))
+
+-- the fault of a command's values; a command of another name lacks all
 abbrev pub FailsByValue : Text → List Row → WordsFault → Type 0
-FailsByValue name rows Missing = (name ≢ codes "run") ⊎ ((first_of (codes "source") rows ≡ None)
-    ⊎ (first_of (codes "schedule") rows ≡ None))
-FailsByValue name rows fault.Source = FailsBySource rows fault.Source
-FailsByValue name rows _ = ⊥
+FailsByValue name rows fault =
+    ((name ≡ codes "check") × FailsBySource rows fault) ⊎ (((name ≡ codes "run") × FailsByRun rows fault)
+    ⊎ (((name ≡ codes "judge") × FailsByJudge rows fault)
+    ⊎ (((name ≢ codes "check") × (name ≢ codes "run") × (name ≢ codes "judge")) × (fault ≡ Missing))))
 
 -- `clap` finds no mistake in the words, and a value of the command that they name has the fault
 abbrev pub HasBadValue : List Text → WordsFault → Type 0
@@ -49,6 +98,5 @@ HasBadValue words fault = (fault_of roundc_app words ≡ []) × ((name : Text) �
 -- finds none, and a value is missing or isn't of its form
 abbrev pub Explains : List Text → WordsFault → Type 0
 Explains words (Refused error) = IsAmong (kind_of error) (fault_of roundc_app words)
-Explains words Missing = HasBadValue words Missing
-Explains words fault.Source = HasBadValue words fault.Source
 Explains words NoMemory = ⊤
+Explains words fault = HasBadValue words fault

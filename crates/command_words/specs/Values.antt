@@ -1,10 +1,12 @@
--- The text of SOURCE, which `clap` passes on as it was written.
-use Rattle.std.specs.Prelude.{◌≡◌, ◌≢◌, ◌++◌, ◌∷◌, ◌==◌, ◌&&◌, ◌||◌, [], ℕ, Bool, IsTrue, false, min}
+-- The texts of SOURCE, LIST and numbers, which `clap` passes on as they were written.
+use Rattle.std.specs.Prelude.{◌≡◌, ◌≢◌, ◌++◌, ◌∷◌, ◌==◌, ◌&&◌, ◌||◌, ◌<◌, ◌^◌, [], ℕ, Bool, IsTrue, List, false, min, ⊤}
 use Rattle.std.specs.Char.{is_ascii_alphabetic, is_ascii_alphanumeric}
-use Rattle.std.specs.List.{list_all}
+use Rattle.std.specs.List.{list_all, slice_split}
 use Rattle.std.specs.Str.Parse.{IsNumeral, digits_value}
 use Rattle.clap.specs.Words.{Text}
 use Rattle.command_words.specs.declared.values.Source.{Source}
+use Rattle.command_words.specs.declared.words.WordsFault.{WordsFault}
+use Rattle.command_words.specs.declared.words.WordsFault.TheVariants as fault
 use Rattle.command_words.specs.declared.values.Source.TheVariants.{File, Library}
 
 -- `@`
@@ -38,3 +40,29 @@ SourceText text (File name) = (name.now ≡ text) × ((rest : Text) → text ≢
 SourceText text (Library name values) = (digits : Text)
     × (text ≡ at_sign ∷ name.now ++ colon ∷ digits) × IsTrue (is_name name.now)
     × IsNumeral 10 digits × (values ≡ min (digits_value 10 digits) 4294967295)
+
+-- one or more decimal digits and no sign, which write a number of 32 bits
+pub record NumberText (text : Text) (n : ℕ) : Type 0 where
+  pub digits : IsNumeral 10 text
+  pub value : n ≡ digits_value 10 text
+  pub small : n < 2 ^ 32
+
+abbrev pub is_comma : ℕ → Bool
+is_comma b = b == 44
+
+-- each text is a number's
+abbrev pub AreNumbers : List Text → List ℕ → Type 0
+AreNumbers [] [] = ⊤
+AreNumbers [] (n ∷ ns) = ⊥
+AreNumbers (text ∷ texts) [] = ⊥
+AreNumbers (text ∷ texts) (n ∷ ns) = NumberText text n × AreNumbers texts ns
+
+-- the texts between the commas are the numbers'
+abbrev pub ListText : Text → List ℕ → Type 0
+ListText text ns = AreNumbers (slice_split is_comma text) ns
+
+-- the text is no list of numbers, or there was no memory for it
+abbrev pub IsNoList : Text → WordsFault → Type 0
+IsNoList text fault.List = (ns : List ℕ) → ¬ (ListText text ns)
+IsNoList text fault.NoMemory = ⊤
+IsNoList text _ = ⊥

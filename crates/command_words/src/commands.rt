@@ -1,7 +1,7 @@
 //! The commands, made by `clap`'s builders: one function for each argument and each command.
-ghost use Rattle.std.specs.Prelude.{◌≡◌, IfOk, false};
+ghost use Rattle.std.specs.Prelude.{◌≡◌, IfOk, codes, false};
 ghost use Rattle.clap.specs.Words.{rule_of};
-ghost use Rattle.command_words.specs.Commands.{IsCommandOf, roundc_app, run_app, source_rule, text_rule};
+ghost use Rattle.command_words.specs.Commands.{IsCommandOf, check_app, judge_app, roundc_app, run_app, source_rule, text_rule};
 
 use clap::{Arg, Command};
 use std::alloc::{AllocError, Global};
@@ -17,16 +17,56 @@ fn source_arg<'a>(alloc: Global) -> Arg<'a>
         .help("A file, or @NAME:VALUES, a program of the library")
 }
 
-/// `--NAME FILE`, a required option.
-fn file_arg<'a>(alloc: Global, name: &'a str, help: &'a str) -> Arg<'a>
+/// `--NAME VALUE`, a required option of any text, whose form is read apart.
+fn value_arg<'a>(alloc: Global, name: &'a str, value: &'a str, help: &'a str) -> Arg<'a>
     ensures rule { rule_of result ≡ text_rule name.entry.now }
     ensures local { result.global ≡ false }
 {
     Arg::new(alloc, name)
         .long(name)
-        .value_name("FILE")
+        .value_name(value)
         .required(true)
         .help(help)
+}
+
+/// `--schedule FILE`.
+fn schedule_arg<'a>(alloc: Global) -> Arg<'a>
+    ensures rule { rule_of result ≡ text_rule (codes "schedule") }
+    ensures local { result.global ≡ false }
+{
+    value_arg(
+        alloc,
+        "schedule",
+        "FILE",
+        "The schedule's file, or - for standard input",
+    )
+}
+
+/// `check SOURCE`.
+fn check_command<'a>(alloc: Global) -> Result<Command<'a>, AllocError>
+    ensures { IfOk result (IsCommandOf check_app) }
+{
+    Command::new(alloc, "check")
+        .about("Reads a source and says what it declares")
+        .arg(source_arg(alloc))
+}
+
+/// `judge SOURCE --schedule FILE --correct LIST --delta D --gst G`.
+fn judge_command<'a>(alloc: Global) -> Result<Command<'a>, AllocError>
+    ensures { IfOk result (IsCommandOf judge_app) }
+{
+    Command::new(alloc, "judge")
+        .about("Says whether a schedule keeps lockstep and the delay bound")
+        .arg(source_arg(alloc))?
+        .arg(schedule_arg(alloc))?
+        .arg(value_arg(alloc, "correct", "LIST", "The correct nodes, as 0,2,3"))?
+        .arg(value_arg(alloc, "delta", "D", "The delay bound in steps, 1 to 1024"))?
+        .arg(value_arg(
+            alloc,
+            "gst",
+            "G",
+            "The step from which the bound is to hold",
+        ))
 }
 
 /// `run SOURCE --schedule FILE`.
@@ -36,11 +76,7 @@ fn run_command<'a>(alloc: Global) -> Result<Command<'a>, AllocError>
     Command::new(alloc, "run")
         .about("Runs a schedule and reports each completed round")
         .arg(source_arg(alloc))?
-        .arg(file_arg(
-            alloc,
-            "schedule",
-            "The schedule's file, or - for standard input",
-        ))
+        .arg(schedule_arg(alloc))
 }
 
 /// The whole command line, after the program's own name.
@@ -54,5 +90,7 @@ pub(crate) fn roundc_command<'a>(alloc: Global) -> Result<Command<'a>, AllocErro
         .no_binary_name(true)
         .disable_help_subcommand(true)
         .subcommand_required(true)
-        .subcommand(run_command(alloc)?)
+        .subcommand(check_command(alloc)?)?
+        .subcommand(run_command(alloc)?)?
+        .subcommand(judge_command(alloc)?)
 }

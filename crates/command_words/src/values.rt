@@ -1,9 +1,12 @@
-//! The value SOURCE, which `clap` passes on as any text.
-ghost use Rattle.std.specs.Prelude.{◌≡◌, ◌≢◌, ◌↔◌, ◌∷◌, ◌++◌, [], ℕ, List, IfNone, IfSome, IsTrue, MatchOption, min};
+//! The values SOURCE, LIST, D and G, which `clap` passes on as any text.
+ghost use Rattle.std.specs.Prelude.{◌≡◌, ◌≢◌, ◌↔◌, ◌∷◌, ◌++◌, [], ℕ, List, IfErr, IfNone, IfOk, IfSome, IsTrue, MatchOption, min};
 ghost use Rattle.std.specs.Char.{is_ascii_digit};
 ghost use Rattle.std.specs.List.{after_first, before_first, list_all};
 ghost use Rattle.std.specs.Str.Parse.{IsNumeral, digits_value};
-ghost use Rattle.command_words.specs.Values.{SourceText, at_sign, begins_name, colon, continues_name, is_colon, is_name};
+ghost use Rattle.command_words.specs.Values.{IsNoList, ListText, NumberText, SourceText, at_sign, begins_name, colon, continues_name, is_colon, is_name};
+
+use crate::words::WordsFault;
+use std::alloc::Global;
 
 /// Where a program's source is.
 #[derive(Clone, Copy, Debug, PartialEq, Eq)]
@@ -69,6 +72,35 @@ fn capped_number(digits: &str) -> u32
     ensures { result ≡ min (digits_value 10 digits.now) u32.MAX }
 {
     digits.parse().unwrap_or(u32::MAX)
+}
+
+/// The largest delay bound that D may be.
+pub(crate) const MAX_DELTA: u32 = 1024;
+
+/// The number that decimal digits write, where it has 32 bits; a sign is no digit.
+pub(crate) fn read_number(text: &str) -> Option<u32>
+    ensures some { IfSome result (NumberText text.now) }
+    ensures none { IfNone result ((n : ℕ) → ¬ (NumberText text.now n)) }
+{
+    if !is_numeral(text) {
+        return None;
+    }
+    text.parse().ok()
+}
+
+/// The numbers that a text has with single commas between them.
+pub(crate) fn read_list(alloc: Global, text: &str) -> Result<Vec<u32>, WordsFault>
+    ensures ok { IfOk result (λ list. ListText text.now list.items) }
+    ensures err { IfErr result (IsNoList text.now) }
+{
+    let mut list = Vec::new(alloc);
+    for part in text.split(',') {
+        let Some(number) = read_number(part) else {
+            return Err(WordsFault::List);
+        };
+        list.push(number)?;
+    }
+    Ok(list)
 }
 
 /// What follows `@`.

@@ -1,23 +1,36 @@
 //! What the words say.
-ghost use Rattle.std.specs.Prelude.{◌≡◌, ◌≢◌, ◌⊎◌, [], IfErr, IfOk, OnErr, OnOk, map};
+ghost use Rattle.std.specs.Prelude.{◌≡◌, ◌≢◌, ◌⊎◌, [], IfErr, IfOk, OnErr, OnOk, codes, map};
 ghost use Rattle.clap.specs.Words.{fault_of, first_of, found_of, kind_of, rows_of};
 ghost use Rattle.command_words.specs.Commands.{roundc_app};
-ghost use Rattle.command_words.specs.Given.{Explains, FailsBySource, FailsByValue, Gives, GivesSource, Means};
+ghost use Rattle.command_words.specs.Given.{Explains, FailsByDelta, FailsByGst, FailsByJudge, FailsByList, FailsBySource, FailsByValue, Gives, GivesDelta, GivesGst, GivesList, GivesSource, Means};
 ghost use Rattle.command_words.specs.declared.words.WordsFault.TheVariants.{NoMemory};
 
 use crate::commands::roundc_command;
-use crate::values::{Source, read_source};
+use crate::values::{MAX_DELTA, Source, read_list, read_number, read_source};
 use clap::ArgMatches;
 use clap::error::ErrorKind;
 use std::alloc::{AllocError, AllocFailed, Global};
 
 /// A command with its values.
-#[derive(Clone, Copy, Debug, PartialEq, Eq)]
+#[derive(Debug, Drop, PartialEq, Eq)]
 pub enum Words<'a> {
+    /// `check SOURCE`.
+    Check {
+        source: Source<'a>,
+    },
     /// `run SOURCE --schedule FILE`; `schedule` is FILE as it was written, `-` included.
     Run {
         source: Source<'a>,
         schedule: &'a str,
+    },
+    /// `judge SOURCE --schedule FILE --correct LIST --delta D --gst G`; `correct` has the numbers of
+    /// LIST in their order, also those that are there twice.
+    Judge {
+        source: Source<'a>,
+        schedule: &'a str,
+        correct: Vec<u32>,
+        delta: u32,
+        gst: u32,
     },
 }
 
@@ -32,6 +45,12 @@ pub enum WordsFault {
     Missing,
     /// A SOURCE that begins with `@` and doesn't go on as a name, `:` and digits.
     Source,
+    /// A LIST that isn't one or more numbers of 32 bits with commas between them.
+    List,
+    /// A D that isn't a number of 1 to 1,024.
+    Delta,
+    /// A G that isn't a number of 32 bits.
+    Gst,
     /// Memory ran out. Nothing is known of the words.
     NoMemory,
 }
@@ -81,16 +100,68 @@ fn source_of<'a>(matches: &ArgMatches<'a>) -> Result<Source<'a>, WordsFault>
     read_source(text).ok_or(WordsFault::Source)
 }
 
+/// The value of LIST.
+fn correct_of(alloc: Global, matches: &ArgMatches<'_>) -> Result<Vec<u32>, WordsFault>
+    ensures ok { IfOk result (λ list. GivesList (rows_of (found_of matches.now)) list.items) }
+    ensures err { IfErr result (FailsByList (rows_of (found_of matches.now))) }
+{
+    let text = text_of(matches, "correct")?;
+    read_list(alloc, text)
+}
+
+/// The value of D.
+fn delta_of(matches: &ArgMatches<'_>) -> Result<u32, WordsFault>
+    ensures ok { IfOk result (GivesDelta (rows_of (found_of matches.now))) }
+    ensures err { IfErr result (FailsByDelta (rows_of (found_of matches.now))) }
+{
+    let text = text_of(matches, "delta")?;
+    match read_number(text) {
+        Some(delta) if 1 <= delta && delta <= MAX_DELTA => Ok(delta),
+        _ => Err(WordsFault::Delta),
+    }
+}
+
+/// The value of G.
+fn gst_of(matches: &ArgMatches<'_>) -> Result<u32, WordsFault>
+    ensures ok { IfOk result (GivesGst (rows_of (found_of matches.now))) }
+    ensures err { IfErr result (FailsByGst (rows_of (found_of matches.now))) }
+{
+    let text = text_of(matches, "gst")?;
+    read_number(text).ok_or(WordsFault::Gst)
+}
+
+/// The values of the command `judge`.
+fn judge_of<'a>(alloc: Global, matches: &ArgMatches<'a>) -> Result<Words<'a>, WordsFault>
+    ensures ok { IfOk result (Gives (codes "judge") (rows_of (found_of matches.now))) }
+    ensures err { IfErr result (FailsByJudge (rows_of (found_of matches.now))) }
+{
+    Ok(Words::Judge {
+        source: source_of(matches)?,
+        schedule: text_of(matches, "schedule")?,
+        correct: correct_of(alloc, matches)?,
+        delta: delta_of(matches)?,
+        gst: gst_of(matches)?,
+    })
+}
+
 /// The values of the command `name`.
-fn command_of<'a>(name: &'a str, matches: &ArgMatches<'a>) -> Result<Words<'a>, WordsFault>
+fn command_of<'a>(
+    alloc: Global,
+    name: &'a str,
+    matches: &ArgMatches<'a>,
+) -> Result<Words<'a>, WordsFault>
     ensures ok { IfOk result (Gives name.entry.now (rows_of (found_of matches.now))) }
     ensures err { IfErr result (FailsByValue name.entry.now (rows_of (found_of matches.now))) }
 {
     match name {
+        "check" => Ok(Words::Check {
+            source: source_of(matches)?,
+        }),
         "run" => Ok(Words::Run {
             source: source_of(matches)?,
             schedule: text_of(matches, "schedule")?,
         }),
+        "judge" => judge_of(alloc, matches),
         _ => Err(WordsFault::Missing),
     }
 }
@@ -113,7 +184,7 @@ pub fn read_words<'a>(alloc: Global, words: &'a [&'a str]) -> Result<Words<'a>, 
         Err(error) => return Err(refusal(error)),
     };
     match matches.subcommand() {
-        Some((name, inner)) => command_of(name, inner),
+        Some((name, inner)) => command_of(alloc, name, inner),
         None => unreachable!(),
     }
 }

@@ -6,4 +6,6 @@ use Rattle.command_words.proofs.commands.roundc_command.Goals as goal
 
 pub returns : goal.returns
 returns c =
-    IfOk-weaker c.subcommand.result _ _ (λ r h. subcommand_added _ _ _ bare_app _ h (search rules) c.in_ok-run_command.ensures) c.subcommand.ensures
+    let first = subcommand_added _ _ _ bare_app _ c.in_ok-subcommand.ensures (search rules) c.in_ok-check_command.ensures in
+    let second = subcommand_added _ _ _ _ _ c.in_ok-subcommand-2.ensures first c.in_ok-run_command.ensures in
+    IfOk-weaker c.subcommand-3.result _ _ (λ r h. subcommand_added _ _ _ _ _ h second c.in_ok-judge_command.ensures) c.subcommand-3.ensures
