@@ -4,22 +4,32 @@
 mod block;
 mod copies;
 mod expr;
+mod fault;
 mod formula;
 mod identifier;
+mod keywords;
+mod lexing;
 mod memory;
+mod parsing;
 mod program;
 mod row;
 mod sets;
+mod token;
 mod value;
 mod vars;
 
 pub use block::{Assignment, Block, Field};
 pub use expr::{BinaryOperator, Constant, Expr, Ty, UnaryOperator};
+pub use fault::{LangFault, Span};
 pub use formula::Formula;
 pub use identifier::Identifier;
 pub use memory::NoMemory;
+pub use parsing::parse;
 pub use program::{Program, Variable, VariableKind};
 pub use row::Row;
 pub use sets::ValueSet;
 pub use value::{Value, binary, unary};
 pub use vars::{Message, Vars};
+
+#[cfg(test)]
+mod tests;

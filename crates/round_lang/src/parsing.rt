@@ -1,0 +1,60 @@
+//! From a text to its program.
+ghost use Rattle.std.specs.Prelude.{◌≡◌, ◌≢◌, ◌<◌, ◌↔◌, IfOk, IfErr, Err, length};
+ghost use Rattle.round_lang.specs.Source.{IsSource};
+ghost use Rattle.round_lang.specs.Syntax.{ProgramTree};
+
+mod cursor;
+mod expression;
+mod fault;
+mod level;
+mod part;
+
+use crate::fault::LangFault;
+use crate::lexing::{TokenFault, tokens};
+use crate::program::Program;
+use crate::token::{Mark, Token};
+use cursor::{expect, number_at, span_at};
+use expression::Parser;
+use fault::Fault;
+use part::{blocks, declarations};
+use std::alloc::Global;
+
+/// How many bytes a text has at most.
+pub const MAX_TEXT: usize = 65_536;
+
+/// The program that the tokens are.
+fn program(parser: Parser, tokens: &[Token<'_>]) -> Result<Program, Fault> {
+    let rest = expect(parser.end, Mark::Values, tokens)?;
+    let (values, rest) = number_at(parser.end, 1, 64, rest)?;
+    let rest = expect(parser.end, Mark::Period, rest)?;
+    let (period, rest) = number_at(parser.end, 1, 8, rest)?;
+    let (declared, rest) = declarations(parser, rest)?;
+    let (blocks, rest) = blocks(parser, rest)?;
+    if !rest.is_empty() {
+        return Err(Fault::Unexpected(span_at(parser.end, rest)));
+    }
+    Ok(Program::new(values, period, declared.variables, declared.decides, blocks))
+}
+
+/// The program that the text is.
+pub fn parse(alloc: Global, text: &str) -> Result<Program, LangFault> {
+    if text.len() > MAX_TEXT {
+        return Err(LangFault::TooLong);
+    }
+    let tokens = match tokens(alloc, text.as_bytes()) {
+        Ok(tokens) => tokens,
+        Err(TokenFault::NoMemory) => return Err(LangFault::NoMemory),
+        Err(TokenFault::BadToken(span)) => return Err(LangFault::BadToken(span)),
+    };
+    let parser = Parser {
+        alloc,
+        end: text.len(),
+    };
+    match program(parser, &tokens) {
+        Ok(program) => Ok(program),
+        Err(Fault::NoMemory) => Err(LangFault::NoMemory),
+        Err(Fault::Unexpected(span)) => Err(LangFault::Unexpected(span)),
+        Err(Fault::TooDeep) => Err(LangFault::TooDeep),
+        Err(Fault::LimitPassed(span)) => Err(LangFault::LimitPassed(span)),
+    }
+}

@@ -1,0 +1,204 @@
+//! What comes next among the tokens.
+ghost use Rattle.std.specs.Prelude.{◌≡◌, ◌≤◌, min, option_map};
+ghost use Rattle.round_lang.specs.Lexemes.{lexemes};
+ghost use Rattle.round_lang.specs.Outcome.{Gives, left_of, name_found, operator_found, rest_of};
+ghost use Rattle.round_lang.specs.Reading as reading;
+ghost use Rattle.round_lang.specs.Grammar as grammar;
+
+use crate::expr::{BinaryOperator, Ty};
+use crate::fault::Span;
+use crate::parsing::fault::Fault;
+use crate::parsing::level::{Level, is_level, level_of};
+use crate::token::{Mark, Name, Token, Word, is_mark};
+
+/// How many bytes a name has at most.
+pub const MAX_NAME: usize = 32;
+
+/// The largest number of the language.
+pub const MAX_NUMBER: u64 = 4_294_967_295;
+
+/// Where the next token stands, or where the text ends.
+pub fn span_at(end: usize, tokens: &[Token<'_>]) -> Span {
+    match tokens {
+        [first, ..] => first.span,
+        [] => Span {
+            first: end,
+            after: end,
+        },
+    }
+}
+
+/// The tokens after this mark, if it comes next.
+#[tactic(auto, unfolding(crate::specs::Reading::after))]
+pub fn after<'t, 'a>(mark: Mark, tokens: &'t [Token<'a>]) -> Option<&'t [Token<'a>]>
+    ensures { option_map rest_of result ≡ reading.after mark (lexemes tokens.now) }
+{
+    match tokens {
+        [first, rest @ ..] => match first.word {
+            Word::Mark(found) => {
+                if is_mark(found, mark) {
+                    Some(rest)
+                } else {
+                    None
+                }
+            }
+            _ => None,
+        },
+        [] => None,
+    }
+}
+
+/// The tokens after this mark, which has to come next.
+pub fn expect<'t, 'a>(
+    end: usize,
+    mark: Mark,
+    tokens: &'t [Token<'a>],
+) -> Result<&'t [Token<'a>], Fault>
+    ensures { Gives rest_of result (reading.after mark (lexemes tokens.now)) }
+{
+    match after(mark, tokens) {
+        Some(rest) => Ok(rest),
+        None => Err(Fault::Unexpected(span_at(end, tokens))),
+    }
+}
+
+/// The tokens after the `=` that has to come next.
+#[tactic(auto, unfolding(crate::specs::Reading::after_equal))]
+pub fn expect_equal<'t, 'a>(end: usize, tokens: &'t [Token<'a>]) -> Result<&'t [Token<'a>], Fault>
+    ensures { Gives rest_of result (reading.after_equal (lexemes tokens.now)) }
+{
+    match tokens {
+        [first, rest @ ..] => match first.word {
+            Word::Infix(BinaryOperator::Equal) => Ok(rest),
+            _ => Err(Fault::Unexpected(first.span)),
+        },
+        [] => Err(Fault::Unexpected(span_at(end, tokens))),
+    }
+}
+
+/// The name that has to come next.
+#[tactic(auto, unfolding(crate::specs::Reading::name_at))]
+pub fn name_at<'t, 'a>(
+    end: usize,
+    tokens: &'t [Token<'a>],
+) -> Result<(Name<'a>, &'t [Token<'a>]), Fault>
+    ensures { Gives name_found result (reading.name_at (lexemes tokens.now)) }
+{
+    match tokens {
+        [first, rest @ ..] => match first.word {
+            Word::Name(name) => {
+                if name.text.len() <= MAX_NAME {
+                    Ok((name, rest))
+                } else {
+                    Err(Fault::LimitPassed(first.span))
+                }
+            }
+            _ => Err(Fault::Unexpected(first.span)),
+        },
+        [] => Err(Fault::Unexpected(span_at(end, tokens))),
+    }
+}
+
+/// The type that has to come next.
+#[tactic(auto, unfolding(crate::specs::Reading::type_at))]
+pub fn type_at<'t, 'a>(end: usize, tokens: &'t [Token<'a>]) -> Result<(Ty, &'t [Token<'a>]), Fault>
+    ensures { Gives left_of result (reading.type_at (lexemes tokens.now)) }
+{
+    match tokens {
+        [first, rest @ ..] => match first.word {
+            Word::Kind(ty) => Ok((ty, rest)),
+            _ => Err(Fault::Unexpected(first.span)),
+        },
+        [] => Err(Fault::Unexpected(span_at(end, tokens))),
+    }
+}
+
+/// The value of digits, where each above the largest number counts as the next one.
+pub fn value_of(digits: &[u8]) -> u64
+    ensures { result ≡ min (grammar.value_of digits.now) 4294967296 }
+{
+    digits.iter().fold(0u64, |n, b| {
+        (10 * n.min(MAX_NUMBER + 1) + u64::from(b.saturating_sub(b'0'))).min(MAX_NUMBER + 1)
+    })
+}
+
+/// The number that has to come next, within its limits.
+#[tactic(auto, unfolding(crate::specs::Reading::number_at))]
+pub fn number_at<'t, 'a>(
+    end: usize,
+    least: u64,
+    most: u64,
+    tokens: &'t [Token<'a>],
+) -> Result<(u32, &'t [Token<'a>]), Fault>
+    requires { most ≤ MAX_NUMBER }
+    ensures { Gives left_of result (reading.number_at least most (lexemes tokens.now)) }
+{
+    match tokens {
+        [first, rest @ ..] => match first.word {
+            Word::Number(digits) => {
+                let value = value_of(digits);
+                if least <= value && value <= most {
+                    Ok((value as u32, rest))
+                } else {
+                    Err(Fault::LimitPassed(first.span))
+                }
+            }
+            _ => Err(Fault::Unexpected(first.span)),
+        },
+        [] => Err(Fault::Unexpected(span_at(end, tokens))),
+    }
+}
+
+/// An operator of the level, if one comes next, and the tokens after it.
+#[tactic(auto, unfolding(crate::specs::Reading::operator_at))]
+pub fn operator_at<'t, 'a>(
+    level: Level,
+    tokens: &'t [Token<'a>],
+) -> Option<(BinaryOperator, &'t [Token<'a>])>
+    ensures { option_map operator_found result ≡ reading.operator_at level (lexemes tokens.now) }
+{
+    match tokens {
+        [first, rest @ ..] => match first.word {
+            Word::Infix(operator) => match level_of(operator) {
+                Some(found) => {
+                    if is_level(found, level) {
+                        Some((operator, rest))
+                    } else {
+                        None
+                    }
+                }
+                None => None,
+            },
+            _ => None,
+        },
+        [] => None,
+    }
+}
+
+/// Whether this mark comes next.
+#[tactic(auto, unfolding(crate::specs::Reading::begins_with))]
+pub fn begins_with(mark: Mark, tokens: &[Token<'_>]) -> bool
+    ensures { result ≡ reading.begins_with mark (lexemes tokens.now) }
+{
+    match tokens {
+        [first, ..] => match first.word {
+            Word::Mark(found) => is_mark(found, mark),
+            _ => false,
+        },
+        [] => false,
+    }
+}
+
+/// Whether a name comes next.
+#[tactic(auto, unfolding(crate::specs::Reading::begins_name))]
+pub fn begins_name(tokens: &[Token<'_>]) -> bool
+    ensures { result ≡ reading.begins_name (lexemes tokens.now) }
+{
+    match tokens {
+        [first, ..] => match first.word {
+            Word::Name(_) => true,
+            _ => false,
+        },
+        [] => false,
+    }
+}

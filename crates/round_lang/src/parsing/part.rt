@@ -1,0 +1,298 @@
+//! The parts of a program: declarations, blocks and assignments.
+ghost use Rattle.std.specs.Prelude.{◌≡◌, ◌≤◌, ◌++◌, [], ◌∷◌, IfOk, vec_len};
+ghost use Rattle.round_lang.specs.Lexemes.{lexemes};
+ghost use Rattle.round_lang.specs.Outcome.{Gives, left_of, list_found, head_found, sending_found};
+ghost use Rattle.round_lang.specs.Reading.Parts as reading;
+
+use crate::block::{Assignment, Block, Field};
+use crate::expr::Ty;
+use crate::formula::Formula;
+use crate::identifier::Identifier;
+use crate::memory::NoMemory;
+use crate::parsing::cursor::{
+    MAX_NUMBER, after, begins_name, begins_with, expect, expect_equal, name_at, number_at, span_at,
+    type_at,
+};
+use crate::parsing::expression::{Parser, formula, identifier};
+use crate::parsing::fault::Fault;
+use crate::program::{Variable, VariableKind};
+use crate::token::{Mark, Name, Token, Word};
+
+/// How many fields a block has at most.
+const MAX_FIELDS: usize = 8;
+
+/// How many variables a program has at most.
+const MAX_VARIABLES: usize = 16;
+
+/// What a declaration declares.
+#[derive(Drop)]
+pub enum Declaration {
+    Variable(Variable),
+    Decide(Identifier),
+}
+
+/// The name that has to come next, of something of which there are at most so many.
+fn counted_name<'t, 'a>(
+    end: usize,
+    count: usize,
+    most: usize,
+    tokens: &'t [Token<'a>],
+) -> Result<(Name<'a>, &'t [Token<'a>]), Fault> {
+    let (name, rest) = name_at(end, tokens)?;
+    if count < most {
+        Ok((name, rest))
+    } else {
+        Err(Fault::LimitPassed(span_at(end, tokens)))
+    }
+}
+
+/// `state NAME : TYPE = EXPR` behind its first word, after so many variables.
+fn state<'t, 'a>(
+    parser: Parser,
+    count: usize,
+    tokens: &'t [Token<'a>],
+) -> Result<(Declaration, &'t [Token<'a>]), Fault> {
+    let (name, rest) = counted_name(parser.end, count, MAX_VARIABLES, tokens)?;
+    let rest = expect(parser.end, Mark::Colon, rest)?;
+    let (ty, rest) = type_at(parser.end, rest)?;
+    let rest = expect_equal(parser.end, rest)?;
+    let (start, rest) = formula(parser, rest)?;
+    let name = identifier(parser.alloc, name)?;
+    let kind = VariableKind::State { ty, start };
+    Ok((Declaration::Variable(Variable { name, kind }), rest))
+}
+
+fn input<'t, 'a>(
+    parser: Parser,
+    count: usize,
+    tokens: &'t [Token<'a>],
+) -> Result<(Declaration, &'t [Token<'a>]), Fault> {
+    let (name, rest) = counted_name(parser.end, count, MAX_VARIABLES, tokens)?;
+    let name = identifier(parser.alloc, name)?;
+    let kind = VariableKind::Input;
+    Ok((Declaration::Variable(Variable { name, kind }), rest))
+}
+
+fn decide<'t, 'a>(
+    parser: Parser,
+    tokens: &'t [Token<'a>],
+) -> Result<(Declaration, &'t [Token<'a>]), Fault> {
+    let (name, rest) = name_at(parser.end, tokens)?;
+    Ok((Declaration::Decide(identifier(parser.alloc, name)?), rest))
+}
+
+/// Whether a declaration comes next.
+fn begins_declaration(tokens: &[Token<'_>]) -> bool {
+    match tokens {
+        [first, ..] => matches!(
+            first.word,
+            Word::Mark(Mark::State | Mark::Input | Mark::Decide)
+        ),
+        [] => false,
+    }
+}
+
+/// A declaration, after so many variables.
+fn read_declaration<'t, 'a>(
+    parser: Parser,
+    count: usize,
+    tokens: &'t [Token<'a>],
+) -> Result<(Declaration, &'t [Token<'a>]), Fault> {
+    match tokens {
+        [first, rest @ ..] => match first.word {
+            Word::Mark(Mark::State) => state(parser, count, rest),
+            Word::Mark(Mark::Input) => input(parser, count, rest),
+            Word::Mark(Mark::Decide) => decide(parser, rest),
+            _ => Err(Fault::Unexpected(first.span)),
+        },
+        [] => Err(Fault::Unexpected(span_at(parser.end, tokens))),
+    }
+}
+
+/// What a program declares.
+#[derive(Drop)]
+pub struct Declared {
+    pub variables: Vec<Variable>,
+    pub decides: Vec<Identifier>,
+}
+
+impl Declared {
+    fn push(&mut self, declaration: Declaration) -> Result<(), NoMemory> {
+        match declaration {
+            Declaration::Variable(variable) => self.variables.push(variable)?,
+            Declaration::Decide(name) => self.decides.push(name)?,
+        }
+        Ok(())
+    }
+}
+
+pub fn declarations<'t, 'a>(
+    parser: Parser,
+    tokens: &'t [Token<'a>],
+) -> Result<(Declared, &'t [Token<'a>]), Fault> {
+    let mut declared = Declared {
+        variables: Vec::new(parser.alloc),
+        decides: Vec::new(parser.alloc),
+    };
+    let mut rest = tokens;
+    while begins_declaration(rest) {
+        let (next, behind) = read_declaration(parser, declared.variables.len(), rest)?;
+        declared.push(next)?;
+        rest = behind;
+    }
+    Ok((declared, rest))
+}
+
+fn assignment<'t, 'a>(
+    parser: Parser,
+    tokens: &'t [Token<'a>],
+) -> Result<(Assignment, &'t [Token<'a>]), Fault> {
+    let (name, rest) = name_at(parser.end, tokens)?;
+    let rest = expect(parser.end, Mark::Assign, rest)?;
+    let (formula, rest) = formula(parser, rest)?;
+    let rest = expect(parser.end, Mark::Semicolon, rest)?;
+    let target = identifier(parser.alloc, name)?;
+    Ok((Assignment { target, formula }, rest))
+}
+
+fn assignments<'t, 'a>(
+    parser: Parser,
+    tokens: &'t [Token<'a>],
+) -> Result<(Vec<Assignment>, &'t [Token<'a>]), Fault> {
+    let mut assignments = Vec::new(parser.alloc);
+    let mut rest = tokens;
+    while begins_name(rest) {
+        let (next, behind) = assignment(parser, rest)?;
+        assignments.push(next)?;
+        rest = behind;
+    }
+    Ok((assignments, rest))
+}
+
+/// A field, after so many of its block.
+fn field<'t, 'a>(
+    parser: Parser,
+    count: usize,
+    tokens: &'t [Token<'a>],
+) -> Result<(Field, &'t [Token<'a>]), Fault> {
+    let (name, rest) = counted_name(parser.end, count, MAX_FIELDS, tokens)?;
+    let rest = expect(parser.end, Mark::Colon, rest)?;
+    let (ty, rest) = type_at(parser.end, rest)?;
+    let name = identifier(parser.alloc, name)?;
+    Ok((Field { name, ty }, rest))
+}
+
+/// The fields up to a `)`.
+fn fields<'t, 'a>(
+    parser: Parser,
+    tokens: &'t [Token<'a>],
+) -> Result<(Vec<Field>, &'t [Token<'a>]), Fault> {
+    let mut fields = Vec::new(parser.alloc);
+    if begins_with(Mark::Close, tokens) {
+        return Ok((fields, tokens));
+    }
+    let (first, mut rest) = field(parser, 0, tokens)?;
+    fields.push(first)?;
+    while let Some(next) = after(Mark::Comma, rest) {
+        let (next, behind) = field(parser, fields.len(), next)?;
+        fields.push(next)?;
+        rest = behind;
+    }
+    Ok((fields, rest))
+}
+
+/// The sent expressions up to a `)`.
+fn sent<'t, 'a>(
+    parser: Parser,
+    tokens: &'t [Token<'a>],
+) -> Result<(Vec<Formula>, &'t [Token<'a>]), Fault> {
+    let mut sent = Vec::new(parser.alloc);
+    if begins_with(Mark::Close, tokens) {
+        return Ok((sent, tokens));
+    }
+    let (first, mut rest) = formula(parser, tokens)?;
+    sent.push(first)?;
+    while let Some(next) = after(Mark::Comma, rest) {
+        let (next, behind) = formula(parser, next)?;
+        sent.push(next)?;
+        rest = behind;
+    }
+    Ok((sent, rest))
+}
+
+/// `NUMBER : message ( FIELDS )` of a block.
+fn head<'t, 'a>(
+    parser: Parser,
+    tokens: &'t [Token<'a>],
+) -> Result<(u32, Vec<Field>, &'t [Token<'a>]), Fault> {
+    let (number, rest) = number_at(parser.end, 0, MAX_NUMBER, tokens)?;
+    let rest = expect(parser.end, Mark::Colon, rest)?;
+    let rest = expect(parser.end, Mark::Message, rest)?;
+    let rest = expect(parser.end, Mark::Open, rest)?;
+    let (fields, rest) = fields(parser, rest)?;
+    let rest = expect(parser.end, Mark::Close, rest)?;
+    Ok((number, fields, rest))
+}
+
+/// `send when EXPR : ( EXPRS )` of a block.
+fn sending<'t, 'a>(
+    parser: Parser,
+    tokens: &'t [Token<'a>],
+) -> Result<(Formula, Vec<Formula>, &'t [Token<'a>]), Fault> {
+    let rest = expect(parser.end, Mark::Send, tokens)?;
+    let rest = expect(parser.end, Mark::When, rest)?;
+    let (condition, rest) = formula(parser, rest)?;
+    let rest = expect(parser.end, Mark::Colon, rest)?;
+    let rest = expect(parser.end, Mark::Open, rest)?;
+    let (sent, rest) = sent(parser, rest)?;
+    let rest = expect(parser.end, Mark::Close, rest)?;
+    Ok((condition, sent, rest))
+}
+
+/// `on message : ASSIGNMENTS` of a block.
+fn on_message<'t, 'a>(
+    parser: Parser,
+    tokens: &'t [Token<'a>],
+) -> Result<(Vec<Assignment>, &'t [Token<'a>]), Fault> {
+    let rest = expect(parser.end, Mark::On, tokens)?;
+    let rest = expect(parser.end, Mark::Message, rest)?;
+    let rest = expect(parser.end, Mark::Colon, rest)?;
+    assignments(parser, rest)
+}
+
+/// `end : ASSIGNMENTS` of a block.
+fn end<'t, 'a>(
+    parser: Parser,
+    tokens: &'t [Token<'a>],
+) -> Result<(Vec<Assignment>, &'t [Token<'a>]), Fault> {
+    let rest = expect(parser.end, Mark::End, tokens)?;
+    let rest = expect(parser.end, Mark::Colon, rest)?;
+    assignments(parser, rest)
+}
+
+/// A block behind its `at`.
+fn block<'t, 'a>(
+    parser: Parser,
+    tokens: &'t [Token<'a>],
+) -> Result<(Block, &'t [Token<'a>]), Fault> {
+    let (number, fields, rest) = head(parser, tokens)?;
+    let (condition, sent, rest) = sending(parser, rest)?;
+    let (on_message, rest) = on_message(parser, rest)?;
+    let (end, rest) = end(parser, rest)?;
+    let block = Block::new(number, fields, condition, sent, on_message, end);
+    Ok((block, rest))
+}
+
+pub fn blocks<'t, 'a>(
+    parser: Parser,
+    tokens: &'t [Token<'a>],
+) -> Result<(Vec<Block>, &'t [Token<'a>]), Fault> {
+    let mut blocks = Vec::new(parser.alloc);
+    let mut rest = tokens;
+    while let Some(next) = after(Mark::At, rest) {
+        let (next, behind) = block(parser, next)?;
+        blocks.push(next)?;
+        rest = behind;
+    }
+    Ok((blocks, rest))
+}

@@ -1,0 +1,47 @@
+//! Texts and what they parse to.
+
+mod faults;
+mod sources;
+mod tokens;
+mod trees;
+
+use crate::{LangFault, Span, parse};
+use std::alloc::Global;
+
+/// What stands before an expression in the texts of these tests.
+const BEFORE: &str = "values 2 period 1 state s: num = ";
+
+/// Why the text is no program.
+fn fault_of(alloc: Global, text: &str) -> Option<LangFault> {
+    parse(alloc, text).err()
+}
+
+/// Why the program with this expression is none, with spans counted from the expression's start.
+fn fault_in(alloc: Global, expr: &str) -> Result<Option<LangFault>, std::alloc::AllocError> {
+    let text = format!(in alloc; "{BEFORE}{expr}")?;
+    Ok(fault_of(alloc, text.as_str()).map(|fault| match fault {
+        LangFault::BadToken(span) => LangFault::BadToken(moved(span)),
+        LangFault::Unexpected(span) => LangFault::Unexpected(moved(span)),
+        LangFault::LimitPassed(span) => LangFault::LimitPassed(moved(span)),
+        fault => fault,
+    }))
+}
+
+fn moved(span: Span) -> Span {
+    Span {
+        first: span.first.saturating_sub(BEFORE.len()),
+        after: span.after.saturating_sub(BEFORE.len()),
+    }
+}
+
+fn unexpected(first: usize, after: usize) -> Option<LangFault> {
+    Some(LangFault::Unexpected(Span { first, after }))
+}
+
+fn bad_token(first: usize, after: usize) -> Option<LangFault> {
+    Some(LangFault::BadToken(Span { first, after }))
+}
+
+fn limit_passed(first: usize, after: usize) -> Option<LangFault> {
+    Some(LangFault::LimitPassed(Span { first, after }))
+}
