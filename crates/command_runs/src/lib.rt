@@ -1,11 +1,13 @@
 //! The commands of the program, over any desk of files and any writers.
 #![tactic(auto)]
 
+mod asking;
 mod desk;
 mod library;
 mod memory_desk;
 mod refusal;
 mod run;
+mod sources;
 
 pub use desk::{Desk, DeskFault};
 pub use library::{LibraryFault, gather};

@@ -5,7 +5,8 @@ use crate::desk::DeskFault;
 use crate::library::LibraryFault;
 use adversary::{RunFault, ScheduleFault};
 use command_words::WordsFault;
-use round_lang::NoMemory;
+use round_check::CheckFault;
+use round_lang::{LangFault, NoMemory, Span};
 use std::alloc::AllocError;
 use thiserror::Error;
 
@@ -17,19 +18,47 @@ pub enum Refusal {
     #[error("error: a value is missing\n")]
     Missing,
     #[error("error: SOURCE is a file, or `@`, a name, `:` and digits\n")]
-    Source,
+    SourceWord,
+    #[error("error: LIST is node numbers with commas between them\n")]
+    ListWord,
+    #[error("error: D is a number of 1 to 1024\n")]
+    DeltaWord,
+    #[error("error: G is a number of 0 to 4294967295\n")]
+    GstWord,
     #[error("refused file\n")]
     File,
+    #[error("refused source {kind} at {first} {after}\n")]
+    SourcePlace {
+        kind: u8,
+        first: usize,
+        after: usize,
+    },
+    #[error("refused source {kind}\n")]
+    Source {
+        kind: u8,
+    },
+    #[error("refused check {kind}\n")]
+    Check {
+        kind: u8,
+    },
     #[error("refused schedule {kind} at {line}\n")]
-    ScheduleLine { kind: u8, line: u64 },
+    ScheduleLine {
+        kind: u8,
+        line: u64,
+    },
     #[error("refused schedule 3\n")]
     ScheduleTooLong,
     #[error("refused library {kind}\n")]
-    Library { kind: u8 },
+    Library {
+        kind: u8,
+    },
     #[error("refused run 1\n")]
     BadSetup,
     #[error("refused run {kind} at {position}\n")]
-    Event { kind: u8, position: usize },
+    Event {
+        kind: u8,
+        position: usize,
+    },
     #[error("refused write\n")]
     Write,
     #[error("no memory\n")]
@@ -42,7 +71,12 @@ impl Refusal {
         ensures { result ≤ 3 }
     {
         match self {
-            Refusal::Words(_) | Refusal::Missing | Refusal::Source => 2,
+            Refusal::Words(_)
+            | Refusal::Missing
+            | Refusal::SourceWord
+            | Refusal::ListWord
+            | Refusal::DeltaWord
+            | Refusal::GstWord => 2,
             Refusal::NoMemory => 3,
             _ => 1,
         }
@@ -54,7 +88,10 @@ impl From<WordsFault> for Refusal {
         match fault {
             WordsFault::Refused(error) => Refusal::Words(error),
             WordsFault::Missing => Refusal::Missing,
-            WordsFault::Source => Refusal::Source,
+            WordsFault::Source => Refusal::SourceWord,
+            WordsFault::List => Refusal::ListWord,
+            WordsFault::Delta => Refusal::DeltaWord,
+            WordsFault::Gst => Refusal::GstWord,
             WordsFault::NoMemory => Refusal::NoMemory,
         }
     }
@@ -65,6 +102,36 @@ impl From<DeskFault> for Refusal {
         match fault {
             DeskFault::Failed => Refusal::File,
             DeskFault::NoMemory => Refusal::NoMemory,
+        }
+    }
+}
+
+fn at(kind: u8, span: Span) -> Refusal {
+    Refusal::SourcePlace {
+        kind,
+        first: span.first,
+        after: span.after,
+    }
+}
+
+impl From<LangFault> for Refusal {
+    fn from(fault: LangFault) -> Refusal {
+        match fault {
+            LangFault::BadToken(span) => at(1, span),
+            LangFault::Unexpected(span) => at(2, span),
+            LangFault::TooDeep => Refusal::Source { kind: 3 },
+            LangFault::TooLong => Refusal::Source { kind: 4 },
+            LangFault::LimitPassed(span) => at(5, span),
+            LangFault::NoMemory => Refusal::NoMemory,
+        }
+    }
+}
+
+impl From<CheckFault> for Refusal {
+    fn from(fault: CheckFault) -> Refusal {
+        match fault {
+            CheckFault::NoMemory => Refusal::NoMemory,
+            cause => Refusal::Check { kind: cause as u8 },
         }
     }
 }

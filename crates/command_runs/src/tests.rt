@@ -1,4 +1,7 @@
 //! The commands over a desk in memory.
+mod judgements;
+mod sources;
+
 use crate::{Desk, MemoryDesk, run_words};
 use std::io;
 use std::io::Write;

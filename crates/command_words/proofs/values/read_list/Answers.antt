@@ -1,4 +1,4 @@
-use Rattle.std.proofs.Common.{length, lit<, sym, ◌≤◌, arith}
+use Rattle.std.proofs.Common.{lit<, arith}
 use Rattle.std.specs.List.{slice_split}
 use Rattle.std.proofs.lemmas.List.{length_push}
 use Rattle.std.proofs.lemmas.Iterator.Consumers.{YieldsList-turn, YieldsList-end}

@@ -1,0 +1,58 @@
+//! Programs, from source files and from the library.
+
+use crate::desk::Desk;
+use crate::library::{LibraryFault, gather};
+use crate::refusal::Refusal;
+use command_words::Source;
+use round_check::{Checked, check};
+use round_lang::parse;
+use std::alloc::Global;
+use std::str;
+
+/// A source that was opened: the program of a file, or where the library has one. What the library
+/// refuses is refused later than what a file has.
+#[derive(Drop)]
+pub enum Opened<'a> {
+    File(Checked),
+    Library { name: &'a str, values: u32 },
+}
+
+impl<'a> Opened<'a> {
+    /// Reads and checks a source file; a source of the library is only named.
+    pub fn open<D: Desk>(
+        alloc: Global,
+        source: Source<'a>,
+        desk: &mut D,
+    ) -> Result<Opened<'a>, Refusal> {
+        match source {
+            Source::File(name) => {
+                let bytes = desk.read(alloc, file_name(name))?;
+                let Ok(text) = str::from_utf8(&bytes) else {
+                    return Err(Refusal::File);
+                };
+                Ok(Opened::File(check(alloc, parse(alloc, text)?)?))
+            }
+            Source::Library { name, values } => Ok(Opened::Library { name, values }),
+        }
+    }
+
+    /// The program.
+    pub fn program(self, alloc: Global) -> Result<Checked, Refusal> {
+        match self {
+            Opened::File(program) => Ok(program),
+            Opened::Library { name, values } => Ok(library_program(alloc, name, values)?),
+        }
+    }
+}
+
+/// A desk has standard input under `-`; a source file of that name is reached by its folder.
+fn file_name(name: &str) -> &str {
+    if name == "-" { "./-" } else { name }
+}
+
+fn library_program(alloc: Global, name: &str, values: u32) -> Result<Checked, LibraryFault> {
+    match name {
+        "gather" => gather(alloc, values),
+        _ => Err(LibraryFault::NoSuchName),
+    }
+}
