@@ -1,12 +1,10 @@
 use Rattle.std.proofs.Common.{length}
-use Rattle.round_lang.specs.Reading.{begins_name}
-use Rattle.round_lang.specs.Parts.{any_assignment}
-use Rattle.round_lang.proofs.Repetition.{GoesOn}
 use Rattle.round_lang.specs.Lexemes.{lexemes}
+use Rattle.round_lang.proofs.Loops.{AssignsOn}
 use Rattle.round_lang.proofs.parsing.part.assignments.Given as goal
 
-abbrev pub invariant-loop-next : goal.invariant-loop-next
-invariant-loop-next l = GoesOn begins_name any_assignment (λ a. 0) 0 (lexemes l.tokens) l.assignments.items 0 (lexemes l.rest)
+abbrev pub invariant-loop-parser : goal.invariant-loop-parser
+invariant-loop-parser l = AssignsOn (lexemes l.tokens) l.assignments.items (lexemes l.rest)
 
-abbrev pub decreases-loop-next : goal.decreases-loop-next
-decreases-loop-next l = length (lexemes l.rest)
+abbrev pub decreases-loop-parser : goal.decreases-loop-parser
+decreases-loop-parser l = length (lexemes l.rest)
