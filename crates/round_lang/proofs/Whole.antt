@@ -2,13 +2,18 @@
 use Rattle.std.proofs.Common.{◌≡◌, ◌≢◌, ℕ, zero, suc, Bool, true, false, List, [], ◌∷◌, length, take, drop, Option, Some, None, refl, sym, ap, ◌∙◌, subst, arith}
 use Rattle.std.specs.Prelude.{◌==◌}
 use Rattle.std.proofs.lemmas.Bool.{eqb-true}
-use Rattle.round_lang.specs.Lexemes.{Lexeme}
-use Rattle.round_lang.specs.Syntax.{ProgramTree}
+use Rattle.round_lang.specs.declared.token.Mark.TheVariants as m
+use Rattle.round_lang.specs.declared.token.Token.{Token}
+use Rattle.round_lang.specs.declared.program.Variable.{Variable}
+use Rattle.round_lang.specs.Lexemes.{Lexeme, lexemes}
+use Rattle.round_lang.specs.Limits.{max_values, max_period}
+use Rattle.round_lang.specs.Reading.{after, number_at}
+use Rattle.round_lang.specs.Syntax.{BlockTree, ProgramTree}
 use Rattle.round_lang.specs.Tokens.{Tokens, IsLongest, is_blank, lexeme}
 use Rattle.round_lang.specs.Tokens as t
 use Rattle.round_lang.specs.Source.{IsSource}
 use Rattle.round_lang.specs.Source as g
-use Rattle.round_lang.specs.Parts.{program}
+use Rattle.round_lang.specs.Parts.{declared, blocks, all_read, program}
 use Rattle.round_lang.specs.declared.parsing.fault.Fault.{Fault}
 use Rattle.round_lang.specs.declared.parsing.fault.Fault.TheVariants as fault
 use Rattle.round_lang.specs.Outcome.{Fails}
@@ -34,6 +39,7 @@ token_splits (a ∷ bs) n l ls k r = at_blank (is_blank a) refl
     at_hash : is_blank a ≡ false → (b : Bool) → (a == 35) ≡ b → Rest (a ∷ bs) n l ls
     at_hash blank true e = let h = hash_is a (eqb-true a 35 e) in absurd (no_token a h.0 h.1 h.2 h.3 (a ∷ bs) bs refl n l k.is)
     at_hash blank false e = word_back r a bs refl blank e n l k
+
     at_blank : (b : Bool) → is_blank a ≡ b → Rest (a ∷ bs) n l ls
     at_blank true e = let b = blank_is a e in absurd (no_token a b.0 b.1 b.2 b.3 (a ∷ bs) bs refl n l k.is)
     at_blank false e = at_hash e (a == 35) refl
@@ -45,6 +51,25 @@ one_list (t.comment {b = b} {text = text} h q) ks r = one_list q ks (hash_back r
 one_list (t.token {text = text} {l = l} {ls = ls} n h q) ks r =
     let s = token_splits text n l ks h r in
     ap (λ v. l ∷ v) (one_list q s.others s.rest) ∙ sym s.is
+
+-- ---- the parts of a program, put together
+
+abbrev made_of : ℕ → ℕ → List Variable → List (List ℕ) → List BlockTree → ProgramTree
+made_of k p vs xs bs = record { values = k; period = p; variables = vs; decides = xs; blocks = bs }
+
+pub program_reads : (ws a : List Lexeme) (k : ℕ) (b c : List Lexeme) (p : ℕ) (d : List Lexeme) (vs : List Variable) (xs : List (List ℕ)) (e : List Lexeme) (bs : List BlockTree) (rest : List Lexeme)
+    → after m.Values ws ≡ Some a → number_at 1 max_values a ≡ Some (k, b) → after m.Period b ≡ Some c → number_at 1 max_period c ≡ Some (p, d) → declared d ≡ Some (vs, xs, e) → blocks e ≡ Some (bs, rest)
+    → program ws ≡ all_read (made_of k p vs xs bs) rest
+unfolding program
+program_reads ws a k b c p d vs xs e bs rest e1 e2 e3 e4 e5 e6 = rw (e1, e2, e3, e4, e5, e6) refl
+
+pub all_are_read : (p : ProgramTree) (rest : List Token) → length rest ≡ 0 → all_read p (lexemes rest) ≡ Some p
+all_are_read p [] e = refl
+all_are_read p (t ∷ rest) e = absurd (omega arith)
+
+pub some_are_left : (p : ProgramTree) (rest : List Token) → length rest ≢ 0 → all_read p (lexemes rest) ≡ None
+some_are_left p [] e = absurd (e refl)
+some_are_left p (t ∷ rest) e = refl
 
 -- ---- a text has one program
 

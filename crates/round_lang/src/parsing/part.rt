@@ -34,10 +34,7 @@ pub enum Declaration {
 }
 
 /// No items yet, and the tokens that they are read from.
-fn no_items<'t, 'a, T: Drop>(
-    alloc: Global,
-    tokens: &'t [Token<'a>],
-) -> (Vec<T>, &'t [Token<'a>])
+fn no_items<'t, 'a, T: Drop>(alloc: Global, tokens: &'t [Token<'a>]) -> (Vec<T>, &'t [Token<'a>])
     ensures items { result.0.items ≡ [] }
     ensures rest { result.1.now ≡ tokens.now }
 {
@@ -149,9 +146,9 @@ pub struct Declared {
 
 impl Declared {
     fn push(&mut self, declaration: Declaration) -> Result<(), NoMemory>
-    ensures variables { IfOk result (λ _. self.new.variables.items ≡ self.old.variables.items ++ variables_of (declaration ∷ [])) }
+        ensures variables { IfOk result (λ _. self.new.variables.items ≡ self.old.variables.items ++ variables_of (declaration ∷ [])) }
         ensures decides { IfOk result (λ _. self.new.decides.items ≡ self.old.decides.items ++ decides_of (declaration ∷ [])) }
-{
+    {
         match declaration {
             Declaration::Variable(variable) => self.variables.push(variable)?,
             Declaration::Decide(name) => self.decides.push(name)?,
@@ -332,10 +329,7 @@ fn end<'t, 'a>(
 
 /// A block behind its `at`.
 #[tactic(auto, unfolding(crate::specs::Parts::block))]
-fn block<'t, 'a>(
-    parser: Parser,
-    tokens: &'t [Token<'a>],
-) -> Result<(Block, &'t [Token<'a>]), Fault>
+fn block<'t, 'a>(parser: Parser, tokens: &'t [Token<'a>]) -> Result<(Block, &'t [Token<'a>]), Fault>
     ensures { Gives left_of result (parts.block (lexemes tokens.now)) }
 {
     let (number, fields, rest) = head(parser, tokens)?;

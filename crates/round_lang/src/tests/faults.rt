@@ -34,7 +34,11 @@ fn each_place_of_a_program(rt: HostRuntime) -> Result<(), Fail> {
         assert_eq!(rt; fault_of(alloc, text.as_str()), fault, "{count} tokens");
         text.push_str("then")?;
         let after = text.len();
-        assert_eq!(rt; fault_of(alloc, text.as_str()), unexpected(len, after), "{count} tokens");
+        assert_eq!(rt;
+            fault_of(alloc, text.as_str()),
+            unexpected(len, after),
+            "{count} tokens"
+        );
     }
     Ok(())
 }
@@ -58,18 +62,54 @@ fn wrong_tokens_of_programs(rt: HostRuntime) -> Result<(), Fail> {
         ("values 2 period 1 at x", unexpected(21, 22)),
         ("values 2 period 1 at 1: message (,", unexpected(33, 34)),
         ("values 2 period 1 at 1: message (a)", unexpected(34, 35)),
-        ("values 2 period 1 at 1: message (a: num,)", unexpected(40, 41)),
-        ("values 2 period 1 at 1: message (a: num b", unexpected(40, 41)),
-        ("values 2 period 1 at 1: message () send when :", unexpected(45, 46)),
-        ("values 2 period 1 at 1: message () send when a: (,", unexpected(49, 50)),
-        ("values 2 period 1 at 1: message () send when a: (1,)", unexpected(51, 52)),
-        ("values 2 period 1 at 1: message () send when a: (1 2", unexpected(51, 52)),
-        ("values 2 period 1 at 1: message () send when a: () on end", unexpected(54, 57)),
-        ("values 2 period 1 at 1: message () send when a: () on message: x = 1;", unexpected(65, 66)),
-        ("values 2 period 1 at 1: message () send when a: () on message: x := 1 end", unexpected(70, 73)),
-        ("values 2 period 1 at 1: message () send when a: () on message: end: at 2: state", unexpected(74, 79)),
-        ("values 2 period 1 at 1: message () send when a: () on message: end: input x", unexpected(68, 73)),
-        ("values 2 period 1 at 1: message () send when a: () on message: end: ;", unexpected(68, 69)),
+        (
+            "values 2 period 1 at 1: message (a: num,)",
+            unexpected(40, 41),
+        ),
+        (
+            "values 2 period 1 at 1: message (a: num b",
+            unexpected(40, 41),
+        ),
+        (
+            "values 2 period 1 at 1: message () send when :",
+            unexpected(45, 46),
+        ),
+        (
+            "values 2 period 1 at 1: message () send when a: (,",
+            unexpected(49, 50),
+        ),
+        (
+            "values 2 period 1 at 1: message () send when a: (1,)",
+            unexpected(51, 52),
+        ),
+        (
+            "values 2 period 1 at 1: message () send when a: (1 2",
+            unexpected(51, 52),
+        ),
+        (
+            "values 2 period 1 at 1: message () send when a: () on end",
+            unexpected(54, 57),
+        ),
+        (
+            "values 2 period 1 at 1: message () send when a: () on message: x = 1;",
+            unexpected(65, 66),
+        ),
+        (
+            "values 2 period 1 at 1: message () send when a: () on message: x := 1 end",
+            unexpected(70, 73),
+        ),
+        (
+            "values 2 period 1 at 1: message () send when a: () on message: end: at 2: state",
+            unexpected(74, 79),
+        ),
+        (
+            "values 2 period 1 at 1: message () send when a: () on message: end: input x",
+            unexpected(68, 73),
+        ),
+        (
+            "values 2 period 1 at 1: message () send when a: () on message: end: ;",
+            unexpected(68, 69),
+        ),
     ] {
         assert_eq!(rt; fault_of(rt.alloc(), text), fault, "{text}");
     }
@@ -174,10 +214,18 @@ fn nesting(rt: HostRuntime) -> Result<(), Fail> {
         ("", "a", " or b"),
     ] {
         let text = wrapped(alloc, 31, before, middle, behind)?;
-        assert_eq!(rt; fault_in(alloc, text.as_str())?, None, "{before} .. {behind}");
+        assert_eq!(rt;
+            fault_in(alloc, text.as_str())?,
+            None,
+            "{before} .. {behind}"
+        );
         let text = wrapped(alloc, 32, before, middle, behind)?;
         let deep = Some(LangFault::TooDeep);
-        assert_eq!(rt; fault_in(alloc, text.as_str())?, deep, "{before} .. {behind}");
+        assert_eq!(rt;
+            fault_in(alloc, text.as_str())?,
+            deep,
+            "{before} .. {behind}"
+        );
     }
     Ok(())
 }
@@ -230,6 +278,7 @@ fn too_deep_or_unexpected(rt: HostRuntime) -> Result<(), Fail> {
 }
 
 const NAME_32: &str = "abcdefghijklmnopqrstuvwxyz_23456";
+
 const NAME_33: &str = "abcdefghijklmnopqrstuvwxyz_234567";
 
 #[test]
@@ -244,16 +293,29 @@ fn long_names(rt: HostRuntime) -> Result<(), Fail> {
         ("values 2 period 1 state s: num = 1 + ", " * $"),
         ("values 2 period 1 state s: num = {", " : 1}"),
         ("values 2 period 1 state s: num = [", " : 1]"),
-        ("values 2 period 1 at 1: message (", ": num) send when a: () on message: end:"),
-        ("values 2 period 1 at 1: message () send when a: () on message: ", " := 1; end:"),
-        ("values 2 period 1 at 1: message () send when a: () on message: end: ", " := 1;"),
+        (
+            "values 2 period 1 at 1: message (",
+            ": num) send when a: () on message: end:",
+        ),
+        (
+            "values 2 period 1 at 1: message () send when a: () on message: ",
+            " := 1; end:",
+        ),
+        (
+            "values 2 period 1 at 1: message () send when a: () on message: end: ",
+            " := 1;",
+        ),
     ] {
         let behind = if behind == " * $" { "" } else { behind };
         let text = format!(in alloc; "{before}{NAME_32}{behind}")?;
         assert_eq!(rt; fault_of(alloc, text.as_str()), None, "{before}");
         let first = before.len().min(99);
         let text = format!(in alloc; "{before}{NAME_33}{behind}")?;
-        assert_eq!(rt; fault_of(alloc, text.as_str()), limit_passed(first, first + 33), "{before}");
+        assert_eq!(rt;
+            fault_of(alloc, text.as_str()),
+            limit_passed(first, first + 33),
+            "{before}"
+        );
     }
     // Where a name can't stand, it's unexpected.
     let text = format!(in alloc; "{block}a: {NAME_33}")?;
@@ -274,9 +336,18 @@ fn numbers_of_programs(rt: HostRuntime) -> Result<(), Fail> {
         ("values 2 period 0", limit_passed(16, 17)),
         ("values 2 period 8", None),
         ("values 2 period 9", limit_passed(16, 17)),
-        ("values 2 period 1 at 0: message () send when a: () on message: end:", None),
-        ("values 2 period 1 at 4294967295: message () send when a: () on message: end:", None),
-        ("values 2 period 1 at 4294967296: then", limit_passed(21, 31)),
+        (
+            "values 2 period 1 at 0: message () send when a: () on message: end:",
+            None,
+        ),
+        (
+            "values 2 period 1 at 4294967295: message () send when a: () on message: end:",
+            None,
+        ),
+        (
+            "values 2 period 1 at 4294967296: then",
+            limit_passed(21, 31),
+        ),
         ("values 65 then", limit_passed(7, 9)),
         ("values then 65", unexpected(7, 11)),
         ("values 65 period 9 $", bad_token(19, 20)),
@@ -301,7 +372,11 @@ fn variables_and_fields(rt: HostRuntime) -> Result<(), Fail> {
         (16, "input then", unexpected(152, 156)),
         (16, "state x then", limit_passed(152, 153)),
         (16, "decide a state x: num = 1", limit_passed(161, 162)),
-        (16, "at 1: message () send when a: () on message: end:", None),
+        (
+            16,
+            "at 1: message () send when a: () on message: end:",
+            None,
+        ),
     ] {
         let mut text = String::from_str(alloc, "values 2 period 1 ")?;
         text.push_str(wrapped(alloc, count, "input a ", behind, "")?.as_str())?;
