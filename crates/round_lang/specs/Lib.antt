@@ -4,3 +4,12 @@ pub mod Limits
 pub mod Tree
 pub mod TreeCode
 pub mod Syntax
+pub mod Lexemes
+pub mod Keywords
+pub mod Tokens
+pub mod Scanning
+pub mod Grammar
+pub mod Source
+pub mod Reading
+pub mod Parts
+pub mod Outcome

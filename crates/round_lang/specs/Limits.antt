@@ -22,3 +22,14 @@ pub record IsSized (values period variables : ℕ) : Type 0 where
   pub some_round : 0 < period
   pub few_rounds : period ≤ max_period
   pub few_variables : variables ≤ max_variables
+
+-- how deep an expression nests
+abbrev pub max_nesting : ℕ
+max_nesting = 32
+
+-- bytes of a name
+abbrev pub max_name : ℕ
+max_name = 32
+
+abbrev pub max_number : ℕ
+max_number = 4294967295

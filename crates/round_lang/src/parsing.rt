@@ -1,5 +1,8 @@
 //! From a text to its program.
 ghost use Rattle.std.specs.Prelude.{◌≡◌, ◌≢◌, ◌<◌, ◌↔◌, IfOk, IfErr, Err, length};
+ghost use Rattle.round_lang.specs.Lexemes.{lexemes};
+ghost use Rattle.round_lang.specs.Outcome.{Gives};
+ghost use Rattle.round_lang.specs.Parts as parts;
 ghost use Rattle.round_lang.specs.Source.{IsSource};
 ghost use Rattle.round_lang.specs.Syntax.{ProgramTree};
 
@@ -23,21 +26,31 @@ use std::alloc::Global;
 pub const MAX_TEXT: usize = 65_536;
 
 /// The program that the tokens are.
-fn program(parser: Parser, tokens: &[Token<'_>]) -> Result<Program, Fault> {
+#[tactic(auto, unfolding(crate::specs::Parts::program))]
+fn program(parser: Parser, tokens: &[Token<'_>]) -> Result<Program, Fault>
+    ensures { Gives (λ p. p) result (parts.program (lexemes tokens.now)) }
+{
     let rest = expect(parser.end, Mark::Values, tokens)?;
     let (values, rest) = number_at(parser.end, 1, 64, rest)?;
     let rest = expect(parser.end, Mark::Period, rest)?;
     let (period, rest) = number_at(parser.end, 1, 8, rest)?;
     let (declared, rest) = declarations(parser, rest)?;
     let (blocks, rest) = blocks(parser, rest)?;
-    if !rest.is_empty() {
-        return Err(Fault::Unexpected(span_at(parser.end, rest)));
+    if rest.is_empty() {
+        Ok(Program::new(values, period, declared.variables, declared.decides, blocks))
+    } else {
+        Err(Fault::Unexpected(span_at(parser.end, rest)))
     }
-    Ok(Program::new(values, period, declared.variables, declared.decides, blocks))
 }
 
 /// The program that the text is.
-pub fn parse(alloc: Global, text: &str) -> Result<Program, LangFault> {
+pub fn parse(alloc: Global, text: &str) -> Result<Program, LangFault>
+    // What is answered is the text's program.
+    ensures found { IfOk result (λ p. IsSource text.now p) }
+    // Only a text that is no program is refused, but for want of memory and where it's too long.
+    ensures refused { IfErr result (λ e. e ≢ LangFault.NoMemory → e ≢ LangFault.TooLong → (p : ProgramTree) → IsSource text.now p → ⊥) }
+    ensures long { (result ≡ Err LangFault.TooLong) ↔ (MAX_TEXT < length text.now) }
+{
     if text.len() > MAX_TEXT {
         return Err(LangFault::TooLong);
     }

@@ -1,5 +1,5 @@
 //! What comes next among the tokens.
-ghost use Rattle.std.specs.Prelude.{◌≡◌, ◌≤◌, min, option_map};
+ghost use Rattle.std.specs.Prelude.{◌≡◌, ◌≤◌, option_map};
 ghost use Rattle.round_lang.specs.Lexemes.{lexemes};
 ghost use Rattle.round_lang.specs.Outcome.{Gives, left_of, name_found, operator_found, rest_of};
 ghost use Rattle.round_lang.specs.Reading as reading;
@@ -114,12 +114,29 @@ pub fn type_at<'t, 'a>(end: usize, tokens: &'t [Token<'a>]) -> Result<(Ty, &'t [
 }
 
 /// The value of digits, where each above the largest number counts as the next one.
+#[tactic(auto, unfolding(crate::specs::Reading::capped_value))]
 pub fn value_of(digits: &[u8]) -> u64
-    ensures { result ≡ min (grammar.value_of digits.now) 4294967296 }
+    ensures { result ≡ reading.capped_value digits.now }
 {
     digits.iter().fold(0u64, |n, b| {
         (10 * n.min(MAX_NUMBER + 1) + u64::from(b.saturating_sub(b'0'))).min(MAX_NUMBER + 1)
     })
+}
+
+/// The number that these digits are, within its limits.
+fn value_within(span: Span, least: u64, most: u64, digits: &[u8]) -> Result<u32, Fault>
+    requires first { least ≤ MAX_NUMBER }
+    requires last { most ≤ MAX_NUMBER }
+    ensures { Gives (λ v. v) result (reading.value_within least most digits.now) }
+{
+    let value = value_of(digits);
+    if value < least {
+        return Err(Fault::LimitPassed(span));
+    }
+    if most < value {
+        return Err(Fault::LimitPassed(span));
+    }
+    Ok(value as u32)
 }
 
 /// The number that has to come next, within its limits.
@@ -130,19 +147,13 @@ pub fn number_at<'t, 'a>(
     most: u64,
     tokens: &'t [Token<'a>],
 ) -> Result<(u32, &'t [Token<'a>]), Fault>
-    requires { most ≤ MAX_NUMBER }
+    requires first { least ≤ MAX_NUMBER }
+    requires last { most ≤ MAX_NUMBER }
     ensures { Gives left_of result (reading.number_at least most (lexemes tokens.now)) }
 {
     match tokens {
         [first, rest @ ..] => match first.word {
-            Word::Number(digits) => {
-                let value = value_of(digits);
-                if least <= value && value <= most {
-                    Ok((value as u32, rest))
-                } else {
-                    Err(Fault::LimitPassed(first.span))
-                }
-            }
+            Word::Number(digits) => Ok((value_within(first.span, least, most, digits)?, rest)),
             _ => Err(Fault::Unexpected(first.span)),
         },
         [] => Err(Fault::Unexpected(span_at(end, tokens))),

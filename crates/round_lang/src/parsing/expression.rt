@@ -3,7 +3,7 @@ ghost use Rattle.std.specs.Prelude.{◌≡◌, ◌<◌, ◌≤◌, suc, IfOk};
 ghost use Rattle.round_lang.specs.Lexemes.{lexemes};
 ghost use Rattle.round_lang.specs.Outcome.{Gives, IsChainLevel, expr_found, left_of};
 ghost use Rattle.round_lang.specs.Reading as reading;
-ghost use Rattle.round_lang.specs.Tree.{TBinary, TIf, tree_of};
+ghost use Rattle.round_lang.specs.Tree.{TBinary, TIf, TRowOf, TSetOf, tree_of};
 
 use crate::expr::{BinaryOperator, Expr, UnaryOperator};
 use crate::formula::Formula;
@@ -257,7 +257,7 @@ fn atom<'t, 'a>(parser: Parser, inner: usize, tokens: &'t [Token<'a>]) -> Nested
 
 /// The rest of a call of one argument, behind its name.
 #[cycle(expr)]
-#[tactic(auto, unfolding(crate::specs::Reading::call))]
+#[tactic(auto, unfolding(crate::specs::Reading::called))]
 fn call<'t, 'a>(
     parser: Parser,
     inner: usize,
@@ -265,7 +265,7 @@ fn call<'t, 'a>(
     tokens: &'t [Token<'a>],
 ) -> Nested<'t, 'a>
     requires { inner < 32 }
-    ensures gives { Gives expr_found result (reading.call (reading.parse inner) (suc inner) operator (lexemes tokens.now)) }
+    ensures gives { Gives expr_found result (reading.called (reading.parse inner) (suc inner) operator (lexemes tokens.now)) }
     ensures nests { IfOk result (λ x. x.1 ≤ suc inner) }
 {
     if inner == 0 {
@@ -308,10 +308,10 @@ fn brackets<'t, 'a>(parser: Parser, inner: usize, tokens: &'t [Token<'a>]) -> Ne
 
 /// The rest of a comprehension of a set.
 #[cycle(expr)]
-#[tactic(auto, unfolding(crate::specs::Reading::set_of))]
+#[tactic(auto, unfolding(crate::specs::Reading::comprehension))]
 fn set_of<'t, 'a>(parser: Parser, inner: usize, tokens: &'t [Token<'a>]) -> Nested<'t, 'a>
     requires { inner < 32 }
-    ensures gives { Gives expr_found result (reading.set_of (reading.parse inner) (suc inner) (lexemes tokens.now)) }
+    ensures gives { Gives expr_found result (reading.comprehension (reading.parse inner) (suc inner) TSetOf Mark.CloseCurly (lexemes tokens.now)) }
     ensures nests { IfOk result (λ x. x.1 ≤ suc inner) }
 {
     if inner == 0 {
@@ -327,10 +327,10 @@ fn set_of<'t, 'a>(parser: Parser, inner: usize, tokens: &'t [Token<'a>]) -> Nest
 
 /// The rest of a comprehension of a row.
 #[cycle(expr)]
-#[tactic(auto, unfolding(crate::specs::Reading::row_of))]
+#[tactic(auto, unfolding(crate::specs::Reading::comprehension))]
 fn row_of<'t, 'a>(parser: Parser, inner: usize, tokens: &'t [Token<'a>]) -> Nested<'t, 'a>
     requires { inner < 32 }
-    ensures gives { Gives expr_found result (reading.row_of (reading.parse inner) (suc inner) (lexemes tokens.now)) }
+    ensures gives { Gives expr_found result (reading.comprehension (reading.parse inner) (suc inner) TRowOf Mark.CloseSquare (lexemes tokens.now)) }
     ensures nests { IfOk result (λ x. x.1 ≤ suc inner) }
 {
     if inner == 0 {
@@ -345,6 +345,7 @@ fn row_of<'t, 'a>(parser: Parser, inner: usize, tokens: &'t [Token<'a>]) -> Nest
 }
 
 /// A whole expression that nests within the limit.
+#[tactic(auto, unfolding(crate::specs::Reading::formula))]
 pub fn formula<'t, 'a>(
     parser: Parser,
     tokens: &'t [Token<'a>],

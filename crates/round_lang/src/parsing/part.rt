@@ -1,8 +1,9 @@
 //! The parts of a program: declarations, blocks and assignments.
 ghost use Rattle.std.specs.Prelude.{◌≡◌, ◌≤◌, ◌++◌, [], ◌∷◌, IfOk, vec_len};
 ghost use Rattle.round_lang.specs.Lexemes.{lexemes};
-ghost use Rattle.round_lang.specs.Outcome.{Gives, left_of, list_found, head_found, sending_found};
-ghost use Rattle.round_lang.specs.Reading.Parts as reading;
+ghost use Rattle.round_lang.specs.Outcome.{Gives, name_found, left_of, list_found, head_found, sending_found, declared_found};
+ghost use Rattle.round_lang.specs.Parts as parts;
+ghost use Rattle.round_lang.specs.Source.{variables_of, decides_of};
 
 use crate::block::{Assignment, Block, Field};
 use crate::expr::Ty;
@@ -17,6 +18,7 @@ use crate::parsing::expression::{Parser, formula, identifier};
 use crate::parsing::fault::Fault;
 use crate::program::{Variable, VariableKind};
 use crate::token::{Mark, Name, Token, Word};
+use std::alloc::Global;
 
 /// How many fields a block has at most.
 const MAX_FIELDS: usize = 8;
@@ -31,13 +33,24 @@ pub enum Declaration {
     Decide(Identifier),
 }
 
+/// No items yet, and the tokens that they are read from.
+fn no_items<'t, 'a, T: Drop>(alloc: Global, tokens: &'t [Token<'a>]) -> (Vec<T>, &'t [Token<'a>])
+    ensures items { result.0.items ≡ [] }
+    ensures rest { result.1.now ≡ tokens.now }
+{
+    (Vec::new(alloc), tokens)
+}
+
 /// The name that has to come next, of something of which there are at most so many.
+#[tactic(auto, unfolding(crate::specs::Parts::counted_name))]
 fn counted_name<'t, 'a>(
     end: usize,
     count: usize,
     most: usize,
     tokens: &'t [Token<'a>],
-) -> Result<(Name<'a>, &'t [Token<'a>]), Fault> {
+) -> Result<(Name<'a>, &'t [Token<'a>]), Fault>
+    ensures { Gives name_found result (parts.counted_name count most (lexemes tokens.now)) }
+{
     let (name, rest) = name_at(end, tokens)?;
     if count < most {
         Ok((name, rest))
@@ -47,11 +60,14 @@ fn counted_name<'t, 'a>(
 }
 
 /// `state NAME : TYPE = EXPR` behind its first word, after so many variables.
+#[tactic(auto, unfolding(crate::specs::Parts::state))]
 fn state<'t, 'a>(
     parser: Parser,
     count: usize,
     tokens: &'t [Token<'a>],
-) -> Result<(Declaration, &'t [Token<'a>]), Fault> {
+) -> Result<(Declaration, &'t [Token<'a>]), Fault>
+    ensures { Gives left_of result (parts.state count (lexemes tokens.now)) }
+{
     let (name, rest) = counted_name(parser.end, count, MAX_VARIABLES, tokens)?;
     let rest = expect(parser.end, Mark::Colon, rest)?;
     let (ty, rest) = type_at(parser.end, rest)?;
@@ -62,27 +78,36 @@ fn state<'t, 'a>(
     Ok((Declaration::Variable(Variable { name, kind }), rest))
 }
 
+#[tactic(auto, unfolding(crate::specs::Parts::input))]
 fn input<'t, 'a>(
     parser: Parser,
     count: usize,
     tokens: &'t [Token<'a>],
-) -> Result<(Declaration, &'t [Token<'a>]), Fault> {
+) -> Result<(Declaration, &'t [Token<'a>]), Fault>
+    ensures { Gives left_of result (parts.input count (lexemes tokens.now)) }
+{
     let (name, rest) = counted_name(parser.end, count, MAX_VARIABLES, tokens)?;
     let name = identifier(parser.alloc, name)?;
     let kind = VariableKind::Input;
     Ok((Declaration::Variable(Variable { name, kind }), rest))
 }
 
+#[tactic(auto, unfolding(crate::specs::Parts::decide))]
 fn decide<'t, 'a>(
     parser: Parser,
     tokens: &'t [Token<'a>],
-) -> Result<(Declaration, &'t [Token<'a>]), Fault> {
+) -> Result<(Declaration, &'t [Token<'a>]), Fault>
+    ensures { Gives left_of result (parts.decide (lexemes tokens.now)) }
+{
     let (name, rest) = name_at(parser.end, tokens)?;
     Ok((Declaration::Decide(identifier(parser.alloc, name)?), rest))
 }
 
 /// Whether a declaration comes next.
-fn begins_declaration(tokens: &[Token<'_>]) -> bool {
+#[tactic(auto, unfolding(crate::specs::Parts::begins_declaration))]
+fn begins_declaration(tokens: &[Token<'_>]) -> bool
+    ensures { result ≡ parts.begins_declaration (lexemes tokens.now) }
+{
     match tokens {
         [first, ..] => matches!(
             first.word,
@@ -93,11 +118,14 @@ fn begins_declaration(tokens: &[Token<'_>]) -> bool {
 }
 
 /// A declaration, after so many variables.
+#[tactic(auto, unfolding(crate::specs::Parts::declaration))]
 fn read_declaration<'t, 'a>(
     parser: Parser,
     count: usize,
     tokens: &'t [Token<'a>],
-) -> Result<(Declaration, &'t [Token<'a>]), Fault> {
+) -> Result<(Declaration, &'t [Token<'a>]), Fault>
+    ensures { Gives left_of result (parts.declaration count (lexemes tokens.now)) }
+{
     match tokens {
         [first, rest @ ..] => match first.word {
             Word::Mark(Mark::State) => state(parser, count, rest),
@@ -117,7 +145,10 @@ pub struct Declared {
 }
 
 impl Declared {
-    fn push(&mut self, declaration: Declaration) -> Result<(), NoMemory> {
+    fn push(&mut self, declaration: Declaration) -> Result<(), NoMemory>
+        ensures variables { IfOk result (λ _. self.new.variables.items ≡ self.old.variables.items ++ variables_of (declaration ∷ [])) }
+        ensures decides { IfOk result (λ _. self.new.decides.items ≡ self.old.decides.items ++ decides_of (declaration ∷ [])) }
+    {
         match declaration {
             Declaration::Variable(variable) => self.variables.push(variable)?,
             Declaration::Decide(name) => self.decides.push(name)?,
@@ -129,12 +160,13 @@ impl Declared {
 pub fn declarations<'t, 'a>(
     parser: Parser,
     tokens: &'t [Token<'a>],
-) -> Result<(Declared, &'t [Token<'a>]), Fault> {
-    let mut declared = Declared {
-        variables: Vec::new(parser.alloc),
-        decides: Vec::new(parser.alloc),
-    };
-    let mut rest = tokens;
+) -> Result<(Declared, &'t [Token<'a>]), Fault>
+    ensures gives { Gives declared_found result (parts.declared (lexemes tokens.now)) }
+    ensures few { IfOk result (λ x. vec_len x.0.variables ≤ MAX_VARIABLES) }
+{
+    let (variables, mut rest) = no_items(parser.alloc, tokens);
+    let decides = Vec::new(parser.alloc);
+    let mut declared = Declared { variables, decides };
     while begins_declaration(rest) {
         let (next, behind) = read_declaration(parser, declared.variables.len(), rest)?;
         declared.push(next)?;
@@ -143,10 +175,13 @@ pub fn declarations<'t, 'a>(
     Ok((declared, rest))
 }
 
+#[tactic(auto, unfolding(crate::specs::Parts::assignment))]
 fn assignment<'t, 'a>(
     parser: Parser,
     tokens: &'t [Token<'a>],
-) -> Result<(Assignment, &'t [Token<'a>]), Fault> {
+) -> Result<(Assignment, &'t [Token<'a>]), Fault>
+    ensures { Gives left_of result (parts.assignment (lexemes tokens.now)) }
+{
     let (name, rest) = name_at(parser.end, tokens)?;
     let rest = expect(parser.end, Mark::Assign, rest)?;
     let (formula, rest) = formula(parser, rest)?;
@@ -158,9 +193,10 @@ fn assignment<'t, 'a>(
 fn assignments<'t, 'a>(
     parser: Parser,
     tokens: &'t [Token<'a>],
-) -> Result<(Vec<Assignment>, &'t [Token<'a>]), Fault> {
-    let mut assignments = Vec::new(parser.alloc);
-    let mut rest = tokens;
+) -> Result<(Vec<Assignment>, &'t [Token<'a>]), Fault>
+    ensures { Gives list_found result (parts.assignments (lexemes tokens.now)) }
+{
+    let (mut assignments, mut rest) = no_items(parser.alloc, tokens);
     while begins_name(rest) {
         let (next, behind) = assignment(parser, rest)?;
         assignments.push(next)?;
@@ -170,11 +206,14 @@ fn assignments<'t, 'a>(
 }
 
 /// A field, after so many of its block.
+#[tactic(auto, unfolding(crate::specs::Parts::field))]
 fn field<'t, 'a>(
     parser: Parser,
     count: usize,
     tokens: &'t [Token<'a>],
-) -> Result<(Field, &'t [Token<'a>]), Fault> {
+) -> Result<(Field, &'t [Token<'a>]), Fault>
+    ensures { Gives left_of result (parts.field count (lexemes tokens.now)) }
+{
     let (name, rest) = counted_name(parser.end, count, MAX_FIELDS, tokens)?;
     let rest = expect(parser.end, Mark::Colon, rest)?;
     let (ty, rest) = type_at(parser.end, rest)?;
@@ -186,7 +225,10 @@ fn field<'t, 'a>(
 fn fields<'t, 'a>(
     parser: Parser,
     tokens: &'t [Token<'a>],
-) -> Result<(Vec<Field>, &'t [Token<'a>]), Fault> {
+) -> Result<(Vec<Field>, &'t [Token<'a>]), Fault>
+    ensures gives { Gives list_found result (parts.fields (lexemes tokens.now)) }
+    ensures few { IfOk result (λ x. vec_len x.0 ≤ MAX_FIELDS) }
+{
     let mut fields = Vec::new(parser.alloc);
     if begins_with(Mark::Close, tokens) {
         return Ok((fields, tokens));
@@ -205,7 +247,9 @@ fn fields<'t, 'a>(
 fn sent<'t, 'a>(
     parser: Parser,
     tokens: &'t [Token<'a>],
-) -> Result<(Vec<Formula>, &'t [Token<'a>]), Fault> {
+) -> Result<(Vec<Formula>, &'t [Token<'a>]), Fault>
+    ensures { Gives list_found result (parts.sent (lexemes tokens.now)) }
+{
     let mut sent = Vec::new(parser.alloc);
     if begins_with(Mark::Close, tokens) {
         return Ok((sent, tokens));
@@ -221,10 +265,14 @@ fn sent<'t, 'a>(
 }
 
 /// `NUMBER : message ( FIELDS )` of a block.
+#[tactic(auto, unfolding(crate::specs::Parts::head))]
 fn head<'t, 'a>(
     parser: Parser,
     tokens: &'t [Token<'a>],
-) -> Result<(u32, Vec<Field>, &'t [Token<'a>]), Fault> {
+) -> Result<(u32, Vec<Field>, &'t [Token<'a>]), Fault>
+    ensures gives { Gives head_found result (parts.head (lexemes tokens.now)) }
+    ensures few { IfOk result (λ x. vec_len x.1 ≤ MAX_FIELDS) }
+{
     let (number, rest) = number_at(parser.end, 0, MAX_NUMBER, tokens)?;
     let rest = expect(parser.end, Mark::Colon, rest)?;
     let rest = expect(parser.end, Mark::Message, rest)?;
@@ -235,10 +283,13 @@ fn head<'t, 'a>(
 }
 
 /// `send when EXPR : ( EXPRS )` of a block.
+#[tactic(auto, unfolding(crate::specs::Parts::sending))]
 fn sending<'t, 'a>(
     parser: Parser,
     tokens: &'t [Token<'a>],
-) -> Result<(Formula, Vec<Formula>, &'t [Token<'a>]), Fault> {
+) -> Result<(Formula, Vec<Formula>, &'t [Token<'a>]), Fault>
+    ensures { Gives sending_found result (parts.sending (lexemes tokens.now)) }
+{
     let rest = expect(parser.end, Mark::Send, tokens)?;
     let rest = expect(parser.end, Mark::When, rest)?;
     let (condition, rest) = formula(parser, rest)?;
@@ -250,10 +301,13 @@ fn sending<'t, 'a>(
 }
 
 /// `on message : ASSIGNMENTS` of a block.
+#[tactic(auto, unfolding(crate::specs::Parts::on_message))]
 fn on_message<'t, 'a>(
     parser: Parser,
     tokens: &'t [Token<'a>],
-) -> Result<(Vec<Assignment>, &'t [Token<'a>]), Fault> {
+) -> Result<(Vec<Assignment>, &'t [Token<'a>]), Fault>
+    ensures { Gives list_found result (parts.on_message (lexemes tokens.now)) }
+{
     let rest = expect(parser.end, Mark::On, tokens)?;
     let rest = expect(parser.end, Mark::Message, rest)?;
     let rest = expect(parser.end, Mark::Colon, rest)?;
@@ -261,20 +315,23 @@ fn on_message<'t, 'a>(
 }
 
 /// `end : ASSIGNMENTS` of a block.
+#[tactic(auto, unfolding(crate::specs::Parts::ending))]
 fn end<'t, 'a>(
     parser: Parser,
     tokens: &'t [Token<'a>],
-) -> Result<(Vec<Assignment>, &'t [Token<'a>]), Fault> {
+) -> Result<(Vec<Assignment>, &'t [Token<'a>]), Fault>
+    ensures { Gives list_found result (parts.ending (lexemes tokens.now)) }
+{
     let rest = expect(parser.end, Mark::End, tokens)?;
     let rest = expect(parser.end, Mark::Colon, rest)?;
     assignments(parser, rest)
 }
 
 /// A block behind its `at`.
-fn block<'t, 'a>(
-    parser: Parser,
-    tokens: &'t [Token<'a>],
-) -> Result<(Block, &'t [Token<'a>]), Fault> {
+#[tactic(auto, unfolding(crate::specs::Parts::block))]
+fn block<'t, 'a>(parser: Parser, tokens: &'t [Token<'a>]) -> Result<(Block, &'t [Token<'a>]), Fault>
+    ensures { Gives left_of result (parts.block (lexemes tokens.now)) }
+{
     let (number, fields, rest) = head(parser, tokens)?;
     let (condition, sent, rest) = sending(parser, rest)?;
     let (on_message, rest) = on_message(parser, rest)?;
@@ -286,9 +343,10 @@ fn block<'t, 'a>(
 pub fn blocks<'t, 'a>(
     parser: Parser,
     tokens: &'t [Token<'a>],
-) -> Result<(Vec<Block>, &'t [Token<'a>]), Fault> {
-    let mut blocks = Vec::new(parser.alloc);
-    let mut rest = tokens;
+) -> Result<(Vec<Block>, &'t [Token<'a>]), Fault>
+    ensures { Gives list_found result (parts.blocks (lexemes tokens.now)) }
+{
+    let (mut blocks, mut rest) = no_items(parser.alloc, tokens);
     while let Some(next) = after(Mark::At, rest) {
         let (next, behind) = block(parser, next)?;
         blocks.push(next)?;

@@ -1,0 +1,10 @@
+use Rattle.std.proofs.Common.{length}
+use Rattle.round_lang.specs.Lexemes.{lexemes}
+use Rattle.round_lang.proofs.Loops.{BlocksOn}
+use Rattle.round_lang.proofs.parsing.part.blocks.Given as goal
+
+abbrev pub invariant-loop-next : goal.invariant-loop-next
+invariant-loop-next l = BlocksOn (lexemes l.tokens) l.blocks.items (lexemes l.rest)
+
+abbrev pub decreases-loop-next : goal.decreases-loop-next
+decreases-loop-next l = length (lexemes l.rest)

@@ -1,0 +1,7 @@
+//! Laws of the definitions; the functions do nothing.
+ghost use Rattle.round_lang.specs.Source.{TextsAreOneProgram};
+
+/// No text is two programs.
+pub fn a_text_is_one_program()
+    ensures { TextsAreOneProgram }
+{}
