@@ -126,9 +126,11 @@ impl<P: Plan> Book<P> {
         &self.trace
     }
 
-    /// What is recorded agrees with the run in rounds.
+    /// What is recorded agrees with the run in rounds, and the plan and the setup fit.
     pub fn agrees(&self)
-        ensures { IsFaithful (P.start self.now.plan) self.now.log }
+        ensures faithful { IsFaithful (P.start self.now.plan) self.now.log }
+        ensures sized { P.nodes self.now.plan ≡ self.now.log.setup.nodes }
+        ensures lawful { IsLawful self.now.log.program.values self.now.log.setup }
     {
         let _trace = &self.trace;
     }
