@@ -1,10 +1,12 @@
 -- The moments of a history: their order, how many steps they have, and the first that passes a test.
-use Rattle.std.proofs.Common.{◌≡◌, ℕ, zero, suc, ◌+◌, ◌<◌, ◌≤◌, Bool, true, false, cond, ◌&&◌, ◌==◌, List, [], ◌∷◌, ◌++◌, length, Option, Some, None, sym, subst, refl, ap, if◌then◌else◌, ◌∙◌, arith, ◌⊎◌, inl, inr}
+use Rattle.std.proofs.Common.{◌≡◌, ℕ, zero, suc, ◌+◌, ◌<◌, ◌≤◌, Bool, true, false, cond, ◌&&◌, ◌==◌, List, [], ◌∷◌, ◌++◌, length, get_or, take, drop, reverse, Option, Some, None, sym, subst, refl, ap, if◌then◌else◌, ◌∙◌, arith, ◌⊎◌, inl, inr}
 use Rattle.std.proofs.lemmas.Bool.{cases_Bool, cases_lt, and_parts, and_from, eqb-true, eq-eqb}
+use Rattle.std.proofs.lemmas.List.{length-reverse, length-take-le, reverse-append, take-append-drop, take_more}
 use Rattle.step_machine.specs.declared.event.Event.{Event}
 use Rattle.step_machine.specs.declared.event.Event.TheVariants.{Step, Release}
 use Rattle.step_machine.specs.declared.event.Name.{Name}
 use Rattle.step_journal.specs.Trace.{is_step, is_release, steps, or_else, first}
+use Rattle.step_journal.proofs.Events.{pushed}
 use Rattle.step_journal.proofs.Places.{Found, Here, Past, first_found, first_kept, found_longer, steps_at, steps_other, steps_grow}
 use Rattle.omission_explainer.specs.Verdict.{Stands, Newest, Older}
 
@@ -131,10 +133,28 @@ is_released j i r = and_from _ _ (and_from _ _ (eq-eqb j j refl) (eq-eqb i i ref
 
 -- ---- a trace, read from its front
 
+-- the moment after the first k events
+abbrev pub moment_at : ℕ → List Event → List Event
+moment_at k xs = reverse (take k xs)
+
+pub next_moment : (xs : List Event) (k : ℕ) (d e : Event) → k < length xs → get_or xs k d ≡ e → moment_at (k + 1) xs ≡ e ∷ moment_at k xs
+next_moment xs k d e l is =
+    pushed (take k xs) e (take (k + 1) xs) (take_more xs k d l ∙ ap (λ x. take k xs ++ x ∷ []) is)
+
+pub moment_short : (xs : List Event) (k : ℕ) → k ≤ length xs → length (moment_at k xs) ≡ k
+moment_short xs k l = length-reverse (take k xs) ∙ length-take-le k xs l
+
 -- what follows an event leaves it standing
 pub stands_under : (later : List Event) (e : Event) (m : List Event) → Stands e m (later ++ e ∷ m)
 stands_under [] e m = Newest
 stands_under (x ∷ later) e m = Older x (later ++ e ∷ m) (stands_under later e m)
+
+pub stands_at : (xs : List Event) (k : ℕ) (d e : Event) → k < length xs → get_or xs k d ≡ e → Stands e (moment_at k xs) (reverse xs)
+stands_at xs k d e l is =
+    let later = reverse (drop (k + 1) xs) in
+    let whole : reverse xs ≡ later ++ e ∷ moment_at k xs =
+    ap reverse (sym (take-append-drop (k + 1) xs)) ∙ reverse-append (take (k + 1) xs) (drop (k + 1) xs) ∙ ap (λ z. later ++ z) (next_moment xs k d e l is) in
+    subst (λ z. Stands e (moment_at k xs) z) (sym whole) (stands_under later e (moment_at k xs))
 
 -- an event that stands is the newest, or an older one
 pub newest_or_older : (e f : Event) (m p : List Event) → Stands e m (f ∷ p) → ((e ≡ f) × (m ≡ p)) ⊎ Stands e m p

@@ -1,7 +1,7 @@
 -- One pass over a trace: the step counts of the correct nodes, and what they tell of each event.
 use Rattle.std.proofs.Common.{◌≡◌, ◌≢◌, ℕ, zero, suc, ◌+◌, ◌<◌, ◌≤◌, ◌↔◌, Bool, true, false, ◌&&◌, ◌==◌, max, List, [], ◌∷◌, ◌++◌, length, get_or, set, take, drop, reverse, replicate, Option, Some, None, sym, subst, refl, ap, ◌∙◌, arith, ◌⊎◌, inl, inr}
-use Rattle.std.proofs.lemmas.Bool.{cases_eq, eq-eqb, ne_eqb}
-use Rattle.std.proofs.lemmas.List.{get_or-set_same, get_or-set_other, length-set}
+use Rattle.std.proofs.lemmas.Bool.{both_ways, cases_eq, cases_lt, eq-eqb, ne_eqb}
+use Rattle.std.proofs.lemmas.List.{get_or-replicate, get_or_past, length-replicate, get_or-set_same, get_or-set_other, length-set}
 use Rattle.round_lang.specs.Sets.{is_in}
 use Rattle.step_machine.specs.declared.event.Event.{Event}
 use Rattle.step_machine.specs.declared.event.Event.TheVariants.{Step, Release}
@@ -24,6 +24,10 @@ pub record Tallied (correct : ℕ) (p : List Event) (counts : List ℕ) : Type 0
 abbrev pub IsOther : ℕ → Event → Type 0
 IsOther correct e = (k : ℕ) → is_in correct k ≡ true → is_step k e ≡ false
 
+-- a step of a node that isn't correct
+pub other_step : (correct k : ℕ) → (is_in correct k ≡ true → ⊥) → IsOther correct (Step k)
+other_step correct k out j h = ne_eqb k j (λ same. out (ap (is_in correct) same ∙ h))
+
 pub tally_other : (correct : ℕ) (p : List Event) (counts : List ℕ) (e : Event) → IsOther correct e → Tallied correct p counts → Tallied correct (e ∷ p) counts
 tally_other correct p counts e other a = record {
   sized = a.sized;
@@ -43,6 +47,10 @@ tally_step correct j p counts h few a = record {
   sized = length-set counts j _ ∙ a.sized;
   counted = λ k g. tally_at correct j k p counts h g few a (cases_eq k j);
 }
+
+-- a count doesn't pass the length of its moment
+pub count_below : (correct k : ℕ) (p : List Event) (counts : List ℕ) → is_in correct k ≡ true → Tallied correct p counts → get_or counts k 0 ≤ length p
+count_below correct k p counts here a = omega (arith, a.counted k here, steps_le k p)
 
 -- ---- lockstep
 
@@ -130,3 +138,55 @@ module _ (w : World) (t : List Event) (correct delta gst k : ℕ) (p : List Even
           let node : j ≡ k = cc in
           rw (node, now) (bound_of h.1 i q c y)
       by h j i q b c x y (inr s) = h.0 j i q b c x y s
+
+-- ---- a pass
+
+-- what a pass has found up to a moment
+pub record Passed (w : World) (t : List Event) (correct delta gst : ℕ) (p : List Event) (counts : List ℕ) (lockstep bound : Bool) : Type 0 where
+  pub tallied : Tallied correct p counts
+  pub paced : (lockstep ≡ true) ↔ IsLockstep correct p
+  pub bounded : (bound ≡ true) ↔ IsBoundTo w t correct delta gst p
+
+zeros : (n k : ℕ) → (k < n) ⊎ (n ≤ k) → get_or (replicate {A = ℕ} n 0) k 0 ≡ 0
+zeros n k (inl low) = get_or-replicate n k 0 0 low
+zeros n k (inr high) = get_or_past (replicate {A = ℕ} n 0) k 0 (let l = length-replicate {A = ℕ} n 0 in omega arith)
+
+tallied_none : (correct : ℕ) → Tallied correct [] (replicate 16 0)
+unfolding steps
+tallied_none correct = record { sized = refl; counted = λ k h. zeros 16 k (cases_lt k 16) }
+
+pub passed_none : (w : World) (t : List Event) (correct delta gst : ℕ) → Passed w t correct delta gst [] (replicate 16 0) true true
+passed_none w t correct delta gst = record {
+  tallied = tallied_none correct;
+  paced = (λ h i j m x y s. elim s [ ], λ h. refl);
+  bounded = (λ h. bound_none w t correct delta gst, λ h. refl);
+}
+
+through : {A B C : Type 0} → A ↔ B → B ↔ C → A ↔ C
+through f g = (λ a. g.0 (f.0 a), λ c. f.1 (g.1 c))
+
+beside : {A B C : Type 0} → A ↔ B → (A × C) ↔ (B × C)
+beside f = (λ (a, c). (f.0 a, c), λ (b, c). (f.1 b, c))
+
+pub passed_other : (w : World) (t : List Event) (correct delta gst : ℕ) (p : List Event) (counts : List ℕ) (lockstep bound : Bool) (e : Event) → IsOther correct e → Passed w t correct delta gst p counts lockstep bound → Passed w t correct delta gst (e ∷ p) counts lockstep bound
+passed_other w t correct delta gst p counts lockstep bound e other a = record {
+  tallied = tally_other correct p counts e other a.tallied;
+  paced = through a.paced (lockstep_other correct p e other);
+  bounded = through a.bounded (bound_other w t correct delta gst p e other);
+}
+
+pub passed_step : (w : World) (t : List Event) (correct delta gst k : ℕ) (p : List Event) (counts : List ℕ) (lockstep bound lockstep2 bound2 : Bool) → IsPlan w → AreNodes (nodes_of w) correct → nodes_of w ≤ 16 → is_in correct k ≡ true → Stands (Step k) p t → (lockstep2 ≡ true) ↔ ((lockstep ≡ true) × KeepsPace correct counts k) → (bound2 ≡ true) ↔ ((bound ≡ true) × KeepsBound w t correct delta gst counts k) → Passed w t correct delta gst p counts lockstep bound → Passed w t correct delta gst (Step k ∷ p) (set counts k (get_or counts k 0 + 1)) lockstep2 bound2
+passed_step w t correct delta gst k p counts lockstep bound lockstep2 bound2 plan within few here stands f g a =
+    let small = within k here in
+    record {
+      tallied = tally_step correct k p counts here (omega arith) a.tallied;
+      paced = through f (through (beside a.paced) (lockstep_step correct k p counts here a.tallied));
+      bounded = through g (through (beside a.bounded) (bound_step w t correct delta gst k p counts plan within here stands a.tallied));
+    }
+
+-- a test that is made where one before it held
+pub and_then : {Q : Type 0} (a b c : Bool) → a ≡ true → b ≡ c → (c ≡ true) ↔ Q → (b ≡ true) ↔ ((a ≡ true) × Q)
+and_then a b c h e q = (λ k. (h, q.0 (sym e ∙ k)), λ (x, y). e ∙ q.1 y)
+
+pub and_not : {Q : Type 0} (a b : Bool) → a ≡ false → b ≡ a → (b ≡ true) ↔ ((a ≡ true) × Q)
+and_not a b h e = (λ k. absurd (both_ways b (e ∙ h) k), λ (x, y). absurd (both_ways a h x))
