@@ -1,23 +1,21 @@
 -- The delay bound by places, and by the receiver's own step counts.
-use Rattle.std.proofs.Common.{◌≡◌, ℕ, zero, suc, ◌+◌, ◌<◌, ◌≤◌, Bool, true, false, ◌&&◌, ◌==◌, max, List, [], ◌∷◌, length, Option, Some, None, sym, subst, refl, ap, ◌∙◌, leb, arith, ◌⊎◌, inl, inr}
+use Rattle.std.proofs.Common.{◌≡◌, ℕ, suc, ◌+◌, ◌<◌, ◌≤◌, true, false, max, List, [], ◌∷◌, length, Option, Some, None, sym, subst, refl, ap, ◌∙◌, leb, arith, ◌⊎◌, inl, inr}
 use Rattle.std.specs.Prelude.{is_some}
-use Rattle.std.proofs.lemmas.Bool.{cases_Bool, cases_lt, cases_order, and_parts, and_from, eq-eqb, lt-leb, ltb-true, lt-ltb}
+use Rattle.std.proofs.lemmas.Bool.{cases_lt, cases_order, and_parts, and_from, eq-eqb, lt-leb, ltb-true, lt-ltb}
 use Rattle.round_lang.specs.declared.value.Value.{Value}
-use Rattle.round_lang.specs.Sets.{is_in}
 use Rattle.step_machine.specs.declared.event.Event.{Event}
 use Rattle.step_machine.specs.declared.event.Event.TheVariants.{Step, Release}
 use Rattle.step_machine.specs.declared.event.Name.{Name}
-use Rattle.step_journal.specs.declared.mark.Mark.{Mark}
-use Rattle.step_journal.specs.declared.mark.Mark.TheVariants.{Unsent, Silent, Flying, Released}
+use Rattle.step_journal.specs.declared.mark.Mark.TheVariants.{Released}
 use Rattle.step_journal.specs.History.{message, mark_by, mark_of}
-use Rattle.step_journal.specs.Trace.{first, is_step, is_release, is_later, released, sent, steps}
+use Rattle.step_journal.specs.Trace.{first, is_release, is_later, released, sent, steps}
 use Rattle.step_journal.specs.World.{World, IsPlan, is_receive, nodes_of}
 use Rattle.step_journal.proofs.Carried.{SentBy, NotYet, Once, releases, sends, sent_by}
 use Rattle.step_journal.proofs.Places.{first_found, first_kept, first_new}
 use Rattle.step_journal.proofs.Plans.{is_receive_at}
 use Rattle.omission_explainer.specs.Lateness.{HasReceive, open_until}
-use Rattle.omission_explainer.specs.Verdict.{IsReleasedBetween, IsSpoken, Stands, Newest, Older}
-use Rattle.omission_explainer.proofs.Moments.{StepAt, step_at, stands_shorter, steps_before, own_step_to, stands_within, stands_once, none_passes, first_least, Passing, found_passing, released_it, is_released}
+use Rattle.omission_explainer.specs.Verdict.{IsReleasedBetween, Stands, Newest, Older}
+use Rattle.omission_explainer.proofs.Moments.{StepAt, step_at, steps_before, own_step_to, stands_within, stands_once, none_passes, first_least, found_passing, released_it, is_released}
 
 -- ---- the send
 

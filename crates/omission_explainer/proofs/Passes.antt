@@ -1,17 +1,16 @@
 -- One pass over a trace: the step counts of the correct nodes, and what they tell of each event.
-use Rattle.std.proofs.Common.{◌≡◌, ◌≢◌, ℕ, zero, suc, ◌+◌, ◌<◌, ◌≤◌, ◌↔◌, Bool, true, false, ◌&&◌, ◌==◌, max, List, [], ◌∷◌, ◌++◌, length, get_or, set, take, drop, reverse, replicate, Option, Some, None, sym, subst, refl, ap, ◌∙◌, arith, ◌⊎◌, inl, inr}
+use Rattle.std.proofs.Common.{◌≡◌, ◌≢◌, ℕ, suc, ◌+◌, ◌<◌, ◌≤◌, ◌↔◌, Bool, true, false, max, List, [], ◌∷◌, length, get_or, set, replicate, sym, subst, refl, ap, ◌∙◌, arith, ◌⊎◌, inl, inr}
 use Rattle.std.proofs.lemmas.Bool.{both_ways, cases_eq, cases_lt, eq-eqb, ne_eqb}
 use Rattle.std.proofs.lemmas.List.{get_or-replicate, get_or_past, length-replicate, get_or-set_same, get_or-set_other, length-set}
 use Rattle.round_lang.specs.Sets.{is_in}
 use Rattle.step_machine.specs.declared.event.Event.{Event}
-use Rattle.step_machine.specs.declared.event.Event.TheVariants.{Step, Release}
-use Rattle.step_machine.specs.declared.event.Name.{Name}
-use Rattle.step_journal.specs.History.{message, mark_of}
+use Rattle.step_machine.specs.declared.event.Event.TheVariants.{Step}
+use Rattle.step_journal.specs.History.{mark_of}
 use Rattle.step_journal.specs.Trace.{is_step, steps}
 use Rattle.step_journal.specs.World.{World, IsPlan, is_receive, nodes_of}
 use Rattle.step_journal.proofs.Places.{steps_at, steps_other, steps_le}
 use Rattle.omission_explainer.specs.Lateness.{HasReceive, KeepsBound, KeepsPace, open_until}
-use Rattle.omission_explainer.specs.Verdict.{AreNodes, IsDelayBound, IsLockstep, IsReleasedBetween, IsSpoken, Stands, Newest, Older}
+use Rattle.omission_explainer.specs.Verdict.{AreNodes, IsLockstep, IsReleasedBetween, IsSpoken, Stands, Newest, Older}
 use Rattle.omission_explainer.proofs.Delays.{in_time, not_late}
 use Rattle.omission_explainer.proofs.Moments.{newest_or_older}
 

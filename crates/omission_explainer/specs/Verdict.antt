@@ -7,7 +7,6 @@ use Rattle.step_journal.specs.Trace.{steps}
 use Rattle.step_journal.specs.World.{World, is_receive}
 use Rattle.step_machine.specs.declared.event.Event.{Event}
 use Rattle.step_machine.specs.declared.event.Event.TheVariants.{Step, Release}
-use Rattle.step_machine.specs.declared.event.Name.{Name}
 use Rattle.omission_explainer.specs.declared.judging.Verdict.{Verdict}
 
 -- the event e stands in a history at the moment m, which is what went before it

@@ -1,11 +1,9 @@
-use Rattle.std.proofs.Common.{◌≡◌, ◌≢◌, ℕ, ◌+◌, ◌<◌, ◌≤◌, ◌∙◌, ◌∷◌, ◌↔◌, Bool, true, false, List, length, get_or, set, reverse, sym, ap, subst, refl, arith}
-use Rattle.std.proofs.lemmas.Bool.{both_ways, ne_eqb}
+use Rattle.std.proofs.Common.{◌≡◌, ◌∙◌, ◌↔◌, true, reverse, sym, ap, subst, refl, arith}
+use Rattle.std.proofs.lemmas.Bool.{both_ways}
 use Rattle.std.proofs.lemmas.List.{take_all}
 use Rattle.round_lang.specs.Sets.{is_in}
-use Rattle.step_machine.specs.declared.event.Event.{Event}
 use Rattle.step_machine.specs.declared.event.Event.TheVariants.{Step, Release}
-use Rattle.step_journal.specs.Log.{Recorded, history, world_of}
-use Rattle.step_journal.specs.Trace.{is_step}
+use Rattle.step_journal.specs.Log.{history, world_of}
 use Rattle.step_journal.specs.World.{IsPlan, nodes_of}
 use Rattle.step_journal.proofs.Reading.{nodes_are}
 use Rattle.step_journal.proofs.Starts.{plan_is}
@@ -13,7 +11,7 @@ use Rattle.omission_explainer.specs.Lateness.{KeepsBound, KeepsPace}
 use Rattle.omission_explainer.specs.Verdict.{AreNodes, IsDelayBound, Stands}
 use Rattle.omission_explainer.proofs.Keeping.{has_member, member_of}
 use Rattle.omission_explainer.proofs.Moments.{moment_at, moment_short, next_moment, stands_at}
-use Rattle.omission_explainer.proofs.Passes.{IsBoundTo, IsOther, Passed, passed_none, passed_other, passed_step, count_below, other_step, and_then, and_not}
+use Rattle.omission_explainer.proofs.Passes.{IsBoundTo, IsOther, passed_none, passed_other, passed_step, count_below, other_step, and_then, and_not}
 use Rattle.omission_explainer.proofs.judging.judge.Goals as goal
 use Rattle.omission_explainer.proofs.judging.judge.Goals.{in-Step+then-contains, in-Step+else-contains, in-Release, then-lockstep, else-lockstep, then-bound, else-bound}
 

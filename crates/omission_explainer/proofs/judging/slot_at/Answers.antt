@@ -1,4 +1,4 @@
-use Rattle.std.proofs.Common.{◌≡◌, ◌∙◌, ◌+◌, ◌<◌, ◌≤◌, ap, subst, arith}
+use Rattle.std.proofs.Common.{◌≡◌, ◌∙◌, ◌+◌, ap, subst, arith}
 use Rattle.slot_plans.specs.Slot.{IsSendSlot, IsReceiveSlot}
 use Rattle.omission_explainer.proofs.Slots.{all_rounds, none_past, none_there, slot_is}
 use Rattle.omission_explainer.proofs.judging.slot_at.Goals as goal
