@@ -7,3 +7,4 @@ pub mod Delays
 pub mod Passes
 pub mod Slots
 pub mod Keeping
+pub mod PrintedRounds

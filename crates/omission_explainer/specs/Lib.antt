@@ -4,3 +4,4 @@ pub mod Printed
 pub mod Reported
 pub mod Verdict
 pub mod Lateness
+pub mod InRounds

@@ -2,11 +2,13 @@
 ghost use Rattle.std.specs.Prelude.{◌≡◌, ◌+◌, ◌<◌, ◌≤◌, ◌↔◌, ℕ, All, IfOk, map, true};
 ghost use Rattle.std.specs.Arc.{arc_value};
 ghost use Rattle.round_check.specs.Types.{kind_type};
+ghost use Rattle.round_meaning.specs.Rounds.{algorithm_of};
 ghost use Rattle.round_meaning.specs.Turn.{decision};
 ghost use Rattle.step_journal.specs.Agreement.{row};
 ghost use Rattle.step_journal.specs.Log.{IsName, history, round_of, world_of};
 ghost use Rattle.step_journal.specs.History.{state};
 ghost use Rattle.step_journal.specs.Work.{is_within};
+ghost use Rattle.omission_explainer.specs.InRounds.{IsOfRounds, printed_omits};
 ghost use Rattle.omission_explainer.specs.Reported.{IsReported, IsRowOf, closed_rounds, counts_in, heard_in, names_in, omitted_in, place, silent_in, types_in};
 
 use crate::listed::Listed;
@@ -26,6 +28,7 @@ pub fn explain<P: Plan>(alloc: Global, journal: &Journal<P>) -> Result<Report, N
     ensures types { IfOk result (λ report. report.types ≡ types_in journal.now.log.program) }
     ensures reported { IfOk result (λ report. All (IsReported (P.start journal.now.plan) journal.now.log) report.rows) }
     ensures listed { IfOk result (λ report. map place report.rows ≡ closed_rounds journal.now.log) }
+    ensures in_rounds { IfOk result (λ report. All (IsOfRounds (algorithm_of journal.now.log.program journal.now.log.setup) (printed_omits report.rows)) report.rows) }
     ensures counted { IfOk result (λ report. report.counts ≡ counts_in journal.now.log) }
 {
     let book = journal.book();
@@ -73,6 +76,7 @@ fn type_of(kind: &VariableKind) -> Ty
 fn rows_of<P: Plan>(alloc: Global, book: &Book<P>) -> Result<Vec<ReportRow>, NoMemory>
     ensures reported { IfOk result (λ rows. All (IsReported (P.start book.now.plan) book.now.log) rows.items) }
     ensures listed { IfOk result (λ rows. map place rows.items ≡ closed_rounds book.now.log) }
+    ensures in_rounds { IfOk result (λ rows. All (IsOfRounds (algorithm_of book.now.log.program book.now.log.setup) (printed_omits rows.items)) rows.items) }
 {
     book.agrees();
     let mut rows = Vec::new(alloc);

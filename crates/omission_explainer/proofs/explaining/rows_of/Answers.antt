@@ -1,6 +1,8 @@
 use Rattle.std.proofs.Common.{◌∙◌, ◌+◌, ◌<◌, ◌≤◌, ap, map, sym, subst, arith}
 use Rattle.std.specs.Prelude.{All}
 use Rattle.step_journal.specs.Log.{round_of}
+use Rattle.step_journal.proofs.Starts.{plan_is}
+use Rattle.omission_explainer.proofs.PrintedRounds.{rows_in_rounds}
 use Rattle.omission_explainer.specs.Reported.{IsReported, place}
 use Rattle.omission_explainer.proofs.Reports.{reported, reported_more, listed_row, listed_none, listed_first, listed_round, listed_all}
 use Rattle.omission_explainer.proofs.explaining.rows_of.Goals as goal
@@ -53,3 +55,14 @@ returns-clause-listed g c =
     let rounds = ap (λ u. u.rounds) c.setup.ensures in
     let few = c.agrees.ensures.lawful.sized.few_rounds in
     listed_all c.args.book.now.log c.loop-round.round (c.setup.result.now.rounds + 1) c.loop-round.rows.items (omega arith) (omega arith) c.loop-round.invariant.listed
+
+pub returns-clause-in_rounds : goal.returns-clause-in_rounds
+returns-clause-in_rounds g c =
+    let v = c.args.book.now.log in
+    let p = c.args.book.now.plan in
+    let start = g.P.Plan.start p in
+    let plan = plan_is start (g.P.Plan.receives p) (g.P.Plan.nodes p) v (g.met.P.Plan.laws p) c.agrees.ensures.sized in
+    let rounds = ap (λ u. u.rounds) c.setup.ensures in
+    let few = c.agrees.ensures.lawful.sized.few_nodes in
+    let listed = listed_all v c.loop-round.round (c.setup.result.now.rounds + 1) c.loop-round.rows.items (omega arith) (omega arith) c.loop-round.invariant.listed in
+    rows_in_rounds start v c.loop-round.rows.items plan c.agrees.ensures.faithful (omega arith) c.loop-round.invariant.reported listed
