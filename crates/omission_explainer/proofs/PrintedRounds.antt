@@ -2,16 +2,16 @@
 use Rattle.std.proofs.Common.{◌≡◌, ℕ, zero, suc, ◌+◌, ◌-◌, ◌==◌, ◌<◌, ◌≤◌, Bool, true, false, cond, not, ◌&&◌, List, [], ◌∷◌, ◌++◌, map, Option, None, Some, refl, sym, ap, subst, ◌∙◌, if◌then◌else◌, arith, ◌⊎◌, inl, inr}
 use Rattle.std.specs.Prelude.{All, is_some, nat_lt, filter}
 use Rattle.std.specs.List.{flat_map, range_with_len}
-use Rattle.std.proofs.lemmas.Bool.{and_parts, and_from, both_ways, cases_Bool, cases_lt, eq-eqb, eqb-true}
+use Rattle.std.proofs.lemmas.Bool.{and_parts, and_from, both_ways, cases_lt, eq-eqb, eqb-true}
 use Rattle.std.proofs.lemmas.Bool.Decides.{nat_tests}
 use Rattle.std.proofs.lemmas.List.Elements.{All-head, All-tail, All-weaker}
 use Rattle.round_lang.specs.Sets.{is_in}
 use Rattle.round_lang.specs.declared.value.Value.{Value}
-use Rattle.round_meaning.specs.Rounds.{Algorithm, inbox, received, rounds}
+use Rattle.round_meaning.specs.Rounds.{inbox, received, rounds}
 use Rattle.step_journal.specs.History.{message, state}
 use Rattle.step_journal.specs.Log.{Log, IsFaithful, count_of, history, round_of, world_of}
-use Rattle.step_journal.specs.Trace.{carried, sent, steps}
-use Rattle.step_journal.specs.World.{World, IsPlan, nodes_of}
+use Rattle.step_journal.specs.Trace.{carried, sent}
+use Rattle.step_journal.specs.World.{IsPlan, nodes_of}
 use Rattle.step_journal.proofs.Carried.{SentBy, NotYet, Once, carried_sent, sent_by}
 use Rattle.step_journal.proofs.Kept.{end_same, inbox_same}
 use Rattle.step_journal.proofs.Plans.{start_le}
