@@ -2,3 +2,9 @@ pub mod Texts
 pub mod Parts
 pub mod Outcomes
 pub mod Reports
+pub mod Moments
+pub mod Delays
+pub mod Passes
+pub mod Slots
+pub mod Keeping
+pub mod PrintedRounds

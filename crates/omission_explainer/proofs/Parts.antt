@@ -3,14 +3,15 @@ use Rattle.std.proofs.Common.{◌≡◌, ℕ, zero, suc, ◌+◌, ◌^◌, ◌<�
 use Rattle.std.specs.Prelude.{◌&&◌, ◌||◌, not, nat_eq, nat_lt, is_some}
 use Rattle.std.specs.List.{range_with_len, filter_map, cons_option}
 use Rattle.std.specs.Int.{bit_at}
-use Rattle.std.proofs.lemmas.Bool.{cases_lt}
+use Rattle.std.proofs.lemmas.Bool.{and_parts, cases_lt, eqb-true, or_cases}
 use Rattle.std.proofs.lemmas.Bool.Decides.{nat_tests}
 use Rattle.std.proofs.lemmas.Nat.Bits.{bit_at-zero, bit_at_above, same_from_bits_below}
 use Rattle.std.proofs.Math.Pow.{pow_mono}
-use Rattle.round_lang.specs.Sets.{is_in, set_of, inter}
+use Rattle.round_lang.specs.Sets.{is_in, set_of, inter, only, union}
 use Rattle.round_lang.specs.declared.value.Value.{Value}
 use Rattle.round_lang.proofs.SetLaws.{bit-is_in, bit-set_of, set_of-lt}
 use Rattle.round_meaning.specs.Rounds.{Algorithm, inbox, received}
+use Rattle.omission_explainer.specs.Verdict.{AreNodes}
 use Rattle.omission_explainer.specs.Printed.{is_heard, is_silent, is_omitted, heard_set, silent_set, omitted_set, PartsNodes}
 
 -- a bit that is 1 where a test passes
@@ -30,6 +31,19 @@ is_in-set_of n p i = go (cases_lt i n)
     go (inr h) =
         let past : nat_lt i n ≡ false = grind (arith, nat_tests) in
         ap (λ b. nat_eq b 1) (bit_at_above (set_of n p) n i (set_of-lt n p) h) ∙ ap (λ b. b && p i) (sym past)
+
+-- the members of the empty set are nodes
+pub nodes_none : (nodes members : ℕ) → members ≡ 0 → AreNodes nodes members
+unfolding is_in
+nodes_none nodes members e i h = let off : is_in members i ≡ false = ap (λ s. is_in s i) e ∙ ap (λ b. nat_eq b 1) (bit_at-zero i) in absurd cc
+
+-- one node more
+pub nodes_with : (nodes members more n : ℕ) → n < nodes → more ≡ union members (only 64 n) → AreNodes nodes members → AreNodes nodes more
+nodes_with nodes members more n few e are i h = by (or_cases (is_in members i) (is_in (only 64 n) i) (and_parts _ _ (sym (is_in-set_of 64 (λ v. is_in members v || is_in (only 64 n) v) i) ∙ ap (λ s. is_in s i) (sym e) ∙ h)).1)
+  where
+    by : (is_in members i ≡ true) ⊎ (is_in (only 64 n) i ≡ true) → i < nodes
+    by (inl old) = are i old
+    by (inr new) = let same : i ≡ n = eqb-true i n (and_parts _ _ (sym (is_in-set_of 64 (λ v. nat_eq v n) i) ∙ new)).1 in omega arith
 
 -- the same for all 64 places
 is_in-wide : (p : ℕ → Bool) (i : ℕ) → i < 64 → is_in (set_of 64 p) i ≡ p i

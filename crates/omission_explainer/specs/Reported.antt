@@ -1,6 +1,9 @@
 -- What the rows of a record are to show.
 use Rattle.std.specs.Prelude.{◌≡◌, ℕ, ◌-◌, ◌<◌, Bool, List, filter, is_some, map, nat_lt}
 use Rattle.std.specs.List.{flat_map, range_with_len}
+use Rattle.round_check.specs.Types.{kind_type}
+use Rattle.round_lang.specs.declared.expr.Ty.{Ty}
+use Rattle.round_lang.specs.Syntax.{ProgramTree}
 use Rattle.round_meaning.specs.Turn.{decision}
 use Rattle.step_journal.specs.History.{message, state}
 use Rattle.step_journal.specs.Log.{Log, count_of, history, round_of, world_of}
@@ -66,3 +69,11 @@ count_in v i = (count_of v i, round_of v i - 1)
 -- so of each node
 abbrev pub counts_in : Log → List (ℕ × ℕ)
 counts_in v = map (count_in v) (range_with_len 0 v.setup.nodes)
+
+-- the variables' names in the order of their declarations, the input among them
+abbrev pub names_in : ProgramTree → List (List ℕ)
+names_in p = map (λ d. d.name) p.variables
+
+-- the variables' types in that order
+abbrev pub types_in : ProgramTree → List Ty
+types_in p = map (λ d. kind_type d.kind) p.variables

@@ -1,12 +1,15 @@
 //! From a journal to its report.
 ghost use Rattle.std.specs.Prelude.{◌≡◌, ◌+◌, ◌<◌, ◌≤◌, ◌↔◌, ℕ, All, IfOk, map, true};
 ghost use Rattle.std.specs.Arc.{arc_value};
+ghost use Rattle.round_check.specs.Types.{kind_type};
+ghost use Rattle.round_meaning.specs.Rounds.{algorithm_of};
 ghost use Rattle.round_meaning.specs.Turn.{decision};
 ghost use Rattle.step_journal.specs.Agreement.{row};
 ghost use Rattle.step_journal.specs.Log.{IsName, history, round_of, world_of};
 ghost use Rattle.step_journal.specs.History.{state};
 ghost use Rattle.step_journal.specs.Work.{is_within};
-ghost use Rattle.omission_explainer.specs.Reported.{IsReported, IsRowOf, closed_rounds, counts_in, heard_in, omitted_in, place, silent_in};
+ghost use Rattle.omission_explainer.specs.InRounds.{IsOfRounds, printed_omits};
+ghost use Rattle.omission_explainer.specs.Reported.{IsReported, IsRowOf, closed_rounds, counts_in, heard_in, names_in, omitted_in, place, silent_in, types_in};
 
 use crate::listed::Listed;
 use crate::report::{Report, ReportRow};
@@ -19,13 +22,13 @@ use step_journal::{Book, Journal, Mark};
 use step_machine::Name;
 
 /// The report of a journal: its closed rounds, as rounds with omissions.
-///
-/// A journal's plan is for as many nodes as its setup has from `Journal::open` on, and no call changes either.
 pub fn explain<P: Plan>(alloc: Global, journal: &Journal<P>) -> Result<Report, NoMemory>
-    ensures reported { P.nodes journal.now.plan ≡ journal.now.log.setup.nodes →
-        IfOk result (λ report. All (IsReported (P.start journal.now.plan) journal.now.log) report.rows) }
-    ensures listed { journal.now.log.setup.rounds ≤ 4096 →
-        IfOk result (λ report. map place report.rows ≡ closed_rounds journal.now.log) }
+    ensures values { IfOk result (λ report. report.values ≡ journal.now.log.program.values) }
+    ensures names { IfOk result (λ report. report.names ≡ names_in journal.now.log.program) }
+    ensures types { IfOk result (λ report. report.types ≡ types_in journal.now.log.program) }
+    ensures reported { IfOk result (λ report. All (IsReported (P.start journal.now.plan) journal.now.log) report.rows) }
+    ensures listed { IfOk result (λ report. map place report.rows ≡ closed_rounds journal.now.log) }
+    ensures in_rounds { IfOk result (λ report. All (IsOfRounds (algorithm_of journal.now.log.program journal.now.log.setup) (printed_omits report.rows)) report.rows) }
     ensures counted { IfOk result (λ report. report.counts ≡ counts_in journal.now.log) }
 {
     let book = journal.book();
@@ -40,7 +43,9 @@ pub fn explain<P: Plan>(alloc: Global, journal: &Journal<P>) -> Result<Report, N
     })
 }
 
-fn names_of(alloc: Global, program: &Program) -> Result<Listed<Identifier>, NoMemory> {
+fn names_of(alloc: Global, program: &Program) -> Result<Listed<Identifier>, NoMemory>
+    ensures { IfOk result (λ names. names ≡ names_in program.now) }
+{
     let mut names = Vec::new(alloc);
     for variable in program.variables() {
         names.push(variable.name.copy()?)?;
@@ -48,7 +53,9 @@ fn names_of(alloc: Global, program: &Program) -> Result<Listed<Identifier>, NoMe
     Ok(Listed::new(names))
 }
 
-fn types_of(alloc: Global, program: &Program) -> Result<Listed<Ty>, NoMemory> {
+fn types_of(alloc: Global, program: &Program) -> Result<Listed<Ty>, NoMemory>
+    ensures { IfOk result (λ types. types ≡ types_in program.now) }
+{
     let mut types = Vec::new(alloc);
     for variable in program.variables() {
         types.push(type_of(&variable.kind))?;
@@ -56,7 +63,9 @@ fn types_of(alloc: Global, program: &Program) -> Result<Listed<Ty>, NoMemory> {
     Ok(Listed::new(types))
 }
 
-fn type_of(kind: &VariableKind) -> Ty {
+fn type_of(kind: &VariableKind) -> Ty
+    ensures { result ≡ kind_type kind.now }
+{
     match kind {
         VariableKind::Input => Ty::Num,
         VariableKind::State { ty, start: _ } => *ty,
@@ -65,13 +74,13 @@ fn type_of(kind: &VariableKind) -> Ty {
 
 /// A row for each closed round of each node, by round and then by node.
 fn rows_of<P: Plan>(alloc: Global, book: &Book<P>) -> Result<Vec<ReportRow>, NoMemory>
-    ensures reported { P.nodes book.now.plan ≡ book.now.log.setup.nodes →
-        IfOk result (λ rows. All (IsReported (P.start book.now.plan) book.now.log) rows.items) }
-    ensures listed { book.now.log.setup.rounds ≤ 4096 →
-        IfOk result (λ rows. map place rows.items ≡ closed_rounds book.now.log) }
+    ensures reported { IfOk result (λ rows. All (IsReported (P.start book.now.plan) book.now.log) rows.items) }
+    ensures listed { IfOk result (λ rows. map place rows.items ≡ closed_rounds book.now.log) }
+    ensures in_rounds { IfOk result (λ rows. All (IsOfRounds (algorithm_of book.now.log.program book.now.log.setup) (printed_omits rows.items)) rows.items) }
 {
+    book.agrees();
     let mut rows = Vec::new(alloc);
-    for round in 1..book.setup().rounds.saturating_add(1) {
+    for round in 1..book.setup().rounds + 1 {
         for node in 0..book.setup().nodes {
             if round < book.round_of(node) {
                 rows.push(row_of(book, node, round)?)?;
@@ -127,9 +136,9 @@ fn outcomes_of<P: Plan>(book: &Book<P>, node: u32, round: u32) -> Outcomes
     requires first { 0 < round }
     requires few { round ≤ 4096 }
     requires closed { round < round_of book.now.log node }
-    ensures heard { P.nodes book.now.plan ≡ book.now.log.setup.nodes → result.heard.bits ≡ heard_in (P.start book.now.plan) book.now.log round node }
-    ensures silent { P.nodes book.now.plan ≡ book.now.log.setup.nodes → result.silent.bits ≡ silent_in (P.start book.now.plan) book.now.log round node }
-    ensures omitted { P.nodes book.now.plan ≡ book.now.log.setup.nodes → result.omitted.bits ≡ omitted_in (P.start book.now.plan) book.now.log round node }
+    ensures heard { result.heard.bits ≡ heard_in (P.start book.now.plan) book.now.log round node }
+    ensures silent { result.silent.bits ≡ silent_in (P.start book.now.plan) book.now.log round node }
+    ensures omitted { result.omitted.bits ≡ omitted_in (P.start book.now.plan) book.now.log round node }
 {
     book.agrees();
     let first = u64::from(book.plan().start(round));
@@ -164,8 +173,7 @@ fn row_of<P: Plan>(book: &Book<P>, node: u32, round: u32) -> Result<ReportRow, N
     requires closed { round < round_of book.now.log node }
     ensures round { IfOk result (λ r. r.round ≡ round) }
     ensures node { IfOk result (λ r. r.node ≡ node) }
-    ensures printed { P.nodes book.now.plan ≡ book.now.log.setup.nodes →
-        IfOk result (λ r. IsRowOf (P.start book.now.plan) book.now.log round node r) }
+    ensures printed { IfOk result (λ r. IsRowOf (P.start book.now.plan) book.now.log round node r) }
     ensures state { IfOk result (λ r. r.state ≡ state (world_of (P.start book.now.plan) book.now.log) (history book.now.log) round node) }
     ensures decision { IfOk result (λ r. r.decision ≡ decision book.now.log.program r.state) }
 {

@@ -2,12 +2,14 @@
 #![tactic(auto)]
 
 mod explaining;
+mod judging;
 mod listed;
 mod printed;
 mod report;
 mod writing;
 
 pub use explaining::explain;
+pub use judging::{Verdict, judge};
 pub use listed::Listed;
 pub use printed::{omissions_give_inbox, sets_part_nodes};
 pub use report::{Report, ReportRow};

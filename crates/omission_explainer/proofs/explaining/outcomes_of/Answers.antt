@@ -28,16 +28,16 @@ loop-from-preserved g c = λ few.
     ]
 
 pub returns-clause-heard : goal.returns-clause-heard
-returns-clause-heard g c = λ n.
+returns-clause-heard g c =
     let p = c.args.book.now.plan in
-    (shows (g.P.Plan.start p) (g.P.Plan.receives p) (g.P.Plan.nodes p) c.args.book.now.log c.args.node c.args.round c.setup.result.now c.loop-from.from _ _ _ (g.met.P.Plan.laws p) n c.agrees.ensures c.requires.node c.requires.first c.requires.closed c.setup.ensures c.loop-from-test.false c.loop-from.auto.from-end c.loop-from.invariant).0
+    (shows (g.P.Plan.start p) (g.P.Plan.receives p) (g.P.Plan.nodes p) c.args.book.now.log c.args.node c.args.round c.setup.result.now c.loop-from.from _ _ _ (g.met.P.Plan.laws p) c.agrees.ensures.sized c.agrees.ensures.faithful c.requires.node c.requires.first c.requires.closed c.setup.ensures c.loop-from-test.false c.loop-from.auto.from-end c.loop-from.invariant).0
 
 pub returns-clause-silent : goal.returns-clause-silent
-returns-clause-silent g c = λ n.
+returns-clause-silent g c =
     let p = c.args.book.now.plan in
-    (shows (g.P.Plan.start p) (g.P.Plan.receives p) (g.P.Plan.nodes p) c.args.book.now.log c.args.node c.args.round c.setup.result.now c.loop-from.from _ _ _ (g.met.P.Plan.laws p) n c.agrees.ensures c.requires.node c.requires.first c.requires.closed c.setup.ensures c.loop-from-test.false c.loop-from.auto.from-end c.loop-from.invariant).1
+    (shows (g.P.Plan.start p) (g.P.Plan.receives p) (g.P.Plan.nodes p) c.args.book.now.log c.args.node c.args.round c.setup.result.now c.loop-from.from _ _ _ (g.met.P.Plan.laws p) c.agrees.ensures.sized c.agrees.ensures.faithful c.requires.node c.requires.first c.requires.closed c.setup.ensures c.loop-from-test.false c.loop-from.auto.from-end c.loop-from.invariant).1
 
 pub returns-clause-omitted : goal.returns-clause-omitted
-returns-clause-omitted g c = λ n.
+returns-clause-omitted g c =
     let p = c.args.book.now.plan in
-    (shows (g.P.Plan.start p) (g.P.Plan.receives p) (g.P.Plan.nodes p) c.args.book.now.log c.args.node c.args.round c.setup.result.now c.loop-from.from _ _ _ (g.met.P.Plan.laws p) n c.agrees.ensures c.requires.node c.requires.first c.requires.closed c.setup.ensures c.loop-from-test.false c.loop-from.auto.from-end c.loop-from.invariant).2
+    (shows (g.P.Plan.start p) (g.P.Plan.receives p) (g.P.Plan.nodes p) c.args.book.now.log c.args.node c.args.round c.setup.result.now c.loop-from.from _ _ _ (g.met.P.Plan.laws p) c.agrees.ensures.sized c.agrees.ensures.faithful c.requires.node c.requires.first c.requires.closed c.setup.ensures c.loop-from-test.false c.loop-from.auto.from-end c.loop-from.invariant).2

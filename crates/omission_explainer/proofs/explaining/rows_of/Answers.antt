@@ -1,6 +1,8 @@
-use Rattle.std.proofs.Common.{◌∙◌, ◌<◌, ◌≤◌, ap, map, sym, subst, arith}
+use Rattle.std.proofs.Common.{◌∙◌, ◌+◌, ◌<◌, ◌≤◌, ap, map, sym, subst, arith}
 use Rattle.std.specs.Prelude.{All}
 use Rattle.step_journal.specs.Log.{round_of}
+use Rattle.step_journal.proofs.Starts.{plan_is}
+use Rattle.omission_explainer.proofs.PrintedRounds.{rows_in_rounds}
 use Rattle.omission_explainer.specs.Reported.{IsReported, place}
 use Rattle.omission_explainer.proofs.Reports.{reported, reported_more, listed_row, listed_none, listed_first, listed_round, listed_all}
 use Rattle.omission_explainer.proofs.explaining.rows_of.Goals as goal
@@ -21,15 +23,15 @@ loop-node-preserved g c =
           let made = w.in_ok-row_of.ensures in
           let grown = ap (λ rows. rows.items) w.rows-is ∙ w.in_ok-push.ensures.items in
           record {
-            reported = λ n.
-                reported_more start v c.loop-node.rows.items _ row grown (before.reported n)
-                (reported start v r i row made.round made.node here (omega arith) closed (made.printed n) made.state made.decision);
+            reported =
+                reported_more start v c.loop-node.rows.items _ row grown before.reported
+                (reported start v r i row made.round made.node here (omega arith) closed made.printed made.state made.decision);
             listed = listed_row v r i c.loop-node.rows.items _ row grown made.round made.node closed before.listed;
           }
       | else-round-round_of w ↦
           let open_yet : round_of v i ≤ r = subst (λ k. k ≤ r) c.round_of.ensures.value w.if-round-round_of.false in
           record {
-            reported = λ n. subst (λ rows. All (IsReported start v) rows.items) (sym w.rows-is) (before.reported n);
+            reported = subst (λ rows. All (IsReported start v) rows.items) (sym w.rows-is) before.reported;
             listed = ap (λ rows. map place rows.items) w.rows-is ∙ listed_none v r i c.loop-node.rows.items open_yet before.listed;
           }
     ]
@@ -49,6 +51,18 @@ loop-round-preserved g c = record {
 }
 
 pub returns-clause-listed : goal.returns-clause-listed
-returns-clause-listed g c = λ few.
+returns-clause-listed g c =
     let rounds = ap (λ u. u.rounds) c.setup.ensures in
-    listed_all c.args.book.now.log c.loop-round.round c.saturating_add-round-end.result c.loop-round.rows.items (omega (arith, rounds, few, c.saturating_add-round-end.ensures)) (omega (arith, few, rounds, c.saturating_add-round-end.ensures)) c.loop-round.invariant.listed
+    let few = c.agrees.ensures.lawful.sized.few_rounds in
+    listed_all c.args.book.now.log c.loop-round.round (c.setup.result.now.rounds + 1) c.loop-round.rows.items (omega arith) (omega arith) c.loop-round.invariant.listed
+
+pub returns-clause-in_rounds : goal.returns-clause-in_rounds
+returns-clause-in_rounds g c =
+    let v = c.args.book.now.log in
+    let p = c.args.book.now.plan in
+    let start = g.P.Plan.start p in
+    let plan = plan_is start (g.P.Plan.receives p) (g.P.Plan.nodes p) v (g.met.P.Plan.laws p) c.agrees.ensures.sized in
+    let rounds = ap (λ u. u.rounds) c.setup.ensures in
+    let few = c.agrees.ensures.lawful.sized.few_nodes in
+    let listed = listed_all v c.loop-round.round (c.setup.result.now.rounds + 1) c.loop-round.rows.items (omega arith) (omega arith) c.loop-round.invariant.listed in
+    rows_in_rounds start v c.loop-round.rows.items plan c.agrees.ensures.faithful (omega arith) c.loop-round.invariant.reported listed

@@ -7,12 +7,12 @@ use Rattle.omission_explainer.proofs.explaining.rows_of.Given as goal
 
 abbrev pub invariant-loop-round : goal.invariant-loop-round
 invariant-loop-round g l = record {
-  reported : g.P.Plan.nodes l.book.plan ≡ l.book.log.setup.nodes → All (IsReported (g.P.Plan.start l.book.plan) l.book.log) l.rows.items;
+  reported : All (IsReported (g.P.Plan.start l.book.plan) l.book.log) l.rows.items;
   listed : map place l.rows.items ≡ flat_map (closed_below l.book.log l.book.log.setup.nodes) (range_with_len 1 (l.round - 1));
 }
 
 abbrev pub invariant-loop-node : goal.invariant-loop-node
 invariant-loop-node g l = record {
-  reported : g.P.Plan.nodes l.book.plan ≡ l.book.log.setup.nodes → All (IsReported (g.P.Plan.start l.book.plan) l.book.log) l.rows.items;
+  reported : All (IsReported (g.P.Plan.start l.book.plan) l.book.log) l.rows.items;
   listed : map place l.rows.items ≡ listed_to l.book.log l.round l.node;
 }

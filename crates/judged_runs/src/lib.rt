@@ -1,0 +1,5 @@
+//! Runs by their schedules, as they are judged.
+#![tactic(auto)]
+
+#[cfg(test)]
+mod tests;

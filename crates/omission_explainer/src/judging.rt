@@ -1,0 +1,185 @@
+//! Whether a run kept what its plan counts on.
+ghost use Rattle.std.specs.Prelude.{◌≡◌, ◌+◌, ◌<◌, ◌↔◌, IsTrue, MatchOption, Some, length, max};
+ghost use Rattle.slot_plans.specs.Plan.{IsClearRound};
+ghost use Rattle.step_journal.specs.Log.{IsName, count_of, history, mark_in, world_of};
+ghost use Rattle.omission_explainer.specs.Lateness.{HasReceive, IsNoSlot, IsSlotAt, KeepsBound, KeepsPace, open_until};
+ghost use Rattle.omission_explainer.specs.Verdict.{AreNodes, IsDelayBound, IsLockstep, yes_or_no};
+
+use round_meaning::NodeSet;
+use slot_plans::{MAX_NODES, Plan, Slot};
+use std::fmt;
+use step_journal::{Book, Journal, Mark};
+use step_machine::{Event, Name};
+
+/// What a run was for a set of correct nodes: whether they stepped in lockstep, whether their
+/// messages kept a bound on the delay, and from which round on messages then arrive.
+#[derive(Clone, Copy, PartialEq, Eq, Debug)]
+pub struct Verdict {
+    pub lockstep: bool,
+    pub bound: bool,
+    pub clear: Option<u32>,
+}
+
+impl fmt::Display for Verdict {
+    ghost use Rattle.omission_explainer.specs.Verdict.{verdict_text};
+
+    ghost output = { λ v. Some (verdict_text v) };
+
+    fn fmt<W: fmt::Write>(&self, f: &mut fmt::Formatter<W>) -> fmt::Result {
+        let lockstep = yes_or_no(self.lockstep);
+        let bound = yes_or_no(self.bound);
+        match self.clear {
+            Some(round) => write!(f, "lockstep {lockstep} bound {bound} clear {round}"),
+            None => write!(f, "lockstep {lockstep} bound {bound} clear none"),
+        }
+    }
+}
+
+fn yes_or_no(flag: bool) -> &'static str
+    ensures { result.now ≡ yes_or_no flag }
+{
+    if flag { "yes" } else { "no" }
+}
+
+/// How many steps each correct node has taken, by node.
+const COUNTS: usize = MAX_NODES as usize;
+
+/// Judges the run of a journal, where the nodes `correct` are correct, for the bound `delta` on the
+/// delay that is to hold from the step number `gst` on.
+///
+/// It takes no memory. One pass over the trace keeps the step counts of the correct nodes.
+pub fn judge<P: Plan>(journal: &Journal<P>, correct: NodeSet, delta: u32, gst: u32) -> Verdict
+    requires { AreNodes journal.now.log.setup.nodes correct.bits }
+    ensures lockstep { IsTrue result.lockstep ↔ IsLockstep correct.bits (history journal.now.log) }
+    ensures bound { IsTrue result.bound ↔ IsDelayBound (world_of (P.start journal.now.plan) journal.now.log) (history journal.now.log) correct.bits delta gst }
+    ensures clear { IsClearRound (P.receives journal.now.plan) (P.start journal.now.plan) delta gst result.clear }
+{
+    let book = journal.book();
+    book.agrees();
+    let terms = Terms {
+        correct,
+        delta,
+        gst,
+    };
+    let mut counts = [0u64; COUNTS];
+    let mut lockstep = true;
+    let mut bound = true;
+    for event in book.trace() {
+        match event {
+            Event::Step(node) => {
+                if correct.contains(*node) {
+                    lockstep = lockstep && keeps_pace(correct, &counts, *node);
+                    bound = bound && keeps_bound(book, terms, &counts, *node);
+                    counts[*node as usize] += 1;
+                }
+            }
+            Event::Release(_) => {}
+        }
+    }
+    Verdict {
+        lockstep,
+        bound,
+        clear: book.plan().clear_round(delta, gst),
+    }
+}
+
+/// What a run is judged for.
+#[derive(Clone, Copy)]
+struct Terms {
+    correct: NodeSet,
+    delta: u32,
+    gst: u32,
+}
+
+/// Whether no correct node has taken fewer steps than this one.
+fn keeps_pace(correct: NodeSet, counts: &[u64], node: u32) -> bool
+    requires sized { length counts.now ≡ 16 }
+    requires node { node < 16 }
+    requires within { AreNodes 16 correct.bits }
+    ensures { IsTrue result ↔ KeepsPace correct.bits counts.now node }
+{
+    for other in 0..MAX_NODES {
+        if correct.contains(other) && counts[other as usize] < counts[node as usize] {
+            return false;
+        }
+    }
+    true
+}
+
+/// Whether the message that a node sends at its next step, if it does, comes in time for the
+/// receives of its receiver.
+///
+/// A receive comes after the send where its step number isn't below the receiver's count at the
+/// send, and after the release where it isn't below the receiver's count there.
+fn keeps_bound<P: Plan>(book: &Book<P>, terms: Terms, counts: &[u64], node: u32) -> bool
+    requires sized { length counts.now ≡ 16 }
+    requires node { node < book.now.log.setup.nodes }
+    requires within { AreNodes book.now.log.setup.nodes terms.correct.bits }
+    ensures { IsTrue result ↔ KeepsBound (world_of (P.start book.now.plan) book.now.log) (history book.now.log) terms.correct.bits terms.delta terms.gst counts.now node }
+{
+    book.agrees();
+    let count = counts[node as usize];
+    if count < u64::from(terms.gst) {
+        return true;
+    }
+    match slot_at(book, node, count) {
+        Some(name) => {
+            if !terms.correct.contains(name.to) {
+                return true;
+            }
+            let low = (count + u64::from(terms.delta)).max(counts[name.to as usize]);
+            !has_receive(book, low, open_until(book, name))
+        }
+        None => true,
+    }
+}
+
+/// The message for which a step of a node is the slot.
+fn slot_at<P: Plan>(book: &Book<P>, node: u32, count: u64) -> Option<Name>
+    requires { node < book.now.log.setup.nodes }
+    ensures { MatchOption result
+        (IsNoSlot (world_of (P.start book.now.plan) book.now.log) count)
+        (IsSlotAt (world_of (P.start book.now.plan) book.now.log) node count) }
+{
+    book.agrees();
+    let plan = book.plan();
+    if count >= u64::from(plan.start(book.setup().rounds + 1)) {
+        return None;
+    }
+    match plan.place(count as u32) {
+        Slot::Send { round, to } => Some(Name {
+            from: node,
+            to,
+            round,
+        }),
+        Slot::Receive { round: _, last: _ } => None,
+    }
+}
+
+/// The step of its receiver from which a message is there, or how many steps that has taken.
+fn open_until<P: Plan>(book: &Book<P>, name: Name) -> u64
+    requires { IsName book.now.log.setup name }
+    ensures { result ≡ open_until (count_of book.now.log name.to) (mark_in (P.start book.now.plan) book.now.log name) }
+{
+    match book.mark(name) {
+        Mark::Unsent | Mark::Silent => 0,
+        Mark::Flying => book.count_of(name.to),
+        Mark::Released(count) => count,
+    }
+}
+
+/// Whether one of these step numbers is a receive.
+fn has_receive<P: Plan>(book: &Book<P>, low: u64, high: u64) -> bool
+    ensures { IsTrue result ↔ HasReceive (world_of (P.start book.now.plan) book.now.log) low high }
+{
+    book.agrees();
+    let plan = book.plan();
+    if low >= u64::from(plan.start(book.setup().rounds + 1)) {
+        return false;
+    }
+    let first = match plan.place(low as u32) {
+        Slot::Send { round, to: _ } => u64::from(plan.start(round) + plan.nodes()),
+        Slot::Receive { round: _, last: _ } => low,
+    };
+    first < high
+}
