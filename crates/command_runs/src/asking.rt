@@ -3,11 +3,12 @@ ghost use Rattle.std.specs.Prelude.{◌≡◌, IfSome};
 ghost use Rattle.omission_explainer.specs.Verdict.{AreNodes};
 
 use crate::desk::Desk;
+use crate::explained::explained_run;
 use crate::refusal::Refusal;
 use crate::sources::Opened;
 use adversary::{Schedule, read_schedule, run_schedule};
 use command_words::Source;
-use omission_explainer::{Report, Verdict, explain, judge};
+use omission_explainer::{Report, Verdict, judge};
 use round_check::Checked;
 use round_meaning::{MAX_NODES, NodeSet};
 use slot_plans::{Growing, Known, Plan, PlanKind};
@@ -84,8 +85,8 @@ fn answer_of<P: Plan>(
 {
     match question {
         Question::Report => {
-            let journal = run_schedule(alloc, program, &schedule.setup, plan, &schedule.events)?;
-            Ok(Answer::Report(explain(alloc, &journal)?))
+            let report = explained_run(alloc, program, &schedule.setup, plan, &schedule.events)?;
+            Ok(Answer::Report(report))
         }
         Question::Verdict {
             correct,

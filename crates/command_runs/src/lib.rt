@@ -3,6 +3,7 @@
 
 mod asking;
 mod desk;
+mod explained;
 mod library;
 mod memory_desk;
 mod refusal;
@@ -10,6 +11,7 @@ mod run;
 mod sources;
 
 pub use desk::{Desk, DeskFault};
+pub use explained::explained_run;
 pub use library::{LibraryFault, gather};
 pub use memory_desk::MemoryDesk;
 pub use refusal::Refusal;
