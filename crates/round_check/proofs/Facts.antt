@@ -84,11 +84,11 @@ not_typed WrongType p stands other h = let clear = IsClear-typed p h in cc (stan
 not_typed NoMemory p stands other h = other refl
 
 -- where neither of two tests holds, each fails
-neither : (a b : Bool) → a || b ≡ false → (a ≡ false) × (b ≡ false)
+pub neither : (a b : Bool) → a || b ≡ false → (a ≡ false) × (b ≡ false)
 neither true b h = absurd cc
 neither false b h = (refl, h)
 
-fails-not : (b : Bool) → not b ≡ false → b ≡ true
+pub fails-not : (b : Bool) → not b ≡ false → b ≡ true
 fails-not true h = refl
 fails-not false h = absurd cc
 

@@ -36,6 +36,15 @@ impl Vars {
         }
     }
 
+    /// No values yet, with room for so many.
+    pub fn with_capacity(alloc: Global, count: usize) -> Result<Vars, NoMemory>
+        ensures { IfOk result (λ v. v ≡ []) }
+    {
+        Ok(Vars {
+            values: Vec::with_capacity(alloc, count)?,
+        })
+    }
+
     /// Adds a value at the end.
     pub fn push(&mut self, value: Value) -> Result<(), NoMemory>
         ensures ok { OnOk result (self.new ≡ self.old ++ value ∷ []) }
@@ -119,7 +128,7 @@ impl Vars {
     pub fn copy(&self, alloc: Global) -> Result<Vars, NoMemory>
         ensures { IfOk result (λ v. v ≡ self.now) }
     {
-        let mut values = Vec::new(alloc);
+        let mut values = Vec::with_capacity(alloc, self.values.len())?;
         for value in &self.values {
             values.push(value.copy()?)?;
         }

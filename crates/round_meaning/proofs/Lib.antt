@@ -4,3 +4,6 @@ pub mod Decisions
 pub mod RoundLaws
 pub mod OmissionLaws
 mod Rows
+pub mod Sound
+pub mod TypedTurns
+pub mod TypedStarts

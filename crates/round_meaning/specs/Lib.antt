@@ -11,3 +11,4 @@ pub mod Nodes
 pub mod Omissions
 pub mod States
 pub mod Laws
+pub mod Typed

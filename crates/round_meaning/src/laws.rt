@@ -1,5 +1,8 @@
 //! Laws of the definitions; the functions do nothing.
+ghost use Rattle.round_meaning.specs.Typed.{EndsAreStates, SendsAreMessages, StartsAreStates, TypedValuesFit};
 ghost use Rattle.round_meaning.specs.Laws.{DifferencesAreExact, DifferencesStop, OnlyPastCounts, OnlySendersCount, OnlySendersCountInRuns, SumsAreExact, SumsStop};
+
+use round_check::Checked;
 
 /// Sums stop at 4,294,967,295, and differences at 0.
 pub fn numbers_stop()
@@ -20,3 +23,18 @@ pub fn only_senders_count()
 pub fn only_past_counts()
     ensures { OnlyPastCounts }
 {}
+
+/// The value of a typed expression has its type, in every environment that fits.
+pub fn typed_values_fit()
+    ensures { TypedValuesFit }
+{}
+
+/// States and messages of a checked program have a value of its type for each variable and field.
+pub fn types_are_kept(program: &Checked)
+    ensures starts { StartsAreStates program.now }
+    ensures sends { SendsAreMessages program.now }
+    ensures ends { EndsAreStates program.now }
+{
+    program.typed();
+    let _values = program.program().values();
+}

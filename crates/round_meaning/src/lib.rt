@@ -17,7 +17,9 @@ mod turn;
 
 pub use env::{Env, Scope};
 pub use evaluator::eval;
-pub use laws::{numbers_stop, only_past_counts, only_senders_count};
+pub use laws::{
+    numbers_stop, only_past_counts, only_senders_count, typed_values_fit, types_are_kept,
+};
 pub use nodes::NodeSet;
 pub use omissions::{Omission, OmissionTable};
 pub use received::Received;
