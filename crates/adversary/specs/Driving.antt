@@ -1,6 +1,6 @@
 -- What holds while a schedule is run, and which events it may have.
-use Rattle.std.specs.Prelude.{◌≡◌, ◌≢◌, ℕ, ◌<◌, List, ◌++◌, length, slice_index_or}
-use Rattle.step_journal.specs.Log.{Log, IsName, round_of}
+use Rattle.std.specs.Prelude.{◌≡◌, ◌≢◌, ◌↔◌, ℕ, ◌+◌, ◌<◌, ◌≤◌, List, ◌++◌, length, slice_index_or}
+use Rattle.step_journal.specs.Log.{Log, IsDue, IsName, count_of, round_of}
 use Rattle.round_meaning.specs.declared.setup.Setup.{Setup}
 use Rattle.step_machine.specs.declared.event.Event.{Event}
 use Rattle.step_machine.specs.declared.event.Event.TheVariants.{Step, Release}
@@ -26,6 +26,19 @@ pub record GoesOn (old new : Log) (i : ℕ) (events : List Event) : Type 0 where
   pub setup : new.setup ≡ old.setup
   pub trace : new.trace ≡ old.trace ++ events
   pub others : (j : ℕ) → j ≢ i → round_of new j ≡ round_of old j
+
+-- no round of the node is due and open
+abbrev pub IsSettled : (ℕ → ℕ) → Log → ℕ → Type 0
+IsSettled start v i = ¬ (IsDue start v i)
+
+-- so of each node
+abbrev pub AreSettled : (ℕ → ℕ) → Log → Type 0
+AreSettled start v = (i : ℕ) → i < v.setup.nodes → IsSettled start v i
+
+-- a round of a node is closed exactly where the node has taken all its steps
+abbrev pub ClosedAreDue : (ℕ → ℕ) → Log → Type 0
+ClosedAreDue start v =
+    (i r : ℕ) → i < v.setup.nodes → 0 < r → r ≤ v.setup.rounds → (r < round_of v i) ↔ (start (r + 1) ≤ count_of v i)
 
 -- all but the frames held and the next state is as it was
 pub record IsSameBut (old new : NodeView) : Type 0 where

@@ -1,11 +1,11 @@
 //! Running a schedule on one thread.
-ghost use Rattle.std.specs.Prelude.{◌≡◌, ◌<◌, ◌≤◌, ◌∷◌, ◌↔◌, [], All, Err, IfErr, IfOk, IfSome, IfNone, IsTrue, OnOk};
+ghost use Rattle.std.specs.Prelude.{◌≡◌, ◌+◌, ◌<◌, ◌≤◌, ◌∷◌, ◌↔◌, [], All, Err, IfErr, IfOk, IfSome, IfNone, IsTrue, OnOk};
 ghost use Rattle.round_meaning.specs.Setups.{IsLawful, IsSized, max_rounds};
 ghost use Rattle.step_journal.specs.Log.{IsName, happened, opened, round_of};
 ghost use Rattle.step_journal.specs.Stock.{IsMail};
 ghost use Rattle.step_machine.specs.Nodes.{algorithm_in};
 ghost use Rattle.step_machine.specs.declared.event.Event.TheVariants as event;
-ghost use Rattle.adversary.specs.Driving.{AreNodesOf, GoesOn, IsFirstUnknown, IsKnown, IsNodeOf, IsSameBut, IsUnknownAt};
+ghost use Rattle.adversary.specs.Driving.{AreNodesOf, ClosedAreDue, GoesOn, IsFirstUnknown, IsKnown, IsNodeOf, IsSameBut, IsSettled, IsUnknownAt};
 
 use crate::fault::RunFault;
 use round_check::Checked;
@@ -32,6 +32,7 @@ pub fn run_schedule<P: Plan>(
     ensures setup { IfOk result (λ j. j.log.setup ≡ setup.now) }
     ensures plan { IfOk result (λ j. j.plan ≡ plan) }
     ensures trace { IfOk result (λ j. j.log.trace ≡ events.now) }
+    ensures closed { IfOk result (λ j. ClosedAreDue (P.start j.plan) j.log) }
 {
     if !setup.is_lawful(program) {
         return Err(RunFault::BadSetup);
@@ -90,8 +91,10 @@ fn run<P: Plan>(
     ensures setup { IfOk result (λ j. j.log.setup ≡ setup.now) }
     ensures plan { IfOk result (λ j. j.plan ≡ plan) }
     ensures trace { IfOk result (λ j. j.log.trace ≡ events.now) }
+    ensures closed { IfOk result (λ j. ClosedAreDue (P.start j.plan) j.log) }
 {
     let mut journal = Journal::open(alloc, program, setup, plan)?;
+    journal.book().agrees();
     let mut nodes = first_nodes(alloc, program, setup)?;
     for event in events {
         match event {
@@ -99,6 +102,7 @@ fn run<P: Plan>(
             Event::Release(name) => release(&mut journal, *name)?,
         }
     }
+    journal.book().agrees();
     Ok(journal)
 }
 
@@ -128,18 +132,22 @@ fn step<P: Plan>(journal: &mut Journal<P>, node: &mut Node, me: u32) -> Result<(
     requires rounds { journal.old.log.setup.rounds ≤ max_rounds }
     requires me { me < journal.old.log.setup.nodes }
     requires node { IsNodeOf journal.old.log me node.old }
+    requires settled { IsSettled (P.start journal.old.plan) journal.old.log me }
     ensures plan { OnOk result (journal.new.plan ≡ journal.old.plan) }
     ensures log { OnOk result (GoesOn journal.old.log journal.new.log me (event.Step me ∷ [])) }
     ensures node { OnOk result (IsNodeOf journal.new.log me node.new) }
+    ensures settled { OnOk result (IsSettled (P.start journal.new.plan) journal.new.log me) }
 {
-    let round = journal.book().round_of(me);
-    if round > journal.book().setup().rounds {
+    let book = journal.book();
+    book.agrees();
+    let round = book.round_of(me);
+    if round > book.setup().rounds {
         return idle(journal, me);
     }
-    let plan = journal.book().plan();
-    let count = journal.book().count_of(me);
+    let plan = book.plan();
+    let count = book.count_of(me);
     let offset = count.saturating_sub(u64::from(plan.start(round)));
-    if offset < u64::from(journal.book().setup().nodes) {
+    if offset < u64::from(book.setup().nodes) {
         return send(journal, node, me, offset as u32);
     }
     receive(journal, node, me)?;
@@ -174,6 +182,7 @@ fn send<P: Plan>(
     requires node { IsNodeOf journal.old.log me node.old }
     ensures plan { OnOk result (journal.new.plan ≡ journal.old.plan) }
     ensures log { OnOk result (GoesOn journal.old.log journal.new.log me (event.Step me ∷ [])) }
+    ensures round { OnOk result (round_of journal.new.log me ≡ round_of journal.old.log me) }
     ensures node { OnOk result (IsNodeOf journal.new.log me node.new) }
 {
     let prepared = node.prepare(dest)?;
@@ -219,6 +228,7 @@ fn close<P: Plan>(journal: &mut Journal<P>, node: &mut Node) -> Result<(), NoMem
     requires node { IsNodeOf journal.old.log node.old.me node.old }
     ensures plan { OnOk result (journal.new.plan ≡ journal.old.plan) }
     ensures log { OnOk result (GoesOn journal.old.log journal.new.log node.old.me []) }
+    ensures round { OnOk result (round_of journal.new.log node.old.me ≡ round_of journal.old.log node.old.me + 1) }
     ensures node { OnOk result (IsNodeOf journal.new.log node.old.me node.new) }
 {
     let finished = node.finish()?;
