@@ -20,3 +20,4 @@ pub mod Placed
 pub mod Agreed
 pub mod Handed
 pub mod Later
+pub mod Taking

@@ -13,3 +13,4 @@ pub mod Causes
 pub mod Stock
 pub mod Places
 pub mod Agreed
+pub mod Taking
