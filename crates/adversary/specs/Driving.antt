@@ -27,13 +27,6 @@ pub record GoesOn (old new : Log) (i : ℕ) (events : List Event) : Type 0 where
   pub trace : new.trace ≡ old.trace ++ events
   pub others : (j : ℕ) → j ≢ i → round_of new j ≡ round_of old j
 
--- all but the frames held and the next state is as it was
-pub record IsSameBut (old new : NodeView) : Type 0 where
-  pub program : new.program ≡ old.program
-  pub setup : new.setup ≡ old.setup
-  pub me : new.me ≡ old.me
-  pub round : new.round ≡ old.round
-
 -- the nodes are those of the run, each in its round
 pub record AreNodesOf (v : Log) (nodes : List NodeView) : Type 0 where
   pub sized : length nodes ≡ v.setup.nodes
