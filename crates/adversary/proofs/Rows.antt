@@ -1,12 +1,11 @@
 -- Schedules whose runs compute from the definitions: which messages are carried, the states after the rounds, and the releases' answers.
-use Rattle.std.proofs.Common.{◌≡◌, ℕ, Bool, true, false, List, [], ◌∷◌, refl, map}
+use Rattle.std.proofs.Common.{◌≡◌, ℕ, true, false, List, [], ◌∷◌, refl, map}
 use Rattle.std.specs.Prelude.{codes, slice_index, reverse}
 use Rattle.round_lang.specs.declared.expr.BinaryOperator.TheVariants.{Equal, Union}
 use Rattle.round_lang.specs.declared.expr.Constant.TheVariants.{Empty, From, True}
 use Rattle.round_lang.specs.declared.expr.Ty.TheVariants.{Set as SetTy}
 use Rattle.round_lang.specs.declared.expr.UnaryOperator.TheVariants.{Single}
 use Rattle.round_lang.specs.declared.program.VariableKind.TheVariants.{Input, State}
-use Rattle.round_lang.specs.declared.value.Value.{Value}
 use Rattle.round_lang.specs.declared.value.Value.TheVariants.{Num}
 use Rattle.round_lang.specs.Sets.{is_in, set_of}
 use Rattle.round_lang.specs.Syntax.{ProgramTree}
@@ -16,7 +15,6 @@ use Rattle.round_meaning.specs.Rounds.{algorithm, inbox, rounds}
 use Rattle.slot_plans.specs.Known.{known_start}
 use Rattle.step_machine.specs.declared.event.Event.{Event}
 use Rattle.step_machine.specs.declared.event.Event.TheVariants.{Step, Release}
-use Rattle.step_machine.specs.declared.event.Name.{Name}
 use Rattle.step_journal.specs.declared.mark.Mark.TheVariants.{Silent}
 use Rattle.step_journal.specs.History.{mark_of, state, told_of}
 use Rattle.step_journal.specs.Trace.{carried, first, steps}

@@ -4,8 +4,6 @@ use Rattle.step_journal.specs.Log.{Log, IsName, round_of}
 use Rattle.round_meaning.specs.declared.setup.Setup.{Setup}
 use Rattle.step_machine.specs.declared.event.Event.{Event}
 use Rattle.step_machine.specs.declared.event.Event.TheVariants.{Step, Release}
-use Rattle.round_meaning.specs.Rounds.{Algorithm}
-use Rattle.step_machine.specs.Frames.{Frame, Spells}
 use Rattle.step_machine.specs.Nodes.{NodeView}
 use Rattle.adversary.specs.declared.fault.RunFault.{RunFault}
 use Rattle.adversary.specs.declared.fault.RunFault.TheVariants as fault
@@ -16,12 +14,6 @@ pub record IsNodeOf (v : Log) (i : ℕ) (n : NodeView) : Type 0 where
   pub setup : n.setup ≡ v.setup
   pub me : n.me ≡ i
   pub round : n.round ≡ round_of v i
-
--- a frame of one of n nodes to node i, which says what its state sends
-pub record IsFor (a : Algorithm) (n i : ℕ) (f : Frame) : Type 0 where
-  pub from : f.name.from < n
-  pub to : f.name.to ≡ i
-  pub spells : Spells a f
 
 -- the event names a node and a message of the run
 abbrev pub IsKnown : Setup → Event → Type 0
@@ -34,13 +26,6 @@ pub record GoesOn (old new : Log) (i : ℕ) (events : List Event) : Type 0 where
   pub setup : new.setup ≡ old.setup
   pub trace : new.trace ≡ old.trace ++ events
   pub others : (j : ℕ) → j ≢ i → round_of new j ≡ round_of old j
-
--- all but the frames held and the next state is as it was
-pub record IsSameBut (old new : NodeView) : Type 0 where
-  pub program : new.program ≡ old.program
-  pub setup : new.setup ≡ old.setup
-  pub me : new.me ≡ old.me
-  pub round : new.round ≡ old.round
 
 -- the nodes are those of the run, each in its round
 pub record AreNodesOf (v : Log) (nodes : List NodeView) : Type 0 where

@@ -2,9 +2,11 @@
 ghost use Rattle.std.specs.Prelude.{◌≡◌, ◌<◌, ◌≤◌, ◌∷◌, ◌↔◌, [], All, Err, IfErr, IfOk, IfSome, IfNone, IsTrue, OnOk};
 ghost use Rattle.round_meaning.specs.Setups.{IsLawful, IsSized, max_rounds};
 ghost use Rattle.step_journal.specs.Log.{IsName, happened, opened, round_of};
+ghost use Rattle.step_journal.specs.Stock.{IsMail};
+ghost use Rattle.step_journal.specs.Taking.{IsSameBut};
 ghost use Rattle.step_machine.specs.Nodes.{algorithm_in};
 ghost use Rattle.step_machine.specs.declared.event.Event.TheVariants as event;
-ghost use Rattle.adversary.specs.Driving.{AreNodesOf, GoesOn, IsFirstUnknown, IsFor, IsKnown, IsNodeOf, IsSameBut, IsUnknownAt};
+ghost use Rattle.adversary.specs.Driving.{AreNodesOf, GoesOn, IsFirstUnknown, IsKnown, IsNodeOf, IsUnknownAt};
 
 use crate::fault::RunFault;
 use round_check::Checked;
@@ -193,7 +195,6 @@ fn receive<P: Plan>(journal: &mut Journal<P>, node: &mut Node, me: u32) -> Resul
 {
     match journal.receive(me) {
         Ok(took) => {
-            journal.book().agrees();
             take_all(node, took.frames);
             Ok(())
         }
@@ -203,7 +204,7 @@ fn receive<P: Plan>(journal: &mut Journal<P>, node: &mut Node, me: u32) -> Resul
 
 /// The node takes frames that were sent to it, in their order.
 fn take_all(node: &mut Node, frames: Vec<Sealed>)
-    requires { All (IsFor (algorithm_in node.old) node.old.setup.nodes node.old.me) frames.items }
+    requires { All (IsMail (algorithm_in node.old) node.old.setup.nodes node.old.me) frames.items }
     ensures { IsSameBut node.old node.new }
 {
     for frame in frames {

@@ -1,5 +1,5 @@
 -- Each event keeps what was handed out and told.
-use Rattle.std.proofs.Common.{◌≡◌, ◌≢◌, ℕ, zero, suc, ◌+◌, ◌-◌, ◌==◌, ◌<◌, ◌≤◌, Bool, true, false, ◌&&◌, List, [], ◌∷◌, ◌++◌, length, get_or, set, sym, subst, refl, ap, ◌∙◌, arith, rules, ◌⊎◌, inl, inr}
+use Rattle.std.proofs.Common.{◌≡◌, ◌≢◌, ℕ, ◌-◌, ◌<◌, Bool, true, false, ◌&&◌, List, [], ◌∷◌, ◌++◌, length, get_or, set, sym, refl, ap, ◌∙◌, arith, ◌⊎◌, inl, inr}
 use Rattle.std.proofs.lemmas.Bool.{and_left, and_right, cases_eq, eq-eqb, ne_eqb}
 use Rattle.std.proofs.lemmas.List.{get_or-set_same, get_or-set_other, length-set, append-nil}
 use Rattle.step_machine.specs.declared.event.Name.{Name}
@@ -8,7 +8,7 @@ use Rattle.step_journal.specs.declared.mark.Told.{Told}
 use Rattle.step_machine.specs.declared.event.Event.TheVariants.{Step, Release}
 use Rattle.step_journal.specs.World.{World, nodes_of, is_receive}
 use Rattle.step_journal.specs.Trace.{is_step, steps}
-use Rattle.step_journal.specs.History.{mark_of, buffer_of, handed_of, told_of, told_by, is_flying}
+use Rattle.step_journal.specs.History.{mark_of, buffer_of, handed_of, told_of, is_flying}
 use Rattle.step_journal.specs.Agreement.{Accounts}
 
 handed_kept : (w : World) (i : ℕ) (e : Event) (t : List Event) → (is_step i e && is_receive w (steps i t)) ≡ false → handed_of w i (e ∷ t) ≡ handed_of w i t

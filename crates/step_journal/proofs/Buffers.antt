@@ -1,7 +1,7 @@
 -- A buffer has each message that was released and not taken, once.
-use Rattle.std.proofs.Common.{◌≡◌, ◌≢◌, ℕ, zero, suc, ◌+◌, ◌-◌, ◌==◌, ◌<◌, ◌≤◌, Bool, true, false, not, cond, ◌&&◌, ltb, leb, eqb, List, [], ◌∷◌, ◌++◌, length, Option, Some, None, sym, subst, refl, ap, if◌then◌else◌, ◌∙◌, arith, rules, ◌⊎◌, inl, inr, add-one, is_some, is_none}
+use Rattle.std.proofs.Common.{◌≡◌, ℕ, suc, ◌+◌, ◌-◌, ◌==◌, ◌<◌, ◌≤◌, Bool, true, false, ◌&&◌, List, [], ◌∷◌, ◌++◌, length, Option, Some, None, sym, refl, ap, if◌then◌else◌, ◌∙◌, arith, ◌⊎◌, inl, inr, is_some, is_none}
 use Rattle.std.specs.List.{count_by}
-use Rattle.std.proofs.lemmas.Bool.{cases_Bool, and_left, and_right, and_from, and_parts, lt-ltb, cases_lt, cases_eq, eq-eqb, eqb-true, ne_eqb, false_from_ne_true}
+use Rattle.std.proofs.lemmas.Bool.{and_left, and_right, and_from, and_parts, lt-ltb, cases_eq, eqb-true, ne_eqb}
 use Rattle.std.proofs.lemmas.Grind.{common_steps}
 use Rattle.step_machine.specs.declared.event.Name.{Name}
 use Rattle.step_machine.specs.declared.event.Event.{Event}
@@ -9,11 +9,11 @@ use Rattle.step_machine.specs.declared.event.Event.TheVariants.{Step, Release}
 use Rattle.step_journal.specs.declared.mark.Mark.{Mark}
 use Rattle.step_journal.specs.declared.mark.Mark.TheVariants.{Unsent, Silent, Flying, Released}
 use Rattle.round_lang.specs.declared.value.Value.{Value}
-use Rattle.step_journal.specs.World.{World, nodes_of, IsPlan, is_receive}
-use Rattle.step_journal.specs.Trace.{is_step, is_release, is_later, steps, first, from_moment, sent, released, taken}
-use Rattle.step_journal.specs.History.{mark_of, mark_by, message, state, arrival, arrived, buffer_of, is_buffered}
-use Rattle.step_journal.proofs.Places.{first_kept, first_new, first_skip, first_later_none, first_found, found_longer}
-use Rattle.step_journal.proofs.Carried.{sends, SentBy, NotYet, Once, sent_by, ReleasedBy, Before, Now, TooEarly, NotIt, released_by, takes, IsRelease, By, is_release_moment, release_no_step}
+use Rattle.step_journal.specs.World.{World, IsPlan, is_receive}
+use Rattle.step_journal.specs.Trace.{is_step, is_release, steps, first, from_moment, sent, released, taken}
+use Rattle.step_journal.specs.History.{mark_of, mark_by, message, arrival, buffer_of, is_buffered}
+use Rattle.step_journal.proofs.Places.{first_kept, first_new, first_skip, first_later_none, found_longer}
+use Rattle.step_journal.proofs.Carried.{SentBy, NotYet, Once, sent_by, ReleasedBy, Before, Now, TooEarly, NotIt, released_by, takes, IsRelease, By, is_release_moment, release_no_step}
 use Rattle.step_journal.proofs.Kept.{message_kept}
 use Rattle.step_journal.proofs.WaitsKept.{buffer_kept, buffer_emptied, buffer_grown}
 

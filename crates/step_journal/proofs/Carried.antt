@@ -1,13 +1,12 @@
 -- When a message is carried to its round.
-use Rattle.std.proofs.Common.{◌≡◌, ℕ, zero, suc, ◌+◌, ◌-◌, ◌==◌, ◌<◌, ◌≤◌, Bool, true, false, cond, ◌&&◌, ltb, leb, eqb, List, [], ◌∷◌, ◌++◌, length, Option, Some, None, sym, subst, refl, ap, if◌then◌else◌, ◌∙◌, arith, rules, ◌⊎◌, inl, inr}
-use Rattle.std.proofs.lemmas.Bool.{cases_Bool, and_left, and_right, and_from, and_parts, le-ltb, lt-ltb, ltb-true, leb-true, eqb-true, le-leb, lt-leb, cases_lt, eq-eqb, ne_eqb}
-use Rattle.step_machine.specs.declared.event.Name.{Name}
+use Rattle.std.proofs.Common.{◌≡◌, ℕ, ◌+◌, ◌-◌, ◌==◌, ◌<◌, ◌≤◌, Bool, true, false, ◌&&◌, List, [], ◌∷◌, length, Option, Some, None, sym, refl, ap, if◌then◌else◌, ◌∙◌, arith, ◌⊎◌, inl, inr}
+use Rattle.std.proofs.lemmas.Bool.{cases_Bool, and_left, and_right, and_from, and_parts, lt-ltb, cases_lt, eq-eqb, ne_eqb}
 use Rattle.step_machine.specs.declared.event.Event.{Event}
 use Rattle.step_machine.specs.declared.event.Event.TheVariants.{Step, Release}
-use Rattle.step_journal.specs.World.{World, nodes_of, IsPlan, lies_in, is_receive}
-use Rattle.step_journal.specs.Trace.{is_step, is_release, steps, or_else, first, is_later, from_moment, sent, released, taken, lies_at, carried}
-use Rattle.step_journal.proofs.Plans.{last_is_receive, start_le, lies_before, lies_after, lies_within, late_round}
-use Rattle.step_journal.proofs.Places.{steps_at, steps_other, steps_grow, first_kept, first_new, first_skip, first_found, first_later_none, first_later_skip, Found, Here, Past, found_longer, found_true}
+use Rattle.step_journal.specs.World.{World, IsPlan, lies_in, is_receive}
+use Rattle.step_journal.specs.Trace.{is_step, is_release, steps, or_else, first, is_later, from_moment, sent, released, lies_at, carried}
+use Rattle.step_journal.proofs.Plans.{last_is_receive, lies_before, lies_after, lies_within, late_round}
+use Rattle.step_journal.proofs.Places.{steps_at, steps_other, steps_grow, first_kept, first_new, first_skip, first_found, first_later_none, first_later_skip, Found, Here, Past, found_longer}
 
 -- a receive of i, after the moment b
 abbrev pub takes : World → ℕ → List Event → Event → List Event → Bool

@@ -1,21 +1,18 @@
 -- What closing a round leaves of a record.
-use Rattle.std.proofs.Common.{◌≡◌, ℕ, zero, suc, ◌+◌, ◌-◌, ◌*◌, ◌<◌, ◌≤◌, Bool, true, false, not, is_some, List, [], ◌∷◌, ◌++◌, length, get_or, set, Option, Some, None, sym, subst, refl, ap, ◌∙◌, arith, if◌then◌else◌, ◌⊎◌, inl, inr}
+use Rattle.std.proofs.Common.{◌≡◌, ℕ, suc, ◌+◌, ◌-◌, ◌<◌, ◌≤◌, Bool, true, false, not, is_some, List, [], ◌∷◌, ◌++◌, length, set, Option, Some, None, sym, subst, refl, ap, ◌∙◌, arith, if◌then◌else◌}
 use Rattle.std.specs.Prelude.{option_map, Result, Ok, Err, OnErr, IfErr, IsErrAnd}
 use Rattle.std.specs.Option.{ForSome}
 use Rattle.round_lang.specs.declared.value.Value.{Value}
 use Rattle.round_meaning.specs.Rounds.{Algorithm, algorithm_of}
 use Rattle.step_machine.specs.Frames.{Frame}
 use Rattle.step_machine.specs.Nodes.{NodeView, IsHeld, IsFrom, algorithm_in, held_at, inbox_of}
-use Rattle.step_machine.specs.declared.event.Event.{Event}
 use Rattle.step_machine.specs.declared.event.Name.{Name}
 use Rattle.step_journal.specs.declared.mark.Mark.{Mark}
-use Rattle.step_journal.specs.declared.mark.Mark.TheVariants.{Unsent}
 use Rattle.step_journal.specs.declared.mark.Told.{Told}
-use Rattle.step_journal.specs.World.{World, nodes_of}
 use Rattle.step_journal.specs.Trace.{steps}
 use Rattle.step_journal.specs.History.{state, mark_of}
 use Rattle.step_journal.specs.Agreement.{Row, row}
-use Rattle.step_journal.specs.Log.{Log, Recorded, Holds, IsName, IsDue, closed, ended, world_of, history, round_of, count_of, mark_in, state_before}
+use Rattle.step_journal.specs.Log.{Log, Recorded, Holds, IsDue, closed, ended, world_of, history, round_of, mark_in, state_before}
 use Rattle.step_journal.specs.Causes.{IsDueIn, IsKnown}
 use Rattle.step_journal.specs.Work.{Tag, tag_of, heard_from, is_within, AreCarried}
 use Rattle.step_journal.proofs.Heard.{heard_is, sender_closed, tagged, ends_with}

@@ -1,9 +1,8 @@
 -- What each event leaves of a record.
-use Rattle.std.proofs.Common.{◌≡◌, ◌≢◌, ℕ, zero, suc, ◌+◌, ◌-◌, ◌*◌, ◌<◌, ◌≤◌, Bool, true, false, leb, List, [], ◌∷◌, ◌++◌, length, get_or, set, Option, Some, None, sym, subst, refl, ap, ◌∙◌, arith, map, ◌⊎◌, inl, inr, ◌&&◌}
+use Rattle.std.proofs.Common.{◌≡◌, ℕ, suc, ◌+◌, ◌-◌, ◌*◌, ◌<◌, ◌≤◌, Bool, true, false, leb, List, [], ◌∷◌, ◌++◌, length, get_or, set, sym, subst, refl, ap, ◌∙◌, arith, ◌⊎◌, inl, inr}
 use Rattle.std.specs.Prelude.{reverse}
-use Rattle.std.proofs.lemmas.Bool.{cases_lt, cases_eq, cases_Bool, le-leb, lt-leb, leb-true, eq-eqb, ne_eqb, and_left}
+use Rattle.std.proofs.lemmas.Bool.{cases_lt, lt-leb, leb-true}
 use Rattle.std.proofs.lemmas.List.{reverse-append, length-reverse}
-use Rattle.round_lang.specs.declared.value.Value.{Value}
 use Rattle.round_meaning.specs.Rounds.{algorithm_of}
 use Rattle.step_machine.specs.Frames.{Ready, IsPrepared}
 use Rattle.step_machine.specs.declared.event.Event.{Event}
@@ -12,17 +11,16 @@ use Rattle.step_machine.specs.declared.event.Name.{Name}
 use Rattle.step_journal.specs.declared.mark.Mark.{Mark}
 use Rattle.step_journal.specs.declared.mark.Mark.TheVariants.{Unsent, Silent, Flying, Released}
 use Rattle.step_journal.specs.declared.mark.Told.{Told}
-use Rattle.step_journal.specs.World.{World, nodes_of, IsPlan, is_receive}
-use Rattle.step_journal.specs.Trace.{is_step, is_release, steps}
-use Rattle.step_journal.specs.History.{message, state, mark_of, spoken, let_go, arrival, buffer_of, handed_of, told_of, is_flying}
-use Rattle.step_journal.specs.Agreement.{Row, row, place_of, Agrees, Waits, Accounts, Puts, SameTable}
-use Rattle.step_journal.specs.Log.{Log, Recorded, Holds, IsName, IsDue, IsSlot, IsReceive, IsFlying, SameMarks, SameMarksBut, SameWaiting, SameWaitingBut, happened, world_of, history, round_of, count_of, mark_in, waiting_in, state_before}
+use Rattle.step_journal.specs.World.{World, nodes_of, is_receive}
+use Rattle.step_journal.specs.Trace.{steps}
+use Rattle.step_journal.specs.History.{message, state, spoken, let_go, arrival, is_flying}
+use Rattle.step_journal.specs.Agreement.{Row, place_of, Agrees, Waits, Accounts, Puts, SameTable}
+use Rattle.step_journal.specs.Log.{Log, Recorded, Holds, IsName, IsDue, IsSlot, IsFlying, world_of, history, round_of, count_of, mark_in}
 use Rattle.step_journal.specs.Causes.{IsSendFit, IsReceiveFit}
-use Rattle.step_journal.proofs.Plans.{start_le, is_receive_at}
+use Rattle.step_journal.proofs.Plans.{is_receive_at}
 use Rattle.step_journal.proofs.Places.{steps_le}
-use Rattle.step_journal.proofs.Kept.{mark_now, mark_kept, mark_release}
-use Rattle.step_journal.proofs.Keeps.{keeps_idle, keeps_receive, keeps_send, keeps_release, keeps_close, mark_passed, round_same, receive_no_slot, idle_no_slot, is_not_it}
-use Rattle.step_journal.proofs.WaitsKept.{idle_is_no_receive, waits_step, waits_step_at, waits_late_at, arrived_other, waits_receive, waits_release, waits_late, buffer_emptied, buffer_kept, buffer_grown}
+use Rattle.step_journal.proofs.Keeps.{keeps_idle, keeps_receive, keeps_send, keeps_release, round_same, idle_no_slot}
+use Rattle.step_journal.proofs.WaitsKept.{idle_is_no_receive, waits_step, waits_receive, waits_release, waits_late}
 use Rattle.step_journal.proofs.AccountsKept.{accounts_step, accounts_receive, accounts_release}
 use Rattle.step_journal.proofs.Tables.{puts_same}
 use Rattle.step_journal.proofs.Reading.{nodes_are, one_of}

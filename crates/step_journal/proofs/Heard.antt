@@ -1,26 +1,25 @@
 -- What the table says of what was carried, and what a round ends with.
-use Rattle.std.proofs.Common.{◌≡◌, ℕ, zero, suc, ◌+◌, ◌<◌, ◌≤◌, Bool, true, false, not, cond, ◌&&◌, List, [], ◌∷◌, length, get_or, Option, Some, None, sym, subst, refl, ap, if◌then◌else◌, ◌∙◌, arith, rules, ◌⊎◌, inl, inr, add-one}
+use Rattle.std.proofs.Common.{◌≡◌, ℕ, suc, ◌+◌, ◌<◌, ◌≤◌, Bool, true, false, not, List, [], ◌∷◌, length, get_or, Option, Some, None, sym, refl, ap, if◌then◌else◌, ◌∙◌, arith, ◌⊎◌, inl, inr}
 use Rattle.std.specs.Prelude.{option_map}
 use Rattle.std.specs.Option.{ForSome}
 use Rattle.std.specs.List.{filter_map, range_with_len}
-use Rattle.std.proofs.lemmas.Bool.{cases_Bool, cases_lt}
+use Rattle.std.proofs.lemmas.Bool.{cases_lt}
 use Rattle.round_lang.specs.declared.value.Value.{Value}
 use Rattle.round_meaning.specs.declared.received.Received.{Received}
 use Rattle.round_meaning.specs.Rounds.{rounds, inbox, received}
 use Rattle.step_machine.specs.declared.event.Event.{Event}
-use Rattle.step_machine.specs.declared.event.Name.{Name}
-use Rattle.step_machine.specs.Frames.{Frame, Spells}
+use Rattle.step_machine.specs.Frames.{Frame}
 use Rattle.step_machine.specs.Nodes.{held_at, inbox_of, IsFrom}
 use Rattle.step_journal.specs.declared.mark.Mark.{Mark}
-use Rattle.step_journal.specs.declared.mark.Mark.TheVariants.{Unsent, Silent, Flying, Released}
+use Rattle.step_journal.specs.declared.mark.Mark.TheVariants.{Unsent}
 use Rattle.step_journal.specs.World.{World, nodes_of, IsPlan, lies_in}
-use Rattle.step_journal.specs.Trace.{steps, sent, released, lies_at, carried, from_moment, first}
+use Rattle.step_journal.specs.Trace.{steps, sent, released, lies_at, carried, first}
 use Rattle.step_journal.specs.History.{message, state, mark_by, mark_of}
 use Rattle.step_journal.specs.Agreement.{Row, row, Agrees}
 use Rattle.step_journal.specs.Work.{Tag, tag_of, tag_by, heard_from, AreCarried, is_within}
 use Rattle.step_journal.proofs.Plans.{start_le}
-use Rattle.step_journal.proofs.Carried.{SentBy, NotYet, Once, sent_by, carried_is}
-use Rattle.step_journal.proofs.Kept.{inbox_same, end_same, mark_before}
+use Rattle.step_journal.proofs.Carried.{carried_is}
+use Rattle.step_journal.proofs.Kept.{end_same, mark_before}
 
 either : {A : Type 0} (c : Bool) (x : A) → (if c then x else x) ≡ x
 either true x = refl

@@ -1,20 +1,19 @@
 -- Each event keeps the agreement.
-use Rattle.std.proofs.Common.{◌≡◌, ◌≢◌, ℕ, zero, suc, ◌+◌, ◌-◌, ◌*◌, ◌/◌, ◌%◌, ◌==◌, ◌<◌, ◌≤◌, Bool, true, false, not, cond, ◌&&◌, ltb, leb, eqb, List, [], ◌∷◌, ◌++◌, length, get_or, set, map, replicate, Option, Some, None, sym, subst, refl, ap, if◌then◌else◌, ◌∙◌, arith, rules, ◌⊎◌, inl, inr, add-one}
-use Rattle.std.proofs.lemmas.Bool.{cases_Bool, and_left, and_right, and_from, and_parts, le-ltb, lt-ltb, ltb-true, leb-true, eqb-true, le-leb, lt-leb, cases_lt, cases_eq, eq-eqb, ne_eqb, false_from_ne_true}
-use Rattle.std.proofs.lemmas.List.{get_or-set_same, get_or-set_other, length-set, get_or_append_left, get_or_push, length_push, get_or-map, length-map, length-replicate, get_or-replicate}
+use Rattle.std.proofs.Common.{◌≡◌, ◌≢◌, ℕ, suc, ◌+◌, ◌*◌, ◌/◌, ◌%◌, ◌==◌, ◌<◌, ◌≤◌, true, false, ◌&&◌, List, [], ◌∷◌, ◌++◌, length, get_or, set, replicate, sym, refl, ap, ◌∙◌, arith, ◌⊎◌, inl, inr}
+use Rattle.std.proofs.lemmas.Bool.{and_left, and_right, and_from, and_parts, eqb-true, cases_lt, cases_eq, eq-eqb, ne_eqb, false_from_ne_true}
+use Rattle.std.proofs.lemmas.List.{get_or-set_same, get_or-set_other, length-set, get_or_append_left, get_or_push, length_push, length-replicate, get_or-replicate}
 use Rattle.std.proofs.lemmas.List.FromFn.{get_or-map-range_with_len, length-map-range_with_len}
 use Rattle.std.proofs.lemmas.Nat.{div-mul-add, mod-mul-add, mul-add-lt}
 use Rattle.step_machine.specs.declared.event.Name.{Name}
 use Rattle.step_machine.specs.declared.event.Event.{Event}
 use Rattle.step_machine.specs.declared.event.Event.TheVariants.{Step, Release}
 use Rattle.step_journal.specs.declared.mark.Mark.{Mark}
-use Rattle.step_journal.specs.declared.mark.Mark.TheVariants.{Unsent, Silent, Flying, Released}
+use Rattle.step_journal.specs.declared.mark.Mark.TheVariants.{Unsent}
 use Rattle.round_lang.specs.declared.value.Value.{Value}
-use Rattle.std.specs.List.{range_with_len}
 use Rattle.round_meaning.specs.Rounds.{rounds}
-use Rattle.step_journal.specs.World.{World, nodes_of, IsPlan, lies_in, is_receive}
-use Rattle.step_journal.specs.Trace.{is_step, is_release, steps, sent, released, carried}
-use Rattle.step_journal.specs.History.{spoken, let_go, message, omits_of, state, mark_by, mark_of}
+use Rattle.step_journal.specs.World.{World, nodes_of, IsPlan}
+use Rattle.step_journal.specs.Trace.{is_release, steps}
+use Rattle.step_journal.specs.History.{spoken, let_go, message, state, mark_of}
 use Rattle.step_journal.specs.Agreement.{Row, row, first_rows, place_of, Agrees, Puts}
 use Rattle.step_journal.proofs.Plans.{start_le}
 use Rattle.step_journal.proofs.Places.{steps_at, steps_other, steps_grow}

@@ -1,30 +1,18 @@
 -- What a later event leaves of the run in rounds and of the record.
-use Rattle.std.proofs.Common.{◌≡◌, ℕ, zero, suc, ◌+◌, ◌-◌, ◌==◌, ◌<◌, ◌≤◌, Bool, true, false, not, cond, ◌&&◌, ltb, leb, eqb, List, [], ◌∷◌, ◌++◌, length, Option, Some, None, sym, subst, refl, ap, if◌then◌else◌, ◌∙◌, arith, rules, ◌⊎◌, inl, inr, add-one}
-use Rattle.std.proofs.lemmas.Bool.{cases_Bool, and_left, and_right, and_from, and_parts, le-ltb, lt-ltb, ltb-true, leb-true, eqb-true, le-leb, lt-leb, cases_lt, eq-eqb, ne_eqb}
-use Rattle.step_machine.specs.declared.event.Name.{Name}
+use Rattle.std.proofs.Common.{◌≡◌, ℕ, zero, suc, ◌+◌, ◌≤◌, Bool, true, false, not, List, ◌∷◌, Option, Some, None, sym, refl, ap, if◌then◌else◌, ◌∙◌, arith, add-one}
+use Rattle.std.proofs.lemmas.Bool.{and_left, and_from, eq-eqb}
 use Rattle.step_machine.specs.declared.event.Event.{Event}
-use Rattle.step_machine.specs.declared.event.Event.TheVariants.{Step, Release}
-use Rattle.step_journal.specs.declared.mark.Mark.{Mark}
-use Rattle.step_journal.specs.declared.mark.Mark.TheVariants.{Unsent, Silent, Flying, Released}
+use Rattle.step_journal.specs.declared.mark.Mark.TheVariants.{Unsent, Released}
 use Rattle.round_lang.specs.declared.value.Value.{Value}
-use Rattle.std.specs.List.{filter_map, range_with_len}
 use Rattle.round_meaning.specs.declared.received.Received.{Received}
 use Rattle.round_meaning.specs.Rounds.{rounds, inbox, received}
-use Rattle.step_journal.specs.World.{World, nodes_of, IsPlan, lies_in, is_receive}
+use Rattle.round_meaning.proofs.RoundLaws.{filter_map_same}
+use Rattle.step_journal.specs.World.{World, nodes_of, IsPlan}
 use Rattle.step_journal.specs.Trace.{is_step, is_release, steps, sent, released, carried}
-use Rattle.step_journal.specs.History.{spoken, let_go, message, omits_of, state, mark_by, mark_of}
+use Rattle.step_journal.specs.History.{spoken, let_go, message, state, mark_by, mark_of}
 use Rattle.step_journal.proofs.Plans.{start_le}
-use Rattle.step_journal.proofs.Places.{steps_at, steps_other, steps_grow, first_kept, first_new, first_skip}
+use Rattle.step_journal.proofs.Places.{first_new, first_skip}
 use Rattle.step_journal.proofs.Carried.{sends, SentBy, NotYet, Once, sent_by, ReleasedBy, Before, Now, TooEarly, NotIt, released_by, carried_sent, carried_kept}
-
--- filtered ranges are the same where the functions are
-filtered_same : (f g : ℕ → Option Received) (a n : ℕ) → ((j : ℕ) → a ≤ j → j < a + n → f j ≡ g j) → filter_map f (range_with_len a n) ≡ filter_map g (range_with_len a n)
-filtered_same f g a zero h = refl
-filtered_same f g a (suc n) h = rw (h a (omega arith) (omega arith), filtered_same f g (a + 1) n (λ j l m. h j (omega arith) (omega arith))) refl
-
--- inboxes are the same where their entries are
-pub inbox_same : (f g : ℕ → Option Received) (n : ℕ) → ((j : ℕ) → j < n → f j ≡ g j) → filter_map f (range_with_len 0 n) ≡ filter_map g (range_with_len 0 n)
-inbox_same f g n h = filtered_same f g 0 n (λ j l m. h j (omega arith))
 
 -- an entry of an inbox is the same where it's omitted in both, or the messages are the same
 heard_same : (c d : Bool) (j : ℕ) (m k : Option (List Value)) → d ≡ c → (c ≡ true → m ≡ k) → ◌≡◌ {A = Option Received} (if not d then None else received j m) (if not c then None else received j k)
@@ -42,11 +30,11 @@ state_kept w p e t zero i l n = refl
 state_kept w p e t (suc r) i l n =
     let up : w.start (r + 1) ≤ w.start (suc r + 1) = start_le w p (r + 1) (suc r + 1) (omega arith) (omega arith) in
     let me : state w (e ∷ t) r i ≡ state w t r i = state_kept w p e t r i (omega arith) (omega arith) in
-    let same = inbox_same
+    let same = filter_map_same
     (λ j. if not (carried w (e ∷ t) i (suc r) j) then None else received j (w.algorithm.send (suc r) (state w (e ∷ t) r j) j i))
     (λ j. if not (carried w t i (suc r) j) then None else received j (w.algorithm.send (suc r) (state w t r j) j i))
-    (nodes_of w)
-    (λ j b. heard_same (carried w t i (suc r) j) (carried w (e ∷ t) i (suc r) j) j _ _
+    0 (nodes_of w)
+    (λ j a b. heard_same (carried w t i (suc r) j) (carried w (e ∷ t) i (suc r) j) j _ _
     (carried_kept w p i (suc r) j e t (omega arith) l n)
     (λ c.
     let past = carried_sent w t i (suc r) j c in

@@ -15,3 +15,9 @@ pub mod Closing
 pub mod Starts
 pub mod Vectors
 pub mod Stocks
+pub mod Moments
+pub mod Placed
+pub mod Agreed
+pub mod Handed
+pub mod Later
+pub mod Taking

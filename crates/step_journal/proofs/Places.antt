@@ -1,6 +1,6 @@
 -- How places change as a history grows by one event.
-use Rattle.std.proofs.Common.{◌≡◌, ℕ, zero, suc, ◌+◌, ◌<◌, ◌≤◌, Bool, true, false, cond, ◌&&◌, ltb, eqb, List, [], ◌∷◌, ◌++◌, length, Option, Some, None, sym, subst, refl, ap, if◌then◌else◌, ◌∙◌, arith, rules, ◌⊎◌, inl, inr}
-use Rattle.std.proofs.lemmas.Bool.{cases_Bool, cond_both, cond-true, cond-false, and_left, and_right, le-ltb, lt-ltb}
+use Rattle.std.proofs.Common.{◌≡◌, ℕ, suc, ◌+◌, ◌<◌, ◌≤◌, Bool, true, false, ◌&&◌, ltb, List, [], ◌∷◌, length, Option, Some, None, sym, subst, refl, if◌then◌else◌, arith, ◌⊎◌, inl, inr}
+use Rattle.std.proofs.lemmas.Bool.{cases_Bool, cond_both, and_left, and_right, le-ltb}
 use Rattle.step_machine.specs.declared.event.Event.{Event}
 use Rattle.step_journal.specs.Trace.{is_step, steps, or_else, first, is_later}
 

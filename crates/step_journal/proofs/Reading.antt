@@ -1,8 +1,8 @@
 -- What the reading calls of a record answer.
-use Rattle.std.proofs.Common.{◌≡◌, ◌≢◌, ℕ, zero, suc, ◌+◌, ◌-◌, ◌*◌, ◌<◌, ◌≤◌, List, [], ◌∷◌, ◌++◌, length, get_or, Option, Some, None, sym, subst, refl, ap, ◌∙◌, arith, map, ◌⊎◌, inl, inr}
+use Rattle.std.proofs.Common.{◌≡◌, ℕ, ◌+◌, ◌-◌, ◌*◌, ◌<◌, ◌≤◌, List, [], ◌∷◌, ◌++◌, length, get_or, sym, subst, refl, ap, ◌∙◌, arith, ◌⊎◌, inl, inr}
 use Rattle.std.proofs.lemmas.List.{get_or-map, length-map, get_or_default, get_or_past}
 use Rattle.std.proofs.lemmas.Bool.{cases_lt}
-use Rattle.std.specs.Prelude.{reverse, Vec}
+use Rattle.std.specs.Prelude.{Vec}
 use Rattle.std.specs.Arc.{arc_value}
 use Rattle.std.specs.declared.sync.Arc.{Arc}
 use Rattle.round_lang.specs.declared.value.Value.{Value}
@@ -12,9 +12,8 @@ use Rattle.step_machine.specs.declared.event.Name.{Name}
 use Rattle.step_journal.specs.declared.mark.Mark.{Mark}
 use Rattle.step_journal.specs.declared.mark.Mark.TheVariants.{Unsent}
 use Rattle.step_journal.specs.declared.mark.Told.{Told}
-use Rattle.step_journal.specs.World.{World, nodes_of}
-use Rattle.step_journal.specs.Trace.{steps}
-use Rattle.step_journal.specs.History.{handed_of, told_of}
+use Rattle.step_journal.specs.World.{nodes_of}
+use Rattle.step_journal.specs.History.{handed_of}
 use Rattle.step_journal.specs.Agreement.{Row, row, place_of, IsBuffer}
 use Rattle.step_journal.specs.Log.{Log, Recorded, Holds, IsFaithful, IsFlying, IsName, happened, world_of, history, round_of, count_of, mark_in, waiting_in, states_of, rows_of, names_of, lists_of}
 use Rattle.step_journal.proofs.Buffers.{buffer_counts}

@@ -1,5 +1,5 @@
 -- What a record begins with holds.
-use Rattle.std.proofs.Common.{◌≡◌, ℕ, ◌+◌, ◌<◌, List, [], ◌∷◌, ◌++◌, length, get_or, sym, refl, ap, ◌∙◌, arith, map, replicate}
+use Rattle.std.proofs.Common.{◌≡◌, ℕ, ◌+◌, List, [], ◌∷◌, ◌++◌, sym, refl, ap, ◌∙◌, arith, map, replicate}
 use Rattle.std.specs.Prelude.{Vec}
 use Rattle.std.specs.List.{range_with_len}
 use Rattle.std.specs.declared.sync.Arc.{Arc}
@@ -13,7 +13,7 @@ use Rattle.slot_plans.specs.Plan.{PlanLaws}
 use Rattle.step_machine.specs.declared.event.Name.{Name}
 use Rattle.step_journal.specs.declared.mark.Mark.{Mark}
 use Rattle.step_journal.specs.declared.mark.Told.{Told}
-use Rattle.step_journal.specs.World.{World, nodes_of, IsPlan}
+use Rattle.step_journal.specs.World.{World, IsPlan}
 use Rattle.step_journal.specs.History.{buffer_of, handed_of, told_of}
 use Rattle.step_journal.specs.Agreement.{Row}
 use Rattle.step_journal.specs.Log.{Log, Holds, opened, world_of, states_of, rows_of}

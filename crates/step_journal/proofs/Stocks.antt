@@ -1,8 +1,8 @@
 -- What each event leaves of the frames.
-use Rattle.std.proofs.Common.{◌≡◌, ◌≢◌, ℕ, zero, suc, ◌+◌, ◌-◌, ◌*◌, ◌<◌, ◌≤◌, All, Bool, true, false, List, [], ◌∷◌, ◌++◌, length, get_or, set, map, Option, Some, None, sym, subst, refl, ap, ◌∙◌, arith, ◌⊎◌, inl, inr}
+use Rattle.std.proofs.Common.{◌≡◌, ◌≢◌, ℕ, ◌+◌, ◌-◌, ◌<◌, ◌≤◌, All, List, [], ◌∷◌, ◌++◌, length, get_or, set, Option, Some, None, sym, subst, refl, ap, ◌∙◌, arith, ◌⊎◌, inl, inr}
 use Rattle.std.specs.Prelude.{IsSomeAnd, option_map, option_to_list}
 use Rattle.std.proofs.lemmas.Bool.{cases_eq, cases_lt}
-use Rattle.std.proofs.lemmas.List.{get_or-set_same, get_or-set_other, length-set, map-append, append-nil, get_or_append_left, get_or_default, get_or_past, length_push, get_or-replicate, length-replicate}
+use Rattle.std.proofs.lemmas.List.{get_or-set_same, get_or-set_other, length-set, map-append, append-nil, get_or_append_left, get_or_default, get_or_past, length_push}
 use Rattle.std.proofs.lemmas.List.Elements.{All-same, All-push}
 use Rattle.round_lang.specs.declared.value.Value.{Value}
 use Rattle.round_lang.specs.Syntax.{ProgramTree}
@@ -11,14 +11,14 @@ use Rattle.round_meaning.specs.Rounds.{Algorithm, algorithm_of}
 use Rattle.step_machine.specs.declared.event.Event.{Event}
 use Rattle.step_machine.specs.declared.event.Event.TheVariants.{Step, Release}
 use Rattle.step_machine.specs.declared.event.Name.{Name}
-use Rattle.step_machine.specs.Frames.{Frame, Ready, Spells, IsPrepared, frame_of}
+use Rattle.step_machine.specs.Frames.{Frame, Ready, IsPrepared, frame_of}
 use Rattle.step_machine.specs.Nodes.{NodeView}
 use Rattle.step_journal.specs.declared.mark.Mark.{Mark}
 use Rattle.step_journal.specs.declared.mark.Mark.TheVariants.{Unsent, Silent, Flying, Released}
 use Rattle.step_journal.specs.Agreement.{Row, row}
 use Rattle.step_journal.specs.Trace.{steps}
 use Rattle.step_journal.specs.History.{buffer_of, arrival, let_go, spoken}
-use Rattle.step_journal.specs.Log.{Log, Recorded, IsName, IsFlying, SameMarks, SameMarksBut, SameWaiting, SameWaitingBut, closed, count_of, ended, happened, mark_in, opened, round_of, state_before, waiting_in, world_of}
+use Rattle.step_journal.specs.Log.{Log, Recorded, IsName, IsFlying, SameMarks, SameMarksBut, SameWaiting, SameWaitingBut, closed, count_of, ended, happened, mark_in, opened, round_of, waiting_in, world_of}
 use Rattle.step_journal.specs.Causes.{IsSendFit}
 use Rattle.step_journal.proofs.Keeps.{RowOf, Grown, Stays, row_of, row_same}
 use Rattle.step_journal.proofs.Events.{let_go_idle, arrival_idle}

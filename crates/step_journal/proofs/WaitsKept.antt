@@ -1,16 +1,15 @@
 -- Each event keeps the buffers.
-use Rattle.std.proofs.Common.{◌≡◌, ◌≢◌, ℕ, zero, suc, ◌+◌, ◌-◌, ◌*◌, ◌==◌, ◌<◌, ◌≤◌, Bool, true, false, not, cond, ◌&&◌, ltb, leb, eqb, List, [], ◌∷◌, ◌++◌, length, get_or, set, Option, Some, None, sym, subst, refl, ap, if◌then◌else◌, ◌∙◌, arith, rules, ◌⊎◌, inl, inr, add-one}
-use Rattle.std.proofs.lemmas.Bool.{cases_Bool, and_left, and_right, and_from, and_parts, le-leb, lt-leb, cases_lt, cases_eq, eq-eqb, ne_eqb}
+use Rattle.std.proofs.Common.{◌≡◌, ◌≢◌, ℕ, ◌+◌, ◌-◌, ◌<◌, ◌≤◌, true, false, ◌&&◌, List, [], ◌∷◌, ◌++◌, length, get_or, set, sym, refl, ap, ◌∙◌, arith, ◌⊎◌, inl, inr}
+use Rattle.std.proofs.lemmas.Bool.{and_left, and_right, cases_eq, eq-eqb, ne_eqb}
 use Rattle.std.proofs.lemmas.List.{get_or-set_same, get_or-set_other, length-set, append-nil}
 use Rattle.step_machine.specs.declared.event.Name.{Name}
 use Rattle.step_machine.specs.declared.event.Event.{Event}
 use Rattle.step_machine.specs.declared.event.Event.TheVariants.{Step, Release}
-use Rattle.step_journal.specs.declared.mark.Mark.{Mark}
 use Rattle.step_journal.specs.World.{World, nodes_of, IsPlan, is_receive}
 use Rattle.step_journal.specs.Trace.{is_step, steps}
 use Rattle.step_journal.specs.History.{mark_of, arrival, arrived, buffer_of}
 use Rattle.step_journal.specs.Agreement.{Waits}
-use Rattle.step_journal.proofs.Plans.{is_receive_at, receives_by_before}
+use Rattle.step_journal.proofs.Plans.{receives_by_before}
 
 pub idle_is_no_receive : (w : World) → IsPlan w → (x : ℕ) → w.start (w.rounds + 1) ≤ x → is_receive w x ≡ false
 idle_is_no_receive w p x h = receives_by_before w p w.rounds (w.rounds + 1) x (omega arith) h

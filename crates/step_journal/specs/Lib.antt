@@ -11,3 +11,6 @@ pub mod Work
 pub mod Log
 pub mod Causes
 pub mod Stock
+pub mod Places
+pub mod Agreed
+pub mod Taking

@@ -1,5 +1,5 @@
 -- What contracts see of the record of a run.
-use Rattle.std.specs.Prelude.{◌≡◌, ℕ, suc, ◌+◌, ◌-◌, ◌<◌, ◌≤◌, ◌≢◌, true, List, [], ◌∷◌, ◌++◌, length, map, reverse, slice_index_or, slice_set, Vec}
+use Rattle.std.specs.Prelude.{◌≡◌, ℕ, ◌+◌, ◌-◌, ◌<◌, ◌≤◌, ◌≢◌, true, List, [], ◌∷◌, ◌++◌, length, map, reverse, slice_index_or, slice_set, Vec}
 use Rattle.std.specs.Arc.{arc_value}
 use Rattle.std.specs.List.{range_with_len}
 use Rattle.std.specs.declared.sync.Arc.{Arc}
@@ -11,12 +11,11 @@ use Rattle.round_meaning.specs.Setups.{IsLawful}
 use Rattle.step_journal.specs.declared.mark.Mark.{Mark}
 use Rattle.step_journal.specs.declared.mark.Mark.TheVariants.{Flying}
 use Rattle.step_journal.specs.declared.mark.Told.{Told}
-use Rattle.step_journal.specs.Agreement.{Row, row, Agrees, Waits, Accounts, IsBuffer}
-use Rattle.step_journal.specs.History.{state, mark_of, buffer_of, handed_of, told_of}
+use Rattle.step_journal.specs.Agreement.{Row, row, Agrees, Waits, Accounts}
+use Rattle.step_journal.specs.History.{state, mark_of, buffer_of}
 use Rattle.step_journal.specs.Trace.{steps}
 use Rattle.step_journal.specs.World.{World, IsPlan, is_receive}
 use Rattle.step_machine.specs.declared.event.Event.{Event}
-use Rattle.step_machine.specs.declared.event.Event.TheVariants.{Step}
 use Rattle.step_machine.specs.declared.event.Name.{Name}
 use Rattle.step_machine.specs.Nodes.{NodeView, algorithm_in, inbox_of}
 

@@ -1,6 +1,5 @@
 -- The frames that a journal has.
 use Rattle.std.specs.Prelude.{◌≡◌, ℕ, ◌+◌, ◌-◌, ◌*◌, ◌<◌, ◌≤◌, All, List, [], Option, None, IsSomeAnd, length, map, slice_index_or}
-use Rattle.round_lang.specs.declared.value.Value.{Value}
 use Rattle.round_meaning.specs.Rounds.{Algorithm, algorithm_of}
 use Rattle.step_machine.specs.declared.event.Name.{Name}
 use Rattle.step_machine.specs.Frames.{Frame, Spells}
@@ -43,6 +42,12 @@ pub record IsGenuine (a : Algorithm) (rows : List Row) (f : Frame) : Type 0 wher
   pub first : 0 < f.name.round
   pub past : f.name.round ≤ length (row rows f.name.from)
   pub own : slice_index_or (row rows f.name.from) (f.name.round - 1) [] ≡ f.state
+
+-- a frame of one of n nodes to node i, which says what its state sends
+pub record IsMail (a : Algorithm) (n i : ℕ) (f : Frame) : Type 0 where
+  pub from : f.name.from < n
+  pub to : f.name.to ≡ i
+  pub spells : Spells a f
 
 -- a frame is there exactly where the mark says that it's in flight
 abbrev pub Flies : Algorithm → List Row → Name → Mark → Option Frame → Type 0

@@ -3,6 +3,7 @@ ghost use Rattle.std.specs.Prelude.{◌≡◌, ◌+◌, ◌-◌, ◌*◌, ◌^�
 ghost use Rattle.round_meaning.specs.Rounds.{algorithm_of};
 ghost use Rattle.round_meaning.specs.Setups.{IsLawful};
 ghost use Rattle.step_machine.specs.Frames.{IsPrepared};
+ghost use Rattle.step_journal.specs.Agreed.{JournalAgrees, KeepsClosed};
 ghost use Rattle.step_journal.specs.Agreement.{IsBuffer, row};
 ghost use Rattle.step_journal.specs.Causes.{CloseCause, IdleCause, IsDueIn, IsKnown, IsReceiveFit, IsSendFit, ReceiveCause, SendCause};
 ghost use Rattle.step_journal.specs.History.{arrival, handed_of, let_go, spoken, told_of};
@@ -131,6 +132,13 @@ impl<P: Plan> Book<P> {
         ensures faithful { IsFaithful (P.start self.now.plan) self.now.log }
         ensures sized { P.nodes self.now.plan ≡ self.now.log.setup.nodes }
         ensures lawful { IsLawful self.now.log.program.values self.now.log.setup }
+    {
+        let _trace = &self.trace;
+    }
+
+    /// What the reading calls answer is what stands in the trace and in the run in rounds.
+    pub fn agrees_by_places(&self)
+        ensures { JournalAgrees (P.start self.now.plan) self.now.log (mark_in (P.start self.now.plan) self.now.log) (waiting_in (P.start self.now.plan) self.now.log) }
     {
         let _trace = &self.trace;
     }
@@ -282,6 +290,7 @@ impl<P: Plan> Book<P> {
         ensures sent { OnOk result (mark_in (P.start self.old.plan) self.new.log prepared.now.name ≡ spoken prepared.now.message) }
         ensures marks { OnOk result (SameMarksBut (P.start self.old.plan) prepared.now.name self.old.log self.new.log) }
         ensures waiting { OnOk result (SameWaiting (P.start self.old.plan) self.old.log self.new.log) }
+        ensures kept { OnOk result (KeepsClosed (P.start self.old.plan) self.old.log self.new.log) }
     {
         let name = prepared.name();
         let place = self.place(name);
@@ -308,6 +317,7 @@ impl<P: Plan> Book<P> {
         ensures marks { OnOk result (SameMarks (P.start self.old.plan) self.old.log self.new.log) }
         ensures taken { OnOk result (waiting_in (P.start self.old.plan) self.new.log node ≡ []) }
         ensures waiting { OnOk result (SameWaitingBut (P.start self.old.plan) node self.old.log self.new.log) }
+        ensures kept { OnOk result (KeepsClosed (P.start self.old.plan) self.old.log self.new.log) }
     {
         if self.is_due(node) {
             return Err(ReceiveFault::NotClosed);
@@ -339,6 +349,7 @@ impl<P: Plan> Book<P> {
         ensures arrived { OnOk result (waiting_in (P.start self.old.plan) self.new.log name.to
             ≡ waiting_in (P.start self.old.plan) self.old.log name.to ++ arrival name (mark_in (P.start self.old.plan) self.old.log name)) }
         ensures waiting { OnOk result (SameWaitingBut (P.start self.old.plan) name.to self.old.log self.new.log) }
+        ensures kept { OnOk result (KeepsClosed (P.start self.old.plan) self.old.log self.new.log) }
     {
         let place = self.place(name);
         let count = self.count_of(name.to);
@@ -365,6 +376,7 @@ impl<P: Plan> Book<P> {
         ensures cause { IfErr result (CloseCause (P.start self.old.plan) self.old.log finished.now.node.now) }
         ensures fit { OnOk result (IsDueIn (P.start self.old.plan) self.old.log finished.now.node.now
             × IsKnown (P.start self.old.plan) self.old.log finished.now.node.now) }
+        ensures kept { OnOk result (KeepsClosed (P.start self.old.plan) self.old.log self.new.log) }
     {
         let node = finished.node();
         let round = self.round_of(node);
@@ -387,6 +399,7 @@ impl<P: Plan> Book<P> {
         ensures fit { OnOk result (self.old.log.setup.rounds < round_of self.old.log node) }
         ensures marks { OnOk result (SameMarks (P.start self.old.plan) self.old.log self.new.log) }
         ensures waiting { OnOk result (SameWaiting (P.start self.old.plan) self.old.log self.new.log) }
+        ensures kept { OnOk result (KeepsClosed (P.start self.old.plan) self.old.log self.new.log) }
     {
         if self.round_of(node) <= self.setup.rounds {
             return Err(IdleFault::NotPast);

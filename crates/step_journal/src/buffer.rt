@@ -1,5 +1,5 @@
 //! The frames of one node.
-ghost use Rattle.std.specs.Prelude.{◌≡◌, ◌<◌, ◌++◌, [], OnOk, None, Some, length, option_to_list, slice_set};
+ghost use Rattle.std.specs.Prelude.{◌≡◌, ◌<◌, ◌++◌, [], MatchOption, OnOk, None, Some, length, option_to_list, slice_set};
 ghost use Rattle.step_journal.specs.Stock.{SameFlying, flying_at};
 
 use round_lang::NoMemory;
@@ -48,6 +48,16 @@ impl Buffer {
         ensures { result.now ≡ self.now.waiting }
     {
         &self.waiting
+    }
+
+    /// The frame in flight at a place.
+    pub fn flying(&self, place: usize) -> Option<&Sealed>
+        ensures { MatchOption result (flying_at self.now place ≡ None) (λ frame. flying_at self.now place ≡ Some frame.now) }
+    {
+        match self.flying.get(place) {
+            Some(frame) => frame.as_ref(),
+            None => None,
+        }
     }
 
     /// Makes room for a frame in flight at a place.

@@ -1,12 +1,14 @@
 //! The record of a run with the frames that it names.
-ghost use Rattle.std.specs.Prelude.{◌≡◌, ◌+◌, ◌-◌, ◌*◌, ◌<◌, ◌↔◌, All, IfErr, IfOk, IsTrue, OnErr, OnOk};
+ghost use Rattle.std.specs.Prelude.{◌≡◌, ◌+◌, ◌-◌, ◌*◌, ◌<◌, ◌++◌, ◌↔◌, [], All, IfErr, IfOk, IfSome, IsSome, IsTrue, OnErr, OnOk};
 ghost use Rattle.round_meaning.specs.Rounds.{algorithm_of};
 ghost use Rattle.round_meaning.specs.Setups.{IsLawful};
 ghost use Rattle.step_machine.specs.Frames.{IsPrepared};
+ghost use Rattle.step_journal.specs.Agreed.{IsSaid, JournalAgrees, KeepsClosed};
 ghost use Rattle.step_journal.specs.Agreement.{IsBuffer};
 ghost use Rattle.step_journal.specs.Causes.{CloseCause, IdleCause, IsDueIn, IsKnown, IsReceiveFit, IsSendFit, ReceiveCause, SendCause};
-ghost use Rattle.step_journal.specs.Log.{IsFlying, IsName, closed, happened, history, opened, round_of, waiting_in, world_of};
-ghost use Rattle.step_journal.specs.Stock.{AreEmpty, IsGenuine, names_in, place_among};
+ghost use Rattle.step_journal.specs.History.{arrival, let_go, spoken};
+ghost use Rattle.step_journal.specs.Log.{IsFlying, IsName, SameMarks, SameMarksBut, SameWaiting, SameWaitingBut, closed, count_of, happened, history, mark_in, opened, round_of, waiting_in, world_of};
+ghost use Rattle.step_journal.specs.Stock.{AreEmpty, IsGenuine, IsMail, names_in, place_among};
 
 use crate::book::Book;
 use crate::buffer::Buffer;
@@ -83,6 +85,37 @@ impl<P: Plan> Journal<P> {
         &self.book
     }
 
+    /// What is recorded agrees with the run in rounds: the messages, the states, the closed and due
+    /// rounds, what is in flight, and what waits.
+    pub fn agrees(&self)
+        ensures { JournalAgrees (P.start self.now.plan) self.now.log (mark_in (P.start self.now.plan) self.now.log) (waiting_in (P.start self.now.plan) self.now.log) }
+    {
+        self.book.agrees_by_places();
+    }
+
+    /// The frames that wait for a node, in the order of their releases.
+    pub fn waiting(&self, node: u32) -> &[Sealed]
+        requires { node < self.now.log.setup.nodes }
+        ensures names { names_in result.now ≡ waiting_in (P.start self.now.plan) self.now.log node }
+        ensures said { All (IsSaid (P.start self.now.plan) self.now.log) result.now }
+    {
+        self.book.agrees();
+        let buffer = &self.buffers[node as usize];
+        buffer.waiting()
+    }
+
+    /// The frame in flight under a name.
+    pub fn in_flight(&self, name: Name) -> Option<&Sealed>
+        requires { IsName self.now.log.setup name }
+        ensures there { IsSome result ↔ IsFlying (P.start self.now.plan) self.now.log name }
+        ensures named { IfSome result (λ frame. frame.now.name ≡ name) }
+        ensures said { IfSome result (λ frame. IsSaid (P.start self.now.plan) self.now.log frame.now) }
+    {
+        self.book.agrees();
+        let buffer = &self.buffers[name.to as usize];
+        buffer.flying(self.place(name))
+    }
+
     /// The place of a message among those to its receiver.
     fn place(&self, name: Name) -> usize
         requires { IsName self.now.log.setup name }
@@ -101,6 +134,10 @@ impl<P: Plan> Journal<P> {
         ensures cause { IfErr result (λ refused. SendCause (P.start self.old.plan) self.old.log prepared refused.fault) }
         ensures back { IfErr result (λ refused. refused.prepared ≡ prepared) }
         ensures fit { OnOk result (IsSendFit (P.start self.old.plan) self.old.log prepared) }
+        ensures sent { OnOk result (mark_in (P.start self.old.plan) self.new.log prepared.name ≡ spoken prepared.message) }
+        ensures marks { OnOk result (SameMarksBut (P.start self.old.plan) prepared.name self.old.log self.new.log) }
+        ensures waiting { OnOk result (SameWaiting (P.start self.old.plan) self.old.log self.new.log) }
+        ensures kept { OnOk result (KeepsClosed (P.start self.old.plan) self.old.log self.new.log) }
     {
         if let Some(fault) = self.book.refuses_send(&prepared) {
             return Err(Refused { fault, prepared });
@@ -136,7 +173,14 @@ impl<P: Plan> Journal<P> {
         ensures names { IfOk result (λ took. names_in took.frames.items ≡ waiting_in (P.start self.old.plan) self.old.log node) }
         ensures once { IfOk result (λ took. IsBuffer (world_of (P.start self.old.plan) self.old.log) (history self.old.log) node (names_in took.frames.items)) }
         ensures genuine { IfOk result (λ took. All (IsGenuine (algorithm_of self.old.log.program self.old.log.setup) self.old.log.rows) took.frames.items) }
+        ensures mail { IfOk result (λ took. All (IsMail (algorithm_of self.old.log.program self.old.log.setup) self.old.log.setup.nodes node) took.frames.items) }
+        ensures said { IfOk result (λ took. All (IsSaid (P.start self.old.plan) self.old.log) took.frames.items) }
+        ensures marks { OnOk result (SameMarks (P.start self.old.plan) self.old.log self.new.log) }
+        ensures taken { OnOk result (waiting_in (P.start self.old.plan) self.new.log node ≡ []) }
+        ensures waiting { OnOk result (SameWaitingBut (P.start self.old.plan) node self.old.log self.new.log) }
+        ensures kept { OnOk result (KeepsClosed (P.start self.old.plan) self.old.log self.new.log) }
     {
+        self.book.agrees();
         self.book.receive(node)?;
         let buffer = &mut self.buffers[node as usize];
         let frames = buffer.take();
@@ -149,6 +193,13 @@ impl<P: Plan> Journal<P> {
         ensures ok { OnOk result (self.new ≡ record self.old { log = happened self.old.log (Event.Release name) }) }
         ensures err { OnErr result (self.new ≡ self.old) }
         ensures moved { IfOk result (λ moved. IsTrue moved ↔ IsFlying (P.start self.old.plan) self.old.log name) }
+        ensures released { OnOk result (mark_in (P.start self.old.plan) self.new.log name
+            ≡ let_go (count_of self.old.log name.to) (mark_in (P.start self.old.plan) self.old.log name)) }
+        ensures marks { OnOk result (SameMarksBut (P.start self.old.plan) name self.old.log self.new.log) }
+        ensures arrived { OnOk result (waiting_in (P.start self.old.plan) self.new.log name.to
+            ≡ waiting_in (P.start self.old.plan) self.old.log name.to ++ arrival name (mark_in (P.start self.old.plan) self.old.log name)) }
+        ensures waiting { OnOk result (SameWaitingBut (P.start self.old.plan) name.to self.old.log self.new.log) }
+        ensures kept { OnOk result (KeepsClosed (P.start self.old.plan) self.old.log self.new.log) }
     {
         let place = self.place(name);
         let buffer = &mut self.buffers[name.to as usize];
@@ -171,6 +222,7 @@ impl<P: Plan> Journal<P> {
         ensures cause { IfErr result (CloseCause (P.start self.old.plan) self.old.log finished.now.node.now) }
         ensures fit { OnOk result (IsDueIn (P.start self.old.plan) self.old.log finished.now.node.now
             × IsKnown (P.start self.old.plan) self.old.log finished.now.node.now) }
+        ensures kept { OnOk result (KeepsClosed (P.start self.old.plan) self.old.log self.new.log) }
     {
         self.book.agrees();
         let _one = finished.node();
@@ -185,6 +237,9 @@ impl<P: Plan> Journal<P> {
         ensures err { OnErr result (self.new ≡ self.old) }
         ensures cause { IfErr result (IdleCause self.old.log node) }
         ensures fit { OnOk result (self.old.log.setup.rounds < round_of self.old.log node) }
+        ensures marks { OnOk result (SameMarks (P.start self.old.plan) self.old.log self.new.log) }
+        ensures waiting { OnOk result (SameWaiting (P.start self.old.plan) self.old.log self.new.log) }
+        ensures kept { OnOk result (KeepsClosed (P.start self.old.plan) self.old.log self.new.log) }
     {
         self.book.idle_step(node)?;
         Ok(())

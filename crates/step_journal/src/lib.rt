@@ -15,3 +15,6 @@ pub use buffer::Buffer;
 pub use fault::{CloseFault, IdleFault, ReceiveFault, Refused, SendFault};
 pub use journal::{Journal, Took};
 pub use mark::{Mark, Told};
+
+#[cfg(test)]
+mod tests;

@@ -1,7 +1,4 @@
-use Rattle.std.proofs.Common.{◌≡◌, ℕ, ◌<◌, length, get_or}
-use Rattle.step_machine.specs.Nodes.{NodeView}
 use Rattle.step_journal.specs.Log.{opened}
-use Rattle.adversary.specs.Driving.{IsNodeOf}
 use Rattle.adversary.proofs.Starting.{AreFirst}
 use Rattle.adversary.proofs.running.first_nodes.Given as goal
 

@@ -1,4 +1,4 @@
-use Rattle.std.proofs.Common.{◌≡◌, take}
+use Rattle.std.proofs.Common.{take}
 use Rattle.adversary.proofs.Runs.{IsRun}
 use Rattle.adversary.proofs.running.run.Given as goal
 

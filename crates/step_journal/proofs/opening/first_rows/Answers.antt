@@ -1,5 +1,4 @@
 use Rattle.std.proofs.Common.{◌∷◌, [], ◌++◌, ap, ◌∙◌}
-use Rattle.std.specs.Arc.{arc_value}
 use Rattle.round_meaning.specs.Rounds.{algorithm_of}
 use Rattle.step_journal.specs.Log.{states_of}
 use Rattle.step_journal.proofs.Starts.{rows_push}

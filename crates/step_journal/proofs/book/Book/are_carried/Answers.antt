@@ -1,4 +1,4 @@
-use Rattle.std.proofs.Common.{◌≡◌, ◌<◌, Option, None, true, false, arith, sym, ap, ◌∙◌, refl, get_or}
+use Rattle.std.proofs.Common.{◌≡◌, None, arith, sym, ap, ◌∙◌, refl}
 use Rattle.std.specs.Prelude.{option_map}
 use Rattle.std.proofs.lemmas.List.{get_or_default}
 use Rattle.step_machine.specs.Nodes.{held_at}

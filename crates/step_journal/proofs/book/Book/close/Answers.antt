@@ -1,4 +1,7 @@
-use Rattle.std.proofs.Common.{◌≡◌, ◌<◌, ◌++◌, ◌∷◌, [], true, false, arith, sym, ap, subst, ◌∙◌, refl, length, List, Option}
+use Rattle.step_journal.specs.Agreed.{KeepsClosed}
+use Rattle.step_journal.specs.Log.{Recorded}
+use Rattle.step_journal.proofs.Later.{kept_closed}
+use Rattle.std.proofs.Common.{arith, sym, ap, subst, ◌∙◌, length, List, Option}
 use Rattle.step_machine.specs.Frames.{Frame}
 use Rattle.step_machine.specs.Nodes.{IsHeld, algorithm_in}
 use Rattle.round_meaning.specs.declared.setup.Setup.{Setup}
@@ -80,3 +83,20 @@ returns-clause-ok g c =
     closed_view n _ c.self.view_is
     (rows_closed n c.node-node.result _ c.self.view_is c.node-node.ensures.value
     (rows_grow c.self.inside.states.items c.node-node.result c.index_mut.result.now c.note_close.new.states (ended n) (omega arith) c.index_mut.ensures.value c.in_ok-note_close.ensures.ok))
+
+pub returns-clause-kept : goal.returns-clause-kept
+returns-clause-kept g c =
+    let v = c.args.self.now in
+    let n = c.args.finished.now.node.now in
+    let size = rows_len (of_view g.P.Plan.start g.P.Plan.nodes c.self.view_is c.self.invariant) in
+    let long = rows_of_len c.self.inside.states.items in
+    let seen = ap length (rows_view c.self.view_is) in
+    let one = c.node-node.ensures.one in
+    let me = c.node-node.ensures.value in
+    let nodes = ap (λ (x : Setup). x.nodes) c.requires.setup in
+    subst (λ (z : Recorded _). KeepsClosed (g.P.Plan.start v.plan) v.log z.log)
+    (sym
+    (closed_view n _ c.self.view_is
+    (rows_closed n c.node-node.result _ c.self.view_is c.node-node.ensures.value
+    (rows_grow c.self.inside.states.items c.node-node.result c.index_mut.result.now c.note_close.new.states (ended n) (omega arith) c.index_mut.ensures.value c.in_ok-note_close.ensures.ok))))
+    (kept_closed (of_view g.P.Plan.start g.P.Plan.nodes c.self.view_is c.self.invariant) n (omega arith))

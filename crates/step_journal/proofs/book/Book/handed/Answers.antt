@@ -1,4 +1,4 @@
-use Rattle.std.proofs.Common.{ap, ◌∙◌, arith, sym, length}
+use Rattle.std.proofs.Common.{ap, ◌∙◌, arith, sym}
 use Rattle.step_journal.specs.Log.{names_of}
 use Rattle.step_journal.proofs.Reading.{of_view, handed_len, handed_read, lists_len, lists_read}
 use Rattle.step_journal.proofs.book.Book.handed.Goals as goal

@@ -1,3 +1,5 @@
+use Rattle.step_journal.specs.Agreed.{KeepsClosed}
+use Rattle.step_journal.proofs.Later.{kept_happened}
 use Rattle.std.proofs.Common.{◌<◌, arith, sym, subst}
 use Rattle.step_machine.specs.declared.event.Event.TheVariants.{Step}
 use Rattle.step_journal.specs.Log.{Log, SameMarks, SameWaiting, round_of}
@@ -36,3 +38,9 @@ returns-clause-waiting g c =
     let late : v.log.setup.rounds < round_of v.log c.args.node = omega (arith, c.round_of.ensures.value) in
     subst (λ (z : Log). SameWaiting (g.P.Plan.start v.plan) v.log z) (sym (log_view (Step c.args.node) _ c.self.view_is c.in_ok-note_step.ensures.trace))
     (idle_waiting (of_view g.P.Plan.start g.P.Plan.nodes c.self.view_is c.self.invariant) c.args.node c.requires late)
+
+pub returns-clause-kept : goal.returns-clause-kept
+returns-clause-kept g c =
+    let v = c.args.self.now in
+    subst (λ (z : Log). KeepsClosed (g.P.Plan.start v.plan) v.log z) (sym (log_view (Step c.args.node) _ c.self.view_is c.in_ok-note_step.ensures.trace))
+    (kept_happened (of_view g.P.Plan.start g.P.Plan.nodes c.self.view_is c.self.invariant) (Step c.args.node))

@@ -1,6 +1,5 @@
-use Rattle.std.proofs.Common.{◌≡◌, true, false, ◌<◌, ◌+◌, ◌-◌, Option, Some, arith, sym, ap, ◌∙◌, length}
+use Rattle.std.proofs.Common.{◌≡◌, true, false, ◌-◌, Some, arith, sym, ap, ◌∙◌, length}
 use Rattle.step_journal.specs.Log.{state_before}
-use Rattle.step_journal.specs.Work.{Tag, tag_of}
 use Rattle.step_journal.proofs.Closing.{heard_by, none_iff, sender_by}
 use Rattle.step_journal.proofs.Reading.{of_view, rows_len, rows_view, rows_of_len, row_size}
 use Rattle.step_journal.proofs.Vectors.{state_read}

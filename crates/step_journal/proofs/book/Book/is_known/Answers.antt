@@ -1,4 +1,4 @@
-use Rattle.std.proofs.Common.{◌≡◌, ◌<◌, ◌-◌, true, false, arith, sym, ap, ◌∙◌, length}
+use Rattle.std.proofs.Common.{◌≡◌, ◌-◌, arith, sym, ap, ◌∙◌}
 use Rattle.step_journal.specs.Log.{round_of, state_before}
 use Rattle.step_journal.proofs.Reading.{of_view, rows_len, rows_view, row_size}
 use Rattle.step_journal.proofs.Vectors.{state_read}

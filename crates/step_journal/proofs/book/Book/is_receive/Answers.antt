@@ -1,4 +1,4 @@
-use Rattle.std.proofs.Common.{◌≡◌, ◌<◌, ◌+◌, arith, sym, subst, ap, ◌∙◌, refl, true, false}
+use Rattle.std.proofs.Common.{◌<◌, ◌+◌, arith, sym, ap, ◌∙◌}
 use Rattle.step_journal.specs.Log.{round_of}
 use Rattle.step_journal.proofs.Events.{idle_none, receive_test}
 use Rattle.step_journal.proofs.Reading.{of_view, nodes_view, rounds_view}

@@ -1,4 +1,6 @@
-use Rattle.std.proofs.Common.{◌≡◌, arith, sym, subst, ap, ◌∙◌, refl, true, false}
+use Rattle.step_journal.specs.Agreed.{KeepsClosed}
+use Rattle.step_journal.proofs.Later.{kept_happened}
+use Rattle.std.proofs.Common.{arith, sym, subst, ap, ◌∙◌, refl}
 use Rattle.step_machine.specs.declared.event.Event.TheVariants.{Step}
 use Rattle.step_journal.specs.Causes.{IsReceiveFit}
 use Rattle.step_journal.specs.Log.{Log, SameMarks, SameWaitingBut, waiting_in}
@@ -82,3 +84,9 @@ returns-clause-waiting g c =
 
 pub returns-clause-once : goal.returns-clause-once
 returns-clause-once g c = buffer_once (of_view g.P.Plan.start g.P.Plan.nodes c.self.view_is c.self.invariant) c.args.node
+
+pub returns-clause-kept : goal.returns-clause-kept
+returns-clause-kept g c =
+    let v = c.args.self.now in
+    subst (λ (z : Log). KeepsClosed (g.P.Plan.start v.plan) v.log z) (sym (log_view (Step c.args.node) _ c.self.view_is c.in_ok-note_receive.ensures.trace))
+    (kept_happened (of_view g.P.Plan.start g.P.Plan.nodes c.self.view_is c.self.invariant) (Step c.args.node))

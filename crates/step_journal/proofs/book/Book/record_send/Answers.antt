@@ -1,8 +1,9 @@
-use Rattle.std.proofs.Common.{◌≡◌, ◌+◌, ◌-◌, ◌*◌, ◌<◌, [], ◌∷◌, ◌++◌, get_or, set, arith, sym, subst, ap, ◌∙◌, refl}
+use Rattle.step_journal.specs.Agreed.{KeepsClosed}
+use Rattle.step_journal.proofs.Later.{kept_happened}
+use Rattle.std.proofs.Common.{◌≡◌, ◌+◌, ◌-◌, ◌*◌, [], ◌∷◌, ◌++◌, get_or, set, arith, sym, subst, ap, ◌∙◌}
 use Rattle.step_machine.specs.declared.event.Event.TheVariants.{Step}
 use Rattle.step_machine.specs.declared.event.Name.{Name}
 use Rattle.step_journal.specs.Log.{Log, SameMarksBut, SameWaiting, mark_in}
-use Rattle.step_journal.specs.Agreement.{Puts}
 use Rattle.step_journal.proofs.Events.{count_le, send_round, sent, to_fields}
 use Rattle.step_journal.proofs.Leaves.{unsent, sent_mark, sent_others, sent_waiting}
 use Rattle.step_journal.proofs.Reading.{of_view, nodes_view, trace_view, log_view}
@@ -56,3 +57,11 @@ returns-clause-round g c = send_round (of_view g.P.Plan.start g.P.Plan.nodes c.s
 
 pub returns-clause-unsent : goal.returns-clause-unsent
 returns-clause-unsent g c = unsent (of_view g.P.Plan.start g.P.Plan.nodes c.self.view_is c.self.invariant) c.args.prepared.now.name c.requires.name c.requires.fit.1
+
+pub returns-clause-kept : goal.returns-clause-kept
+returns-clause-kept g c =
+    let v = c.args.self.now in
+    let p = c.args.prepared.now in
+    let more = c.in_ok-note_send.ensures.trace ∙ ap (λ (n : Name). c.self.inside.trace.items ++ Step n.from ∷ []) c.name-name.ensures in
+    subst (λ (z : Log). KeepsClosed (g.P.Plan.start v.plan) v.log z) (sym (log_view (Step p.name.from) _ c.self.view_is more))
+    (kept_happened (of_view g.P.Plan.start g.P.Plan.nodes c.self.view_is c.self.invariant) (Step p.name.from))

@@ -1,11 +1,13 @@
-use Rattle.std.proofs.Common.{◌≡◌, ◌≤◌, ◌+◌, ◌-◌, ◌*◌, ◌<◌, [], ◌∷◌, ◌++◌, get_or, set, length, arith, sym, subst, ap, ◌∙◌, refl, true, false}
+use Rattle.step_journal.specs.Agreed.{KeepsClosed}
+use Rattle.step_journal.proofs.Later.{kept_happened}
+use Rattle.std.proofs.Common.{set, arith, sym, subst, ap, ◌∙◌, refl}
 use Rattle.step_machine.specs.declared.event.Event.TheVariants.{Release}
 use Rattle.step_journal.specs.declared.mark.Mark.TheVariants.{Released}
 use Rattle.step_journal.specs.Agreement.{Puts}
 use Rattle.step_journal.specs.Log.{Log, IsFlying, SameMarksBut, SameWaitingBut, mark_in, waiting_in}
 use Rattle.step_journal.proofs.Events.{kept, moved, let_be, to_fields}
 use Rattle.step_journal.proofs.Leaves.{released_mark, released_others, released_waiting, released_waiting_others}
-use Rattle.step_journal.proofs.Reading.{of_view, nodes_view, trace_view, log_view, flying_in, waiting_len, names_len}
+use Rattle.step_journal.proofs.Reading.{of_view, trace_view, log_view, flying_in, waiting_len, names_len}
 use Rattle.step_journal.proofs.Tables.{puts_set}
 use Rattle.step_journal.proofs.Vectors.{names_push, names_same}
 use Rattle.step_journal.proofs.book.Book.release.Goals as goal
@@ -102,3 +104,17 @@ invariant_of-self-2 g c =
     to_fields g.P.Plan.start g.P.Plan.nodes c.self.view_is
     (let_be (of_view g.P.Plan.start g.P.Plan.nodes c.self.view_is c.self.invariant) n _ _ c.requires (λ fly. (let on = c.is_flying.ensures.1 fly in cc))
     (trace_view (Release n) _ c.self.view_is c.in_ok-note_idle_release.ensures.trace) c.in_ok-note_idle_release.ensures.told)
+
+pub returns-then-is_flying-clause-kept : goal.returns-then-is_flying-clause-kept
+returns-then-is_flying-clause-kept g c =
+    let v = c.args.self.now in
+    let n = c.args.name in
+    subst (λ (z : Log). KeepsClosed (g.P.Plan.start v.plan) v.log z) (sym (log_view (Release n) _ c.self.view_is c.in_ok-note_release.ensures.trace))
+    (kept_happened (of_view g.P.Plan.start g.P.Plan.nodes c.self.view_is c.self.invariant) (Release n))
+
+pub returns-clause-kept : goal.returns-clause-kept
+returns-clause-kept g c =
+    let v = c.args.self.now in
+    let n = c.args.name in
+    subst (λ (z : Log). KeepsClosed (g.P.Plan.start v.plan) v.log z) (sym (log_view (Release n) _ c.self.view_is c.in_ok-note_idle_release.ensures.trace))
+    (kept_happened (of_view g.P.Plan.start g.P.Plan.nodes c.self.view_is c.self.invariant) (Release n))

@@ -1,4 +1,4 @@
-use Rattle.std.proofs.Common.{ap, ◌∙◌, arith, sym, length}
+use Rattle.std.proofs.Common.{ap, arith, length}
 use Rattle.step_journal.proofs.Reading.{of_view, rows_len, round_low, round_high, rounds_few, rows_view, row_size, rows_of_len}
 use Rattle.step_journal.proofs.book.Book.round_of.Goals as goal
 

@@ -1,4 +1,4 @@
-use Rattle.std.proofs.Common.{◌≡◌, List, ap, ◌∙◌, arith, sym, subst, length}
+use Rattle.std.proofs.Common.{◌≡◌, List, ◌∙◌, arith, sym, subst}
 use Rattle.step_machine.specs.declared.event.Name.{Name}
 use Rattle.step_journal.specs.Agreement.{IsBuffer}
 use Rattle.step_journal.specs.Log.{history, waiting_in, world_of}

@@ -1,6 +1,5 @@
-use Rattle.std.proofs.Common.{◌≡◌, true, false, arith, sym, subst, ap, ◌∙◌}
-use Rattle.step_machine.specs.declared.event.Event.TheVariants.{Release}
-use Rattle.step_journal.specs.Log.{Recorded, IsFlying, SameMarksBut, SameWaitingBut, mark_in, waiting_in}
+use Rattle.std.proofs.Common.{sym, subst, ap, ◌∙◌}
+use Rattle.step_journal.specs.Log.{Recorded, SameMarksBut, SameWaitingBut, mark_in, waiting_in}
 use Rattle.step_journal.proofs.Stocks.{fits_moved, fits_view, name_view, place_view}
 use Rattle.step_journal.proofs.journal.Journal.release.Goals as goal
 

@@ -1,4 +1,4 @@
-use Rattle.std.proofs.Common.{◌≡◌, arith, sym, subst, ap, ◌∙◌}
+use Rattle.std.proofs.Common.{sym, subst, ap, ◌∙◌}
 use Rattle.step_journal.specs.Log.{Recorded, SameMarksBut, SameWaiting, mark_in}
 use Rattle.step_journal.proofs.Stocks.{fits_hushed, fits_sent, fits_view, name_view, place_view, work_view}
 use Rattle.step_journal.proofs.journal.Journal.send.Goals as goal

@@ -1,8 +1,9 @@
 -- Frames that a node takes one after the other.
-use Rattle.std.proofs.Common.{◌≡◌, ◌≢◌, refl, Option, ℕ, suc, ◌<◌, List, ◌∷◌, length, subst, sym, ap, ◌∙◌, arith}
+use Rattle.std.proofs.Common.{◌≡◌, ◌≢◌, refl, Option, ℕ, suc, List, ◌∷◌, subst, ap, ◌∙◌, arith}
 use Rattle.std.specs.Prelude.{All}
 use Rattle.round_meaning.specs.Rounds.{Algorithm}
-use Rattle.adversary.specs.Driving.{IsFor, IsSameBut}
+use Rattle.step_journal.specs.Stock.{IsMail}
+use Rattle.step_journal.specs.Taking.{IsSameBut}
 use Rattle.step_machine.specs.declared.node.Taken.{Taken}
 use Rattle.step_machine.specs.declared.node.Taken.TheVariants.{Kept, Late, Early, Doubled}
 use Rattle.step_machine.specs.Frames.{Frame}
@@ -11,17 +12,17 @@ use Rattle.step_machine.specs.Nodes.{NodeView, algorithm_in}
 -- the frames that are left are for the node, which is as it was but for what it holds
 pub record IsTaking (first now : NodeView) (rest : List Frame) : Type 0 where
   pub same : IsSameBut first now
-  pub frames : All (IsFor (algorithm_in first) first.setup.nodes first.me) rest
+  pub frames : All (IsMail (algorithm_in first) first.setup.nodes first.me) rest
 
 -- the next frame is for the node, and so are those after it
-pub next_for : (a : Algorithm) (n i : ℕ) (f : Frame) (all rest : List Frame) → all ≡ f ∷ rest → All (IsFor a n i) all → IsFor a n i f × All (IsFor a n i) rest
+pub next_for : (a : Algorithm) (n i : ℕ) (f : Frame) (all rest : List Frame) → all ≡ f ∷ rest → All (IsMail a n i) all → IsMail a n i f × All (IsMail a n i) rest
 next_for a n i f all rest e h =
-    let P : List Frame → Type 0 = λ l. All (IsFor a n i) l in
-    let here : All (IsFor a n i) (f ∷ rest) = subst P e h in
+    let P : List Frame → Type 0 = λ l. All (IsMail a n i) l in
+    let here : All (IsMail a n i) (f ∷ rest) = subst P e h in
     (here 0 f (omega arith), λ k d l. here (suc k) d (omega arith))
 
 -- a frame that is for the node as it was is for it as it is
-pub for_now : (first now : NodeView) (f : Frame) → IsSameBut first now → IsFor (algorithm_in first) first.setup.nodes first.me f → IsFor (algorithm_in now) now.setup.nodes now.me f
+pub for_now : (first now : NodeView) (f : Frame) → IsSameBut first now → IsMail (algorithm_in first) first.setup.nodes first.me f → IsMail (algorithm_in now) now.setup.nodes now.me f
 for_now first now f same h =
     let p = same.program in
     let s = same.setup in

@@ -1,0 +1,105 @@
+-- What a journal hands out is for the node, and is what the run in rounds says.
+use Rattle.std.proofs.Common.{◌≡◌, ℕ, ◌-◌, ◌==◌, ◌<◌, ◌≤◌, Bool, true, false, ◌&&◌, List, [], ◌∷◌, length, get_or, if◌then◌else◌, sym, subst, ap, ◌∙◌, arith, ◌⊎◌, inl, inr}
+use Rattle.std.specs.Prelude.{All}
+use Rattle.std.proofs.lemmas.Bool.{cases_eq, cases_lt, ne_eqb}
+use Rattle.std.proofs.lemmas.List.{get_or-map, get_or_past, length-map}
+use Rattle.std.proofs.lemmas.List.Elements.{All-nil, All-push, All-append, All-same}
+use Rattle.round_meaning.specs.Rounds.{Algorithm, algorithm_of}
+use Rattle.step_machine.specs.declared.event.Event.{Event}
+use Rattle.step_machine.specs.declared.event.Event.TheVariants.{Step, Release}
+use Rattle.step_machine.specs.declared.event.Name.{Name}
+use Rattle.step_machine.specs.Frames.{Frame, sent_under}
+use Rattle.step_journal.specs.declared.mark.Mark.{Mark}
+use Rattle.step_journal.specs.declared.mark.Mark.TheVariants.{Unsent, Silent, Flying, Released}
+use Rattle.step_journal.specs.Agreed.{IsSaid}
+use Rattle.step_journal.specs.Agreement.{Row, row}
+use Rattle.step_journal.specs.History.{arrival, arrived, buffer_of}
+use Rattle.step_journal.specs.Log.{IsFaithful, Log, Recorded, history, world_of}
+use Rattle.step_journal.specs.Stock.{Fits, IsGenuine, IsMail, Stock, names_in, stock_at}
+use Rattle.step_journal.specs.Trace.{is_step, steps}
+use Rattle.step_journal.specs.World.{World, is_receive}
+use Rattle.step_journal.proofs.Stocks.{stock_read}
+
+abbrev pub IsTo : ℕ → Name → Type 0
+IsTo i n = n.to ≡ i
+
+chosen : (i : ℕ) (b : Bool) (xs ys : List Name) → All (IsTo i) xs → All (IsTo i) ys → All (IsTo i) (if b then xs else ys)
+chosen i true xs ys h k = h
+chosen i false xs ys h k = k
+
+to_arrival : (i : ℕ) (n : Name) (m : Mark) → n.to ≡ i → All (IsTo i) (arrival n m)
+to_arrival i n Flying e = All-push (IsTo i) [] n (All-nil (IsTo i)) e
+to_arrival i n Unsent e = All-nil (IsTo i)
+to_arrival i n Silent e = All-nil (IsTo i)
+to_arrival i n (Released s) e = All-nil (IsTo i)
+
+to_released : (w : World) (i : ℕ) (n : Name) (past : List Event) → (n.to ≡ i) ⊎ (n.to ≡ i → ⊥) → All (IsTo i) (arrived w i (Release n) past)
+to_released w i n past (inl same) = chosen i (n.to == i) _ [] (to_arrival i n _ same) (All-nil (IsTo i))
+to_released w i n past (inr apart) = rw (ne_eqb n.to i apart) (All-nil (IsTo i))
+
+to_arrived : (w : World) (i : ℕ) (e : Event) (past : List Event) → All (IsTo i) (arrived w i e past)
+to_arrived w i (Step k) past = All-nil (IsTo i)
+to_arrived w i (Release n) past = to_released w i n past (cases_eq n.to i)
+
+-- the names that wait for a node are of messages to it
+to_waiting : (w : World) (i : ℕ) (t : List Event) → All (IsTo i) (buffer_of w i t)
+unfolding buffer_of
+to_waiting w i [] = All-nil (IsTo i)
+to_waiting w i (e ∷ past) = chosen i (is_step i e && is_receive w (steps i past)) [] _ (All-nil (IsTo i)) (All-append (IsTo i) _ _ (to_waiting w i past) (to_arrived w i e past))
+
+frame_to : (i : ℕ) (frames : List Frame) → All (IsTo i) (names_in frames) → (k : ℕ) (d : Frame) → k < length frames → (get_or frames k d).name.to ≡ i
+frame_to i frames h k d l =
+    let m = length-map frames (λ (f : Frame). f.name) in
+    ap (λ (n : Name). n.to) (sym (get_or-map (λ (f : Frame). f.name) frames k d d.name l)) ∙ h k d.name (omega arith)
+
+-- a node with a recorded state is one of the run
+from_in : (rows : List Row) (j r : ℕ) → 0 < r → r ≤ length (row rows j) → (j < length rows) ⊎ (length rows ≤ j) → j < length rows
+from_in rows j r first past (inl l) = l
+from_in rows j r first past (inr far) = let none : length (row rows j) ≡ 0 = ap length (get_or_past rows j [] far) in absurd (omega arith)
+
+-- genuine frames under the names that wait for a node are for it
+pub mail_of : (w : World) (t : List Event) (a : Algorithm) (rows : List Row) (n i : ℕ) (frames : List Frame) → length rows ≡ n → names_in frames ≡ buffer_of w i t → All (IsGenuine a rows) frames → All (IsMail a n i) frames
+mail_of w t a rows n i frames long names genuine = λ k d l.
+    let one = genuine k d l in
+    record {
+      from = subst (λ z. (get_or frames k d).name.from < z) long (from_in rows _ _ one.first one.past (cases_lt _ _));
+      to = frame_to i frames (All-same (IsTo i) _ _ names (to_waiting w i t)) k d l;
+      spells = one.spells;
+    }
+
+-- a genuine frame is the message of the run in rounds
+pub said_of : (start : ℕ → ℕ) (v : Log) (f : Frame) → IsFaithful start v → IsGenuine (algorithm_of v.program v.setup) v.rows f → IsSaid start v f
+said_of start v f is g =
+    let low = g.first in
+    let past = g.past in
+    let from = subst (λ z. f.name.from < z) is.rowed (from_in v.rows f.name.from f.name.round low past (cases_lt _ _)) in
+    let own = is.stated f.name.from (f.name.round - 1) from (omega arith) in
+    record {
+      state = sym g.own ∙ own;
+      message = ap (sent_under (algorithm_of v.program v.setup) f.name) (sym own ∙ g.own) ∙ g.spells.says;
+    }
+
+pub all_said : (start : ℕ → ℕ) (v : Log) (frames : List Frame) → IsFaithful start v → All (IsGenuine (algorithm_of v.program v.setup) v.rows) frames → All (IsSaid start v) frames
+all_said start v frames is h = λ k d l. said_of start v (get_or frames k d) is (h k d l)
+
+-- the frames that wait in a stock of a run's
+module _ {P : Type 0} {s v : Recorded P} {bs : List Stock} (start : P → ℕ → ℕ) (e : s ≡ v) (f : Fits (start s.plan) s.log bs) (is : IsFaithful (start s.plan) s.log) where
+  there : (i : ℕ) (b : Stock) (frames : List Frame) → i < s.log.setup.nodes → b ≡ get_or bs i b → frames ≡ b.waiting → frames ≡ (stock_at bs i).waiting
+  there i b frames l h d = d ∙ ap (λ (x : Stock). x.waiting) (sym (stock_read bs i b (let n = f.sized in omega arith) h))
+
+  genuine_there : (i : ℕ) (b : Stock) (frames : List Frame) → i < s.log.setup.nodes → b ≡ get_or bs i b → frames ≡ b.waiting → All (IsGenuine (algorithm_of s.log.program s.log.setup) s.log.rows) frames
+  genuine_there i b frames l h d = All-same (IsGenuine (algorithm_of s.log.program s.log.setup) s.log.rows) frames _ (there i b frames l h d) (f.genuine i l)
+
+  -- are what the run in rounds says
+  pub waiting_said : (i : ℕ) (b : Stock) (frames : List Frame) → i < v.log.setup.nodes → b ≡ get_or bs i b → frames ≡ b.waiting → All (IsSaid (start v.plan) v.log) frames
+  waiting_said i b frames l h d =
+      let own : i < s.log.setup.nodes = subst (λ (z : Recorded P). i < z.log.setup.nodes) (sym e) l in
+      subst (λ (z : Recorded P). All (IsSaid (start z.plan) z.log) frames) e (all_said (start s.plan) s.log frames is (genuine_there i b frames own h d))
+
+  -- and are for the node
+  pub waiting_mail : (i : ℕ) (b : Stock) (frames : List Frame) → i < v.log.setup.nodes → b ≡ get_or bs i b → frames ≡ b.waiting → All (IsMail (algorithm_of v.log.program v.log.setup) v.log.setup.nodes i) frames
+  waiting_mail i b frames l h d =
+      let own : i < s.log.setup.nodes = subst (λ (z : Recorded P). i < z.log.setup.nodes) (sym e) l in
+      subst (λ (z : Recorded P). All (IsMail (algorithm_of z.log.program z.log.setup) z.log.setup.nodes i) frames) e
+      (mail_of (world_of (start s.plan) s.log) (history s.log) (algorithm_of s.log.program s.log.setup) s.log.rows s.log.setup.nodes i frames is.rowed
+      (ap names_in (there i b frames own h d) ∙ f.waiting i own) (genuine_there i b frames own h d))

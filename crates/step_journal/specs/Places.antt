@@ -1,0 +1,55 @@
+-- Places in the list of events, the oldest first and counted from 0.
+use Rattle.std.specs.Prelude.{◌≡◌, ℕ, ◌+◌, ◌<◌, ◌≤◌, List, Some, count_by, slice_get, take}
+use Rattle.step_machine.specs.declared.event.Event.{Event}
+use Rattle.step_machine.specs.declared.event.Event.TheVariants.{Step, Release}
+use Rattle.step_machine.specs.declared.event.Name.{Name}
+use Rattle.step_journal.specs.Trace.{is_step}
+use Rattle.step_journal.specs.World.{World, nodes_of}
+
+-- how many steps of node i stand before a place
+abbrev pub steps_before : List Event → ℕ → ℕ → ℕ
+steps_before trace i place = count_by (is_step i) (take place trace)
+
+-- node i takes its step number c at this place
+pub record IsStepAt (trace : List Event) (i c place : ℕ) : Type 0 where
+  pub there : slice_get trace place ≡ Some (Step i)
+  pub number : steps_before trace i place ≡ c
+
+-- the message is released at this place
+abbrev pub IsReleaseAt : List Event → Name → ℕ → Type 0
+IsReleaseAt trace n place = slice_get trace place ≡ Some (Release n)
+
+-- step number c is a receive of round r
+pub record IsReceiveOf (w : World) (r c : ℕ) : Type 0 where
+  pub first : 1 ≤ r
+  pub last : r ≤ w.rounds
+  pub after_sends : w.start r + nodes_of w ≤ c
+  pub before_end : c < w.start (r + 1)
+
+-- node i takes a receive step at this place
+pub record IsReceiveAt (w : World) (trace : List Event) (i place : ℕ) : Type 0 where
+  pub round : ℕ
+  pub step : ℕ
+  pub there : IsStepAt trace i step place
+  pub receives : IsReceiveOf w round step
+
+-- the first place of its kind after another
+pub record IsFirstAfter (Is : ℕ → Type 0) (before place : ℕ) : Type 0 where
+  pub later : before < place
+  pub there : Is place
+  pub none : (k : ℕ) → before < k → k < place → ¬ Is k
+
+-- the sender takes the message's slot at this place
+abbrev pub IsSlotAt : World → List Event → Name → ℕ → Type 0
+IsSlotAt w trace n place = IsStepAt trace n.from (w.start n.round + n.to) place
+
+-- the message's slot, then the first release of it after that, then the receiver's first receive after that; and this is in the message's round
+pub record IsCarried (w : World) (trace : List Event) (n : Name) : Type 0 where
+  pub a : ℕ
+  pub b : ℕ
+  pub c : ℕ
+  pub slot : IsSlotAt w trace n a
+  pub release : IsFirstAfter (IsReleaseAt trace n) a b
+  pub receive : IsFirstAfter (IsReceiveAt w trace n.to) b c
+  pub from_start : w.start n.round ≤ steps_before trace n.to c
+  pub before_end : steps_before trace n.to c < w.start (n.round + 1)
