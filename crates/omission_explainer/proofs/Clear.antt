@@ -1,5 +1,5 @@
 -- Where correct nodes step in lockstep and the bound on the delay holds, no closed round from the clear round on omits a message between them.
-use Rattle.std.proofs.Common.{◌≡◌, ℕ, zero, suc, ◌+◌, ◌-◌, ◌<◌, ◌≤◌, Bool, true, false, not, ◌&&◌, List, [], ◌∷◌, length, Option, None, Some, sym, subst, refl, ap, ◌∙◌, arith, ◌⊎◌, inl, inr}
+use Rattle.std.proofs.Common.{◌≡◌, ℕ, zero, suc, ◌+◌, ◌-◌, ◌<◌, ◌≤◌, Bool, true, false, not, ◌&&◌, List, [], ◌∷◌, length, Option, None, Some, sym, subst, refl, ap, ◌∙◌, arith}
 use Rattle.std.specs.Prelude.{IfSome, is_some, nat_lt}
 use Rattle.std.proofs.lemmas.Bool.{both_ways, and_from, and_parts, and_right, lt-ltb, ltb-true}
 use Rattle.round_lang.specs.Sets.{is_in}
@@ -17,12 +17,12 @@ use Rattle.step_journal.proofs.Plans.{last_is_receive, lies_within, start_le}
 use Rattle.step_journal.proofs.Reading.{nodes_are}
 use Rattle.step_journal.proofs.Starts.{plan_is}
 use Rattle.omission_explainer.specs.Printed.{is_omitted}
-use Rattle.omission_explainer.specs.Reported.{carried_in, omitted_in, sends_in, stands_in}
+use Rattle.omission_explainer.specs.Reported.{carried_in, sends_in, stands_in}
 use Rattle.omission_explainer.specs.Verdict.{AreNodes, HearsFrom}
 use Rattle.omission_explainer.proofs.Delays.{ReleasedBetween, sent_at}
-use Rattle.omission_explainer.proofs.Moments.{StepAt, first_least, is_released, released_it, step_at, steps_up_to}
+use Rattle.omission_explainer.proofs.Moments.{StepAt, first_least, is_released, step_at, steps_up_to}
 use Rattle.omission_explainer.proofs.Parts.{is_in-set_of}
-use Rattle.omission_explainer.proofs.Passes.{IsBoundTo, IsPacedTo, SpokenAt}
+use Rattle.omission_explainer.proofs.Passes.{IsBoundTo, IsPacedTo}
 
 -- an event of a moment is an event of its history
 at_through : (a : List Event) (e : Event) (c : List Event) (f : Event) (t : List Event) → At a e c → At c f t → At a e t

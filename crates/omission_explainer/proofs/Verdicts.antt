@@ -1,9 +1,8 @@
 -- Lockstep and the delay bound by moments are those by places in the trace.
-use Rattle.std.proofs.Common.{◌≡◌, ℕ, suc, ◌+◌, ◌-◌, ◌<◌, ◌≤◌, ◌↔◌, true, List, length, Some, sym, subst, refl, ap, ◌∙◌, arith}
+use Rattle.std.proofs.Common.{◌≡◌, ℕ, suc, ◌+◌, ◌-◌, ◌↔◌, List, length, Some, sym, refl, ap, ◌∙◌, arith}
 use Rattle.std.specs.Prelude.{is_some, reverse}
 use Rattle.std.specs.List.{slice_get}
 use Rattle.std.proofs.lemmas.List.{reverse-reverse}
-use Rattle.round_lang.specs.Sets.{is_in}
 use Rattle.step_machine.specs.declared.event.Event.{Event}
 use Rattle.step_machine.specs.declared.event.Event.TheVariants.{Step, Release}
 use Rattle.step_machine.specs.declared.event.Name.{Name}
@@ -12,10 +11,9 @@ use Rattle.step_journal.specs.History.{message, state}
 use Rattle.step_journal.specs.Log.{Log, history, world_of}
 use Rattle.step_journal.specs.Places.{steps_before}
 use Rattle.step_journal.specs.Trace.{steps}
-use Rattle.step_journal.specs.World.{World, is_receive}
+use Rattle.step_journal.specs.World.{is_receive}
 use Rattle.step_journal.proofs.Moments.{At, at_place, at_steps, place_at}
 use Rattle.omission_explainer.specs.Verdict.{AreNodes, IsDelayBound, IsLockstep, IsSentAt}
-use Rattle.omission_explainer.proofs.Delays.{ReleasedBetween}
 use Rattle.omission_explainer.proofs.Passes.{IsBoundTo, IsPacedTo, SpokenAt}
 
 -- the moment of a place
