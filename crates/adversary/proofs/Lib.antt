@@ -5,7 +5,6 @@ pub mod Lines
 pub mod Digits
 pub mod Split
 pub mod Written
-pub mod Frames
 pub mod Closed
 pub mod Starting
 pub mod Runs

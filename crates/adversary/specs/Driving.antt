@@ -40,13 +40,6 @@ abbrev pub ClosedAreDue : (ℕ → ℕ) → Log → Type 0
 ClosedAreDue start v =
     (i r : ℕ) → i < v.setup.nodes → 0 < r → r ≤ v.setup.rounds → (r < round_of v i) ↔ (start (r + 1) ≤ count_of v i)
 
--- all but the frames held and the next state is as it was
-pub record IsSameBut (old new : NodeView) : Type 0 where
-  pub program : new.program ≡ old.program
-  pub setup : new.setup ≡ old.setup
-  pub me : new.me ≡ old.me
-  pub round : new.round ≡ old.round
-
 -- the nodes are those of the run, each in its round
 pub record AreNodesOf (v : Log) (nodes : List NodeView) : Type 0 where
   pub sized : length nodes ≡ v.setup.nodes

@@ -3,9 +3,10 @@ ghost use Rattle.std.specs.Prelude.{◌≡◌, ◌+◌, ◌<◌, ◌≤◌, ◌�
 ghost use Rattle.round_meaning.specs.Setups.{IsLawful, IsSized, max_rounds};
 ghost use Rattle.step_journal.specs.Log.{IsName, happened, opened, round_of};
 ghost use Rattle.step_journal.specs.Stock.{IsMail};
+ghost use Rattle.step_journal.specs.Taking.{IsSameBut};
 ghost use Rattle.step_machine.specs.Nodes.{algorithm_in};
 ghost use Rattle.step_machine.specs.declared.event.Event.TheVariants as event;
-ghost use Rattle.adversary.specs.Driving.{AreNodesOf, ClosedAreDue, GoesOn, IsFirstUnknown, IsKnown, IsNodeOf, IsSameBut, IsSettled, IsUnknownAt};
+ghost use Rattle.adversary.specs.Driving.{AreNodesOf, ClosedAreDue, GoesOn, IsFirstUnknown, IsKnown, IsNodeOf, IsSettled, IsUnknownAt};
 
 use crate::fault::RunFault;
 use round_check::Checked;

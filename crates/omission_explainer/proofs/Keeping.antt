@@ -11,7 +11,7 @@ use Rattle.step_journal.specs.Log.{Log, world_of}
 use Rattle.step_journal.specs.Trace.{steps}
 use Rattle.step_journal.specs.World.{World, IsPlan, nodes_of}
 use Rattle.step_journal.proofs.Keeps.{round_same}
-use Rattle.omission_explainer.specs.Lateness.{HasReceive, IsNoSlot, IsSlotAt, KeepsBound, open_until}
+use Rattle.omission_explainer.specs.Lateness.{HasReceive, IsNoOwnSlot, IsOwnSlot, KeepsBound, open_until}
 use Rattle.omission_explainer.specs.Verdict.{AreNodes}
 use Rattle.omission_explainer.proofs.Slots.{sends_small}
 
@@ -26,11 +26,11 @@ module _ (w : World) (t : List Event) (correct delta gst : ℕ) (counts : List �
   pub keeps_early : get_or counts j 0 < gst → KeepsBound w t correct delta gst counts j
   keeps_early early i q here of_round at late = absurd (omega arith)
 
-  pub keeps_no_slot : IsNoSlot w (get_or counts j 0) → KeepsBound w t correct delta gst counts j
+  pub keeps_no_slot : IsNoOwnSlot w (get_or counts j 0) → KeepsBound w t correct delta gst counts j
   keeps_no_slot none i q here of_round at late = absurd (none i q (within i here) of_round at)
 
   -- a step is one slot
-  one_slot : (n : Name) (i q : ℕ) → IsSlotAt w j (get_or counts j 0) n → i < nodes_of w → get_or counts j 0 ≡ w.start (suc q) + i → (n.round ≡ suc q) × (n.to ≡ i)
+  one_slot : (n : Name) (i q : ℕ) → IsOwnSlot w j (get_or counts j 0) n → i < nodes_of w → get_or counts j 0 ≡ w.start (suc q) + i → (n.round ≡ suc q) × (n.to ≡ i)
   one_slot n i q s few at =
       let small = s.to in
       let is = s.slot in
@@ -39,7 +39,7 @@ module _ (w : World) (t : List Event) (correct delta gst : ℕ) (counts : List �
       let same = ap w.start round in
       (round, omega arith)
 
-  pub keeps_other : (n : Name) → IsSlotAt w j (get_or counts j 0) n → (is_in correct n.to ≡ true → ⊥) → KeepsBound w t correct delta gst counts j
+  pub keeps_other : (n : Name) → IsOwnSlot w j (get_or counts j 0) n → (is_in correct n.to ≡ true → ⊥) → KeepsBound w t correct delta gst counts j
   keeps_other n s out i q here of_round at late has =
       let one = one_slot n i q s (within i here) at in
       out (ap (is_in correct) one.1 ∙ here)
@@ -58,7 +58,7 @@ module _ (w : World) (t : List Event) (correct delta gst : ℕ) (counts : List �
       let e : n.round - 1 ≡ q = omega arith in
       rw (from, to, e) at has
 
-  pub keeps_at : (n : Name) (b : Bool) → IsSlotAt w j (get_or counts j 0) n → is_in correct n.to ≡ true → gst ≤ get_or counts j 0 → (b ≡ true) ↔ Late n → (not b ≡ true) ↔ KeepsBound w t correct delta gst counts j
+  pub keeps_at : (n : Name) (b : Bool) → IsOwnSlot w j (get_or counts j 0) n → is_in correct n.to ≡ true → gst ≤ get_or counts j 0 → (b ≡ true) ↔ Late n → (not b ≡ true) ↔ KeepsBound w t correct delta gst counts j
   keeps_at n b s here late both = (
     λ h i q member of_round at due has. (let one = one_slot n i q s (within i member) at in both_ways b (not_is b h) (both.1 (late_at n i q s.from one.1 one.0 has))),
     λ keeps. is_not b (λ on.
@@ -78,7 +78,7 @@ module _ (w : World) (t : List Event) (correct delta gst : ℕ) (counts : List �
       is_not false h = refl
 
 -- a slot's step number with a delay fits 64 bits
-pub slot_small : (start receives : ℕ → ℕ) (nodes : ℕ) (v : Log) → PlanLaws nodes receives start → nodes ≡ v.setup.nodes → v.setup.rounds ≤ 4096 → (j x : ℕ) (n : Name) → IsSlotAt (world_of start v) j x n → n.to < nodes → x < 2 ^ 32
+pub slot_small : (start receives : ℕ → ℕ) (nodes : ℕ) (v : Log) → PlanLaws nodes receives start → nodes ≡ v.setup.nodes → v.setup.rounds ≤ 4096 → (j x : ℕ) (n : Name) → IsOwnSlot (world_of start v) j x n → n.to < nodes → x < 2 ^ 32
 slot_small start receives nodes v laws sized few j x n s to =
     let first = s.first in
     let last = s.last in

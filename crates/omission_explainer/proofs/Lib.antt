@@ -8,3 +8,5 @@ pub mod Passes
 pub mod Slots
 pub mod Keeping
 pub mod PrintedRounds
+pub mod Verdicts
+pub mod Clear

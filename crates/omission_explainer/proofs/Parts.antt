@@ -129,7 +129,7 @@ sets_part n carried sends stands few =
     }
 
 -- functions that agree below n give one list
-filter_map_same : {Y : Type 0} (f g : ℕ → Option Y) (a n : ℕ) → ((j : ℕ) → j < a + n → f j ≡ g j) → filter_map f (range_with_len a n) ≡ filter_map g (range_with_len a n)
+pub filter_map_same : {Y : Type 0} (f g : ℕ → Option Y) (a n : ℕ) → ((j : ℕ) → j < a + n → f j ≡ g j) → filter_map f (range_with_len a n) ≡ filter_map g (range_with_len a n)
 filter_map_same f g a zero same = refl
 filter_map_same f g a (suc n) same =
     ap (λ o. cons_option o (filter_map f (range_with_len (a + 1) n))) (same a (omega arith))

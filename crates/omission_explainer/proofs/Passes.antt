@@ -1,17 +1,19 @@
 -- One pass over a trace: the step counts of the correct nodes, and what they tell of each event.
 use Rattle.std.proofs.Common.{◌≡◌, ◌≢◌, ℕ, suc, ◌+◌, ◌<◌, ◌≤◌, ◌↔◌, Bool, true, false, max, List, [], ◌∷◌, length, get_or, set, replicate, sym, subst, refl, ap, ◌∙◌, arith, ◌⊎◌, inl, inr}
+use Rattle.std.specs.Prelude.{is_some}
 use Rattle.std.proofs.lemmas.Bool.{both_ways, cases_eq, cases_lt, eq-eqb, ne_eqb}
 use Rattle.std.proofs.lemmas.List.{get_or-replicate, get_or_past, length-replicate, get_or-set_same, get_or-set_other, length-set}
 use Rattle.round_lang.specs.Sets.{is_in}
 use Rattle.step_machine.specs.declared.event.Event.{Event}
 use Rattle.step_machine.specs.declared.event.Event.TheVariants.{Step}
-use Rattle.step_journal.specs.History.{mark_of}
+use Rattle.step_journal.specs.History.{mark_of, message}
 use Rattle.step_journal.specs.Trace.{is_step, steps}
 use Rattle.step_journal.specs.World.{World, IsPlan, is_receive, nodes_of}
+use Rattle.step_journal.proofs.Moments.{At, Newest, Older}
 use Rattle.step_journal.proofs.Places.{steps_at, steps_other, steps_le}
 use Rattle.omission_explainer.specs.Lateness.{HasReceive, KeepsBound, KeepsPace, open_until}
-use Rattle.omission_explainer.specs.Verdict.{AreNodes, IsLockstep, IsReleasedBetween, IsSpoken, Stands, Newest, Older}
-use Rattle.omission_explainer.proofs.Delays.{in_time, not_late}
+use Rattle.omission_explainer.specs.Verdict.{AreNodes}
+use Rattle.omission_explainer.proofs.Delays.{ReleasedBetween, in_time, not_late}
 use Rattle.omission_explainer.proofs.Moments.{newest_or_older}
 
 -- the counts of the correct nodes are their steps so far
@@ -53,19 +55,24 @@ count_below correct k p counts here a = omega (arith, a.counted k here, steps_le
 
 -- ---- lockstep
 
+-- lockstep up to a moment
+abbrev pub IsPacedTo : ℕ → List Event → Type 0
+IsPacedTo correct p =
+    (i j : ℕ) (m : List Event) → is_in correct i ≡ true → is_in correct j ≡ true → At m (Step i) p → steps i m ≤ steps j m
+
 -- what isn't a step of a correct node keeps it
-pub lockstep_other : (correct : ℕ) (p : List Event) (e : Event) → IsOther correct e → IsLockstep correct p ↔ IsLockstep correct (e ∷ p)
+pub lockstep_other : (correct : ℕ) (p : List Event) (e : Event) → IsOther correct e → IsPacedTo correct p ↔ IsPacedTo correct (e ∷ p)
 lockstep_other correct p e other = (
   λ h i j m x y s. by h i j m x y (newest_or_older (Step i) e m p s),
   λ h i j m x y s. h i j m x y (Older e p s),
 )
   where
-    by : IsLockstep correct p → (i j : ℕ) (m : List Event) → is_in correct i ≡ true → is_in correct j ≡ true → ((Step i ≡ e) × (m ≡ p)) ⊎ Stands (Step i) m p → steps i m ≤ steps j m
+    by : IsPacedTo correct p → (i j : ℕ) (m : List Event) → is_in correct i ≡ true → is_in correct j ≡ true → ((Step i ≡ e) × (m ≡ p)) ⊎ At m (Step i) p → steps i m ≤ steps j m
     by h i j m x y (inl (own, now)) = let on : is_step i e ≡ true = ap (is_step i) (sym own) ∙ eq-eqb i i refl in let off = other i x in absurd cc
     by h i j m x y (inr s) = h i j m x y s
 
 -- a step of a correct node keeps it where the node isn't ahead of another
-pub lockstep_step : (correct k : ℕ) (p : List Event) (counts : List ℕ) → is_in correct k ≡ true → Tallied correct p counts → (IsLockstep correct p × KeepsPace correct counts k) ↔ IsLockstep correct (Step k ∷ p)
+pub lockstep_step : (correct k : ℕ) (p : List Event) (counts : List ℕ) → is_in correct k ≡ true → Tallied correct p counts → (IsPacedTo correct p × KeepsPace correct counts k) ↔ IsPacedTo correct (Step k ∷ p)
 lockstep_step correct k p counts here a = (
   λ h i j m x y s. by h i j m x y (newest_or_older (Step i) (Step k) m p s),
   λ h. (
@@ -74,7 +81,7 @@ lockstep_step correct k p counts here a = (
   ),
 )
   where
-    by : (IsLockstep correct p × KeepsPace correct counts k) → (i j : ℕ) (m : List Event) → is_in correct i ≡ true → is_in correct j ≡ true → ((Step i ≡ Step k) × (m ≡ p)) ⊎ Stands (Step i) m p → steps i m ≤ steps j m
+    by : (IsPacedTo correct p × KeepsPace correct counts k) → (i j : ℕ) (m : List Event) → is_in correct i ≡ true → is_in correct j ≡ true → ((Step i ≡ Step k) × (m ≡ p)) ⊎ At m (Step i) p → steps i m ≤ steps j m
     by h i j m x y (inl (own, now)) =
         let node : i ≡ k = cc in
         let l : steps k p ≤ steps j p = let n = h.1 j y in omega (arith, a.counted k here, a.counted j y) in
@@ -83,14 +90,20 @@ lockstep_step correct k p counts here a = (
 
 -- ---- the bound
 
+-- node j's step at the moment a is its slot to node i in round q + 1, and it has a message for it
+pub record SpokenAt (w : World) (t : List Event) (j i q : ℕ) (a : List Event) : Type 0 where
+  pub of_round : q < w.rounds
+  pub slot : steps j a ≡ w.start (suc q) + i
+  pub spoken : is_some (message w t q j i) ≡ true
+
 -- the delay bound for what was sent up to a moment
 abbrev pub IsBoundTo : World → List Event → ℕ → ℕ → ℕ → List Event → Type 0
 IsBoundTo w t correct delta gst p =
     (j i q : ℕ) (a c : List Event)
     → is_in correct j ≡ true → is_in correct i ≡ true
-    → Stands (Step j) a p → IsSpoken w t j i q a → gst ≤ steps j a
-    → Stands (Step i) c t → is_receive w (steps i c) ≡ true → steps j a + delta ≤ steps i c → length a < length c
-    → IsReleasedBetween t j i (suc q) a c
+    → At a (Step j) p → SpokenAt w t j i q a → gst ≤ steps j a
+    → At c (Step i) t → is_receive w (steps i c) ≡ true → steps j a + delta ≤ steps i c → length a < length c
+    → ReleasedBetween t j i (suc q) a c
 
 pub bound_none : (w : World) (t : List Event) (correct delta gst : ℕ) → IsBoundTo w t correct delta gst []
 bound_none w t correct delta gst j i q a c x y s = elim s [ ]
@@ -101,11 +114,11 @@ bound_other w t correct delta gst p e other = (
   λ h j i q a c x y s. h j i q a c x y (Older e p s),
 )
   where
-    by : IsBoundTo w t correct delta gst p → (j i q : ℕ) (a c : List Event) → is_in correct j ≡ true → is_in correct i ≡ true → ((Step j ≡ e) × (a ≡ p)) ⊎ Stands (Step j) a p → IsSpoken w t j i q a → gst ≤ steps j a → Stands (Step i) c t → is_receive w (steps i c) ≡ true → steps j a + delta ≤ steps i c → length a < length c → IsReleasedBetween t j i (suc q) a c
+    by : IsBoundTo w t correct delta gst p → (j i q : ℕ) (a c : List Event) → is_in correct j ≡ true → is_in correct i ≡ true → ((Step j ≡ e) × (a ≡ p)) ⊎ At a (Step j) p → SpokenAt w t j i q a → gst ≤ steps j a → At c (Step i) t → is_receive w (steps i c) ≡ true → steps j a + delta ≤ steps i c → length a < length c → ReleasedBetween t j i (suc q) a c
     by h j i q a c x y (inl (own, now)) = let on : is_step j e ≡ true = ap (is_step j) (sym own) ∙ eq-eqb j j refl in let off = other j x in absurd cc
     by h j i q a c x y (inr s) = h j i q a c x y s
 
-module _ (w : World) (t : List Event) (correct delta gst k : ℕ) (p : List Event) (counts : List ℕ) (plan : IsPlan w) (within : AreNodes (nodes_of w) correct) (here : is_in correct k ≡ true) (stands : Stands (Step k) p t) (a : Tallied correct p counts) where
+module _ (w : World) (t : List Event) (correct delta gst k : ℕ) (p : List Event) (counts : List ℕ) (plan : IsPlan w) (within : AreNodes (nodes_of w) correct) (here : is_in correct k ≡ true) (stands : At p (Step k) t) (a : Tallied correct p counts) where
   -- the next step of node k keeps the bound
   keeps_of : IsBoundTo w t correct delta gst (Step k ∷ p) → KeepsBound w t correct delta gst counts k
   keeps_of h i q y of_round slot late has =
@@ -117,7 +130,7 @@ module _ (w : World) (t : List Event) (correct delta gst k : ℕ) (p : List Even
       (subst (λ z. HasReceive w (max (z + delta) (steps i p)) (open_until (steps i t) (mark_of w t k i q))) n
       (subst (λ z. HasReceive w (max (get_or counts k 0 + delta) z) (open_until (steps i t) (mark_of w t k i q))) m has))
 
-  bound_of : KeepsBound w t correct delta gst counts k → (i q : ℕ) (c : List Event) → is_in correct i ≡ true → IsSpoken w t k i q p → gst ≤ steps k p → Stands (Step i) c t → is_receive w (steps i c) ≡ true → steps k p + delta ≤ steps i c → length p < length c → IsReleasedBetween t k i (suc q) p c
+  bound_of : KeepsBound w t correct delta gst counts k → (i q : ℕ) (c : List Event) → is_in correct i ≡ true → SpokenAt w t k i q p → gst ≤ steps k p → At c (Step i) t → is_receive w (steps i c) ≡ true → steps k p + delta ≤ steps i c → length p < length c → ReleasedBetween t k i (suc q) p c
   bound_of h i q c y spoken late s r d l =
       let n = a.counted k here in
       let m = a.counted i y in
@@ -132,7 +145,7 @@ module _ (w : World) (t : List Event) (correct delta gst k : ℕ) (p : List Even
     λ h. (λ j i q b c x y s. h j i q b c x y (Older (Step k) p s), keeps_of h),
   )
     where
-      by : (IsBoundTo w t correct delta gst p × KeepsBound w t correct delta gst counts k) → (j i q : ℕ) (b c : List Event) → is_in correct j ≡ true → is_in correct i ≡ true → ((Step j ≡ Step k) × (b ≡ p)) ⊎ Stands (Step j) b p → IsSpoken w t j i q b → gst ≤ steps j b → Stands (Step i) c t → is_receive w (steps i c) ≡ true → steps j b + delta ≤ steps i c → length b < length c → IsReleasedBetween t j i (suc q) b c
+      by : (IsBoundTo w t correct delta gst p × KeepsBound w t correct delta gst counts k) → (j i q : ℕ) (b c : List Event) → is_in correct j ≡ true → is_in correct i ≡ true → ((Step j ≡ Step k) × (b ≡ p)) ⊎ At b (Step j) p → SpokenAt w t j i q b → gst ≤ steps j b → At c (Step i) t → is_receive w (steps i c) ≡ true → steps j b + delta ≤ steps i c → length b < length c → ReleasedBetween t j i (suc q) b c
       by h j i q b c x y (inl (own, now)) =
           let node : j ≡ k = cc in
           rw (node, now) (bound_of h.1 i q c y)
@@ -143,7 +156,7 @@ module _ (w : World) (t : List Event) (correct delta gst k : ℕ) (p : List Even
 -- what a pass has found up to a moment
 pub record Passed (w : World) (t : List Event) (correct delta gst : ℕ) (p : List Event) (counts : List ℕ) (lockstep bound : Bool) : Type 0 where
   pub tallied : Tallied correct p counts
-  pub paced : (lockstep ≡ true) ↔ IsLockstep correct p
+  pub paced : (lockstep ≡ true) ↔ IsPacedTo correct p
   pub bounded : (bound ≡ true) ↔ IsBoundTo w t correct delta gst p
 
 zeros : (n k : ℕ) → (k < n) ⊎ (n ≤ k) → get_or (replicate {A = ℕ} n 0) k 0 ≡ 0
@@ -161,7 +174,7 @@ passed_none w t correct delta gst = record {
   bounded = (λ h. bound_none w t correct delta gst, λ h. refl);
 }
 
-through : {A B C : Type 0} → A ↔ B → B ↔ C → A ↔ C
+pub through : {A B C : Type 0} → A ↔ B → B ↔ C → A ↔ C
 through f g = (λ a. g.0 (f.0 a), λ c. f.1 (g.1 c))
 
 beside : {A B C : Type 0} → A ↔ B → (A × C) ↔ (B × C)
@@ -174,7 +187,7 @@ passed_other w t correct delta gst p counts lockstep bound e other a = record {
   bounded = through a.bounded (bound_other w t correct delta gst p e other);
 }
 
-pub passed_step : (w : World) (t : List Event) (correct delta gst k : ℕ) (p : List Event) (counts : List ℕ) (lockstep bound lockstep2 bound2 : Bool) → IsPlan w → AreNodes (nodes_of w) correct → nodes_of w ≤ 16 → is_in correct k ≡ true → Stands (Step k) p t → (lockstep2 ≡ true) ↔ ((lockstep ≡ true) × KeepsPace correct counts k) → (bound2 ≡ true) ↔ ((bound ≡ true) × KeepsBound w t correct delta gst counts k) → Passed w t correct delta gst p counts lockstep bound → Passed w t correct delta gst (Step k ∷ p) (set counts k (get_or counts k 0 + 1)) lockstep2 bound2
+pub passed_step : (w : World) (t : List Event) (correct delta gst k : ℕ) (p : List Event) (counts : List ℕ) (lockstep bound lockstep2 bound2 : Bool) → IsPlan w → AreNodes (nodes_of w) correct → nodes_of w ≤ 16 → is_in correct k ≡ true → At p (Step k) t → (lockstep2 ≡ true) ↔ ((lockstep ≡ true) × KeepsPace correct counts k) → (bound2 ≡ true) ↔ ((bound ≡ true) × KeepsBound w t correct delta gst counts k) → Passed w t correct delta gst p counts lockstep bound → Passed w t correct delta gst (Step k ∷ p) (set counts k (get_or counts k 0 + 1)) lockstep2 bound2
 passed_step w t correct delta gst k p counts lockstep bound lockstep2 bound2 plan within few here stands f g a =
     let small = within k here in
     record {

@@ -13,14 +13,14 @@ use Rattle.step_journal.specs.Log.{Log, IsFaithful, count_of, history, round_of,
 use Rattle.step_journal.specs.Trace.{carried, sent}
 use Rattle.step_journal.specs.World.{IsPlan, nodes_of}
 use Rattle.step_journal.proofs.Carried.{SentBy, NotYet, Once, carried_sent, sent_by}
-use Rattle.step_journal.proofs.Kept.{end_same, inbox_same}
+use Rattle.step_journal.proofs.Kept.{end_same}
 use Rattle.step_journal.proofs.Plans.{start_le}
 use Rattle.step_journal.proofs.Reading.{nodes_are}
 use Rattle.omission_explainer.specs.InRounds.{IsOfRounds, printed_omits, printed_omitted}
 use Rattle.omission_explainer.specs.Printed.{is_omitted}
 use Rattle.omission_explainer.specs.Reported.{IsReported, carried_in, closed_below, closed_rounds, is_closed, omitted_in, place, sends_in, stands_in}
 use Rattle.omission_explainer.specs.Rows.{ClosedRound}
-use Rattle.omission_explainer.proofs.Parts.{is_in-set_of}
+use Rattle.omission_explainer.proofs.Parts.{filter_map_same, is_in-set_of}
 
 -- ---- members of lists
 
@@ -152,10 +152,10 @@ module _ {start : ℕ → ℕ} {v : Log} (plan : IsPlan (world_of start v)) (fai
       let me = same_run small rows printed q i node (omega arith) in
       let set = printed (suc q) i (omega arith) node closed in
       end_same w (suc q) i _ _ _ _
-      (inbox_same
+      (filter_map_same
       (λ j. if printed_omits rows i (suc q) j then None else received j (w.algorithm.send (suc q) (rounds w.algorithm (printed_omits rows) q j) j i))
       (λ j. if not (carried w t i (suc q) j) then None else received j (w.algorithm.send (suc q) (state w t q j) j i))
-      (nodes_of w)
+      0 (nodes_of w)
       (λ j l.
       let ours : j < v.setup.nodes = omega arith in
       let below : nat_lt j v.setup.nodes ≡ true = grind (arith, nat_tests) in

@@ -10,7 +10,7 @@ use Rattle.step_journal.proofs.Plans.{is_receive_at, start_le}
 use Rattle.step_journal.proofs.Reading.{nodes_are}
 use Rattle.step_journal.proofs.Starts.{plan_is}
 use Rattle.step_journal.proofs.WaitsKept.{idle_is_no_receive}
-use Rattle.omission_explainer.specs.Lateness.{HasReceive, IsNoSlot, IsSlotAt}
+use Rattle.omission_explainer.specs.Lateness.{HasReceive, IsNoOwnSlot, IsOwnSlot}
 
 module _ (w : World) (plan : IsPlan w) where
   -- a round that starts before the last one ends isn't after it
@@ -22,7 +22,7 @@ module _ (w : World) (plan : IsPlan w) where
       by (inr within) = within
 
   -- after the last round there is no slot, and no receive
-  pub no_slot_past : (x : ℕ) → w.start (w.rounds + 1) ≤ x → IsNoSlot w x
+  pub no_slot_past : (x : ℕ) → w.start (w.rounds + 1) ≤ x → IsNoOwnSlot w x
   no_slot_past x past i q few of_round at = idle_no_slot w plan q i x (omega arith) few past at
 
   pub no_receive_past : (low high : ℕ) → w.start (w.rounds + 1) ≤ low → HasReceive w low high → ⊥
@@ -33,7 +33,7 @@ module _ (w : World) (plan : IsPlan w) where
       cc
 
   -- a receive is no slot
-  pub no_slot_there : (r x : ℕ) → 1 ≤ r → w.start r + nodes_of w ≤ x → x < w.start (r + 1) → IsNoSlot w x
+  pub no_slot_there : (r x : ℕ) → 1 ≤ r → w.start r + nodes_of w ≤ x → x < w.start (r + 1) → IsNoOwnSlot w x
   no_slot_there r x z low high i q few of_round at = receive_no_slot w plan r q i x (omega arith) few low high at
 
   -- of the steps from a slot on, the first receive of the round is the first receive
@@ -97,17 +97,17 @@ module _ (start receives : ℕ → ℕ) (nodes : ℕ) (v : Log) (laws : PlanLaws
       let n = nodes_are start v in
       first_here (world_of start v) run_plan r low high z.0 (round_within (world_of start v) run_plan r low (omega arith) within) (omega arith) upto
 
-  pub none_past : (x : ℕ) → start (v.setup.rounds + 1) ≤ x → IsNoSlot (world_of start v) x
+  pub none_past : (x : ℕ) → start (v.setup.rounds + 1) ≤ x → IsNoOwnSlot (world_of start v) x
   none_past x past = no_slot_past (world_of start v) run_plan x past
 
-  pub none_there : (r x : ℕ) (last : Bool) → IsReceiveSlot nodes start x r last → IsNoSlot (world_of start v) x
+  pub none_there : (r x : ℕ) (last : Bool) → IsReceiveSlot nodes start x r last → IsNoOwnSlot (world_of start v) x
   none_there r x last slot =
       let z = slot.of_round in
       let from = slot.after_sends in
       let n = nodes_are start v in
       no_slot_there (world_of start v) run_plan r x z.0 (omega arith) slot.before_end
 
-  pub slot_is : (r j to x : ℕ) → IsSendSlot nodes start x r to → x < start (v.setup.rounds + 1) → IsSlotAt (world_of start v) j x (record { from = j; to = to; round = r })
+  pub slot_is : (r j to x : ℕ) → IsSendSlot nodes start x r to → x < start (v.setup.rounds + 1) → IsOwnSlot (world_of start v) j x (record { from = j; to = to; round = r })
   slot_is r j to x slot within =
       let z = slot.of_round in
       let at = slot.place in

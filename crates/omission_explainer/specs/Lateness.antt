@@ -34,11 +34,11 @@ abbrev pub KeepsPace : ℕ → List ℕ → ℕ → Type 0
 KeepsPace correct counts i = (j : ℕ) → is_in correct j ≡ true → slice_index counts i ≤ slice_index counts j
 
 -- no slot to a node in a round has this step number
-abbrev pub IsNoSlot : World → ℕ → Type 0
-IsNoSlot w count = (i q : ℕ) → i < nodes_of w → q < w.rounds → count ≢ w.start (suc q) + i
+abbrev pub IsNoOwnSlot : World → ℕ → Type 0
+IsNoOwnSlot w count = (i q : ℕ) → i < nodes_of w → q < w.rounds → count ≢ w.start (suc q) + i
 
 -- it is node j's slot of this message
-pub record IsSlotAt (w : World) (j count : ℕ) (n : Name) : Type 0 where
+pub record IsOwnSlot (w : World) (j count : ℕ) (n : Name) : Type 0 where
   pub from : n.from ≡ j
   pub to : n.to < nodes_of w
   pub first : 0 < n.round

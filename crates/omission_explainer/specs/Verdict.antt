@@ -1,50 +1,46 @@
 -- What a run is judged by: whether its correct nodes step in lockstep, and whether messages between them keep a bound on the delay.
-use Rattle.std.specs.Prelude.{◌≡◌, ℕ, suc, ◌+◌, ◌<◌, ◌≤◌, ◌++◌, Bool, true, false, List, ◌∷◌, length, Option, Some, None, is_some, codes}
+use Rattle.std.specs.Prelude.{◌≡◌, ℕ, ◌+◌, ◌<◌, ◌≤◌, ◌++◌, Bool, true, false, List, Option, Some, None, IsSome, codes}
 use Rattle.std.specs.Fmt.{decimal}
 use Rattle.round_lang.specs.Sets.{is_in}
-use Rattle.step_journal.specs.History.{message}
-use Rattle.step_journal.specs.Trace.{steps}
-use Rattle.step_journal.specs.World.{World, is_receive}
+use Rattle.step_journal.specs.Agreed.{message_in}
+use Rattle.step_journal.specs.Log.{IsName, Log, round_of, world_of}
+use Rattle.step_journal.specs.Places.{IsReleaseAt, IsStepAt, steps_before}
+use Rattle.step_journal.specs.World.{is_receive}
 use Rattle.step_machine.specs.declared.event.Event.{Event}
-use Rattle.step_machine.specs.declared.event.Event.TheVariants.{Step, Release}
+use Rattle.step_machine.specs.declared.event.Name.{Name}
 use Rattle.omission_explainer.specs.declared.judging.Verdict.{Verdict}
-
--- the event e stands in a history at the moment m, which is what went before it
-pub data Stands (e : Event) (m : List Event) : List Event → Type 0 where
-  Newest : Stands e m (e ∷ m)
-  Older : (later : Event) (t : List Event) → Stands e m t → Stands e m (later ∷ t)
+use Rattle.omission_explainer.specs.Reported.{omitted_in}
 
 -- each member of a set is a node
 abbrev pub AreNodes : ℕ → ℕ → Type 0
 AreNodes nodes members = (i : ℕ) → is_in members i ≡ true → i < nodes
 
 -- whenever a correct node takes its step number c, every correct node has taken at least c steps before it
-abbrev pub IsLockstep : ℕ → List Event → Type 0
-IsLockstep correct t =
-    (i j : ℕ) (m : List Event) → is_in correct i ≡ true → is_in correct j ≡ true → Stands (Step i) m t → steps i m ≤ steps j m
+abbrev pub IsLockstep : List Event → ℕ → Type 0
+IsLockstep trace correct =
+    (i j c place : ℕ) → is_in correct i ≡ true → is_in correct j ≡ true → IsStepAt trace i c place → c ≤ steps_before trace j place
 
--- node j's step at the moment a is its slot to node i in round q + 1, and it has a message for it
-pub record IsSpoken (w : World) (t : List Event) (j i q : ℕ) (a : List Event) : Type 0 where
-  pub of_round : q < w.rounds
-  pub slot : steps j a ≡ w.start (suc q) + i
-  pub spoken : is_some (message w t q j i) ≡ true
+-- the message of this name is sent at a place, by its sender's step number s; silence is none
+pub record IsSentAt (start : ℕ → ℕ) (v : Log) (n : Name) (s place : ℕ) : Type 0 where
+  pub name : IsName v.setup n
+  pub slot : s ≡ start n.round + n.to
+  pub there : IsStepAt v.trace n.from s place
+  pub message : IsSome (message_in start v n)
 
--- a release of the message from j to i in round r stands between two moments
-pub record IsReleasedBetween (t : List Event) (j i r : ℕ) (a c : List Event) : Type 0 where
-  pub moment : List Event
-  pub stands : Stands (Release (record { from = j; to = i; round = r })) moment t
-  pub after : length a < length moment
-  pub before : length moment < length c
-
--- each message that a correct node sends to another at its step number gst or later is released before each receive of the other
+-- each message that a correct node sends to another by its step number gst or a later one is released before each receive of the other
 -- that comes after that send and has a step number greater by delta or more
-abbrev pub IsDelayBound : World → List Event → ℕ → ℕ → ℕ → Type 0
-IsDelayBound w t correct delta gst =
-    (j i q : ℕ) (a c : List Event)
-    → is_in correct j ≡ true → is_in correct i ≡ true
-    → Stands (Step j) a t → IsSpoken w t j i q a → gst ≤ steps j a
-    → Stands (Step i) c t → is_receive w (steps i c) ≡ true → steps j a + delta ≤ steps i c → length a < length c
-    → IsReleasedBetween t j i (suc q) a c
+abbrev pub IsDelayBound : (ℕ → ℕ) → Log → ℕ → ℕ → ℕ → Type 0
+IsDelayBound start v correct delta gst =
+    (n : Name) (s a received c : ℕ)
+    → is_in correct n.from ≡ true → is_in correct n.to ≡ true
+    → IsSentAt start v n s a → gst ≤ s
+    → IsStepAt v.trace n.to received c → is_receive (world_of start v) received ≡ true → s + delta ≤ received → a < c
+    → (b : ℕ) × IsReleaseAt v.trace n b × (a < b) × (b < c)
+
+-- from a round on, no closed round of a correct node omits a correct node
+abbrev pub HearsFrom : (ℕ → ℕ) → Log → ℕ → ℕ → Type 0
+HearsFrom start v correct first =
+    (r i j : ℕ) → first ≤ r → r < round_of v i → is_in correct i ≡ true → is_in correct j ≡ true → is_in (omitted_in start v r i) j ≡ false
 
 abbrev pub yes_or_no : Bool → List ℕ
 yes_or_no true = codes "yes"

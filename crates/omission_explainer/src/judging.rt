@@ -1,9 +1,9 @@
 //! Whether a run kept what its plan counts on.
-ghost use Rattle.std.specs.Prelude.{◌≡◌, ◌+◌, ◌<◌, ◌↔◌, IsTrue, MatchOption, Some, length, max};
+ghost use Rattle.std.specs.Prelude.{◌≡◌, ◌+◌, ◌<◌, ◌↔◌, IfSome, IsTrue, MatchOption, Some, length, max};
 ghost use Rattle.slot_plans.specs.Plan.{IsClearRound};
 ghost use Rattle.step_journal.specs.Log.{IsName, count_of, history, mark_in, world_of};
-ghost use Rattle.omission_explainer.specs.Lateness.{HasReceive, IsNoSlot, IsSlotAt, KeepsBound, KeepsPace, open_until};
-ghost use Rattle.omission_explainer.specs.Verdict.{AreNodes, IsDelayBound, IsLockstep, yes_or_no};
+ghost use Rattle.omission_explainer.specs.Lateness.{HasReceive, IsNoOwnSlot, IsOwnSlot, KeepsBound, KeepsPace, open_until};
+ghost use Rattle.omission_explainer.specs.Verdict.{AreNodes, HearsFrom, IsDelayBound, IsLockstep, yes_or_no};
 
 use round_meaning::NodeSet;
 use slot_plans::{MAX_NODES, Plan, Slot};
@@ -47,11 +47,15 @@ const COUNTS: usize = MAX_NODES as usize;
 /// Judges the run of a journal, where the nodes `correct` are correct, for the bound `delta` on the
 /// delay that is to hold from the step number `gst` on.
 ///
+/// Where the run kept lockstep and the bound and a round is clear, no closed round from that one on
+/// omits a message between correct nodes.
+///
 /// It takes no memory. One pass over the trace keeps the step counts of the correct nodes.
 pub fn judge<P: Plan>(journal: &Journal<P>, correct: NodeSet, delta: u32, gst: u32) -> Verdict
     requires { AreNodes journal.now.log.setup.nodes correct.bits }
-    ensures lockstep { IsTrue result.lockstep ↔ IsLockstep correct.bits (history journal.now.log) }
-    ensures bound { IsTrue result.bound ↔ IsDelayBound (world_of (P.start journal.now.plan) journal.now.log) (history journal.now.log) correct.bits delta gst }
+    ensures lockstep { IsTrue result.lockstep ↔ IsLockstep journal.now.log.trace correct.bits }
+    ensures bound { IsTrue result.bound ↔ IsDelayBound (P.start journal.now.plan) journal.now.log correct.bits delta gst }
+    ensures hears { IsTrue result.lockstep → IsTrue result.bound → IfSome result.clear (HearsFrom (P.start journal.now.plan) journal.now.log correct.bits) }
     ensures clear { IsClearRound (P.receives journal.now.plan) (P.start journal.now.plan) delta gst result.clear }
 {
     let book = journal.book();
@@ -138,8 +142,8 @@ fn keeps_bound<P: Plan>(book: &Book<P>, terms: Terms, counts: &[u64], node: u32)
 fn slot_at<P: Plan>(book: &Book<P>, node: u32, count: u64) -> Option<Name>
     requires { node < book.now.log.setup.nodes }
     ensures { MatchOption result
-        (IsNoSlot (world_of (P.start book.now.plan) book.now.log) count)
-        (IsSlotAt (world_of (P.start book.now.plan) book.now.log) node count) }
+        (IsNoOwnSlot (world_of (P.start book.now.plan) book.now.log) count)
+        (IsOwnSlot (world_of (P.start book.now.plan) book.now.log) node count) }
 {
     book.agrees();
     let plan = book.plan();

@@ -1,4 +1,4 @@
-use Rattle.adversary.proofs.Frames.{IsTaking}
+use Rattle.step_journal.proofs.Taking.{IsTaking}
 use Rattle.adversary.proofs.running.take_all.Given as goal
 
 abbrev pub invariant-loop-frame : goal.invariant-loop-frame

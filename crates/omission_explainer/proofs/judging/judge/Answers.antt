@@ -1,17 +1,22 @@
 use Rattle.std.proofs.Common.{◌≡◌, ◌∙◌, ◌↔◌, true, reverse, sym, ap, subst, refl, arith}
 use Rattle.std.proofs.lemmas.Bool.{both_ways}
 use Rattle.std.proofs.lemmas.List.{take_all}
+use Rattle.std.specs.Prelude.{IfSome}
 use Rattle.round_lang.specs.Sets.{is_in}
+use Rattle.slot_plans.specs.Plan.{IsClearRound}
 use Rattle.step_machine.specs.declared.event.Event.TheVariants.{Step, Release}
 use Rattle.step_journal.specs.Log.{history, world_of}
 use Rattle.step_journal.specs.World.{IsPlan, nodes_of}
+use Rattle.step_journal.proofs.Moments.{At}
 use Rattle.step_journal.proofs.Reading.{nodes_are}
 use Rattle.step_journal.proofs.Starts.{plan_is}
 use Rattle.omission_explainer.specs.Lateness.{KeepsBound, KeepsPace}
-use Rattle.omission_explainer.specs.Verdict.{AreNodes, IsDelayBound, Stands}
+use Rattle.omission_explainer.specs.Verdict.{AreNodes, HearsFrom, IsDelayBound, IsLockstep}
+use Rattle.omission_explainer.proofs.Clear.{clear_hears}
 use Rattle.omission_explainer.proofs.Keeping.{has_member, member_of}
-use Rattle.omission_explainer.proofs.Moments.{moment_at, moment_short, next_moment, stands_at}
-use Rattle.omission_explainer.proofs.Passes.{IsBoundTo, IsOther, passed_none, passed_other, passed_step, count_below, other_step, and_then, and_not}
+use Rattle.omission_explainer.proofs.Moments.{moment_at, moment_short, next_moment, at_moment}
+use Rattle.omission_explainer.proofs.Passes.{IsBoundTo, IsOther, IsPacedTo, through, passed_none, passed_other, passed_step, count_below, other_step, and_then, and_not}
+use Rattle.omission_explainer.proofs.Verdicts.{bound_placed, lockstep_placed}
 use Rattle.omission_explainer.proofs.judging.judge.Goals as goal
 use Rattle.omission_explainer.proofs.judging.judge.Goals.{in-Step+then-contains, in-Step+else-contains, in-Release, then-lockstep, else-lockstep, then-bound, else-bound}
 
@@ -56,7 +61,7 @@ loop-event-preserved g c =
           let same : c.book-book.result.now.log.setup.nodes ≡ c.args.journal.now.log.setup.nodes = ap (λ z. z.log.setup.nodes) c.book-book.ensures in
           let within : AreNodes (nodes_of w) correct = λ j h. (let l = c.requires j h in omega arith) in
           let few = c.agrees.ensures.lawful.sized.few_nodes in
-          let stands : Stands (Step k) at t = subst (λ z. Stands (Step k) at (reverse z)) c.trace-event-items.ensures (stands_at xs i _ (Step k) low w'.in-Step.is) in
+          let stands : At at (Step k) t = subst (λ z. At at (Step k) (reverse z)) c.trace-event-items.ensures (at_moment xs i _ (Step k) low w'.in-Step.is) in
           let paced : (w'.if-lockstep.lockstep ≡ true) ↔ ((c.loop-event.lockstep ≡ true) × KeepsPace correct counts k) = elim w'.if-lockstep.branch [
             | then-lockstep u ↦ and_then c.loop-event.lockstep w'.if-lockstep.lockstep u.keeps_pace-lockstep.result u.if-lockstep.true u.lockstep-is u.keeps_pace-lockstep.ensures
             | else-lockstep u ↦ and_not c.loop-event.lockstep w'.if-lockstep.lockstep u.if-lockstep.false u.lockstep-is
@@ -82,13 +87,41 @@ loop-event-preserved g c =
           (passed_other w t correct delta gst at counts c.loop-event.lockstep c.loop-event.bound e other a)
     ]
 
+pub returns-clause-lockstep : goal.returns-clause-lockstep
+returns-clause-lockstep g c =
+    let v = c.book-book.result.now.log in
+    let xs = c.trace-event-items.result.now in
+    let whole : moment_at c.loop-event.event-index xs ≡ history v = ap reverse (take_all c.loop-event.event-index xs c.loop-event-test.false ∙ c.trace-event-items.ensures) in
+    let paced : (c.loop-event.lockstep ≡ true) ↔ IsPacedTo c.args.correct.bits (history v) =
+    subst (λ z. (c.loop-event.lockstep ≡ true) ↔ IsPacedTo c.args.correct.bits z) whole c.loop-event.invariant.paced in
+    subst (λ z. (c.loop-event.lockstep ≡ true) ↔ IsLockstep z.log.trace c.args.correct.bits) c.book-book.ensures
+    (through paced (lockstep_placed v.trace c.args.correct.bits))
+
 pub returns-clause-bound : goal.returns-clause-bound
 returns-clause-bound g c =
     let p = c.book-book.result.now.plan in
     let v = c.book-book.result.now.log in
     let xs = c.trace-event-items.result.now in
     let whole : moment_at c.loop-event.event-index xs ≡ history v = ap reverse (take_all c.loop-event.event-index xs c.loop-event-test.false ∙ c.trace-event-items.ensures) in
-    let found = c.loop-event.invariant.bounded in
-    let bound : (c.loop-event.bound ≡ true) ↔ IsDelayBound (world_of (g.P.Plan.start p) v) (history v) c.args.correct.bits c.args.delta c.args.gst =
-    subst (λ z. (c.loop-event.bound ≡ true) ↔ IsBoundTo (world_of (g.P.Plan.start p) v) (history v) c.args.correct.bits c.args.delta c.args.gst z) whole found in
-    subst (λ z. (c.loop-event.bound ≡ true) ↔ IsDelayBound (world_of (g.P.Plan.start z.plan) z.log) (history z.log) c.args.correct.bits c.args.delta c.args.gst) c.book-book.ensures bound
+    let same : v.setup.nodes ≡ c.args.journal.now.log.setup.nodes = ap (λ z. z.log.setup.nodes) c.book-book.ensures in
+    let within : AreNodes v.setup.nodes c.args.correct.bits = λ j h. (let l = c.requires j h in omega arith) in
+    let bound : (c.loop-event.bound ≡ true) ↔ IsBoundTo (world_of (g.P.Plan.start p) v) (history v) c.args.correct.bits c.args.delta c.args.gst (history v) =
+    subst (λ z. (c.loop-event.bound ≡ true) ↔ IsBoundTo (world_of (g.P.Plan.start p) v) (history v) c.args.correct.bits c.args.delta c.args.gst z) whole c.loop-event.invariant.bounded in
+    subst (λ z. (c.loop-event.bound ≡ true) ↔ IsDelayBound (g.P.Plan.start z.plan) z.log c.args.correct.bits c.args.delta c.args.gst) c.book-book.ensures
+    (through bound (bound_placed (g.P.Plan.start p) v c.args.correct.bits c.args.delta c.args.gst within))
+
+pub returns-clause-hears : goal.returns-clause-hears
+returns-clause-hears g c = λ on kept.
+    let p = c.book-book.result.now.plan in
+    let v = c.book-book.result.now.log in
+    let xs = c.trace-event-items.result.now in
+    let whole : moment_at c.loop-event.event-index xs ≡ history v = ap reverse (take_all c.loop-event.event-index xs c.loop-event-test.false ∙ c.trace-event-items.ensures) in
+    let same : v.setup.nodes ≡ c.args.journal.now.log.setup.nodes = ap (λ z. z.log.setup.nodes) c.book-book.ensures in
+    let within : AreNodes v.setup.nodes c.args.correct.bits = λ j h. (let l = c.requires j h in omega arith) in
+    let paced : IsPacedTo c.args.correct.bits (history v) = subst (λ z. IsPacedTo c.args.correct.bits z) whole (c.loop-event.invariant.paced.0 on) in
+    let bounded : IsBoundTo (world_of (g.P.Plan.start p) v) (history v) c.args.correct.bits c.args.delta c.args.gst (history v) =
+    subst (λ z. IsBoundTo (world_of (g.P.Plan.start p) v) (history v) c.args.correct.bits c.args.delta c.args.gst z) whole (c.loop-event.invariant.bounded.0 kept) in
+    let clear : IsClearRound (g.P.Plan.receives p) (g.P.Plan.start p) c.args.delta c.args.gst c.clear_round.result =
+    subst (λ z. IsClearRound (g.P.Plan.receives z) (g.P.Plan.start z) c.args.delta c.args.gst c.clear_round.result) c.plan.ensures c.clear_round.ensures in
+    subst (λ z. IfSome c.clear_round.result (HearsFrom (g.P.Plan.start z.plan) z.log c.args.correct.bits)) c.book-book.ensures
+    (clear_hears (g.P.Plan.start p) (g.P.Plan.receives p) (g.P.Plan.nodes p) v c.args.correct.bits c.args.delta c.args.gst c.clear_round.result (g.met.P.Plan.laws p) c.agrees.ensures.sized c.agrees.ensures.faithful within paced bounded clear)
