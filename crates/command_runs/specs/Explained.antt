@@ -1,5 +1,6 @@
 -- What the report of a schedule's run says.
-use Rattle.std.specs.Prelude.{◌≡◌, ℕ, List, All, map}
+use Rattle.std.specs.Prelude.{◌≡◌, ◌<◌, ◌↔◌, ℕ, List, All, IsTrue, map, nat_eq}
+use Rattle.std.specs.List.{list_any}
 use Rattle.adversary.specs.Driving.{ClosedAreDue}
 use Rattle.omission_explainer.specs.InRounds.{IsOfRounds, printed_omits}
 use Rattle.omission_explainer.specs.Reported.{IsReported, closed_rounds, counts_in, names_in, place, types_in}
@@ -7,8 +8,12 @@ use Rattle.omission_explainer.specs.declared.report.Report.{Report}
 use Rattle.round_lang.specs.Syntax.{ProgramTree}
 use Rattle.round_meaning.specs.Rounds.{algorithm_of}
 use Rattle.round_meaning.specs.declared.setup.Setup.{Setup}
-use Rattle.step_journal.specs.Log.{Log}
+use Rattle.step_journal.specs.Log.{Log, history, world_of}
 use Rattle.step_machine.specs.declared.event.Event.{Event}
+use Rattle.slot_plans.specs.Plan.{IsClearRound}
+use Rattle.omission_explainer.specs.Verdict.{AreNodes, IsDelayBound, IsLockstep}
+use Rattle.omission_explainer.specs.declared.judging.Verdict.{Verdict}
+use Rattle.round_lang.specs.Sets.{is_in}
 
 -- The report is of a run whose events are these. In that run a round is closed exactly where its node took all its steps, and the report
 -- has a row for each closed round. A row's sets are those of the events, and its state is that of the node after that round in the run
@@ -26,3 +31,21 @@ pub record IsReportOf (start : ℕ → ℕ) (p : ProgramTree) (s : Setup) (event
   pub reported : All (IsReported start run) report.rows
   pub in_rounds : All (IsOfRounds (algorithm_of p s) (printed_omits report.rows)) report.rows
   pub counted : report.counts ≡ counts_in run
+
+-- the set has just the listed numbers, which are nodes of the run
+pub record AreListed (nodes : ℕ) (list : List ℕ) (members : ℕ) : Type 0 where
+  pub nodes_alone : AreNodes nodes members
+  pub listed : (i : ℕ) → i < 64 → is_in members i ≡ list_any (nat_eq i) list
+
+-- The verdict is of a run whose events are these: whether the listed nodes step in lockstep, whether messages between them keep the bound,
+-- and the first round from which the plan then promises that none is omitted.
+pub record IsVerdictOf (start receives : ℕ → ℕ) (p : ProgramTree) (s : Setup) (events : List Event) (list : List ℕ) (delta gst : ℕ) (verdict : Verdict) : Type 0 where
+  pub run : Log
+  pub program : run.program ≡ p
+  pub setup : run.setup ≡ s
+  pub trace : run.trace ≡ events
+  pub correct : ℕ
+  pub listed : AreListed s.nodes list correct
+  pub lockstep : IsTrue verdict.lockstep ↔ IsLockstep correct (history run)
+  pub bound : IsTrue verdict.bound ↔ IsDelayBound (world_of start run) (history run) correct delta gst
+  pub clear : IsClearRound receives start delta gst verdict.clear

@@ -1,16 +1,16 @@
 //! What is asked of the run of a schedule.
-ghost use Rattle.std.specs.Prelude.{◌≡◌, IfSome};
-ghost use Rattle.omission_explainer.specs.Verdict.{AreNodes};
+ghost use Rattle.std.specs.Prelude.{◌≡◌, IfOk, IfSome};
+ghost use Rattle.command_runs.specs.Served.{Answered, AnswersRun, IsProgramOf, IsSchedule};
+ghost use Rattle.round_lang.specs.Syntax.{ProgramTree};
 
 use crate::desk::Desk;
-use crate::explained::explained_run;
+use crate::explained::{Terms, explained_run, judged_run};
 use crate::refusal::Refusal;
 use crate::sources::Opened;
-use adversary::{Schedule, read_schedule, run_schedule};
+use adversary::{Schedule, read_schedule};
 use command_words::Source;
-use omission_explainer::{Report, Verdict, judge};
+use omission_explainer::{Report, Verdict};
 use round_check::Checked;
-use round_meaning::{MAX_NODES, NodeSet};
 use slot_plans::{Growing, Known, Plan, PlanKind};
 use std::alloc::Global;
 use std::str;
@@ -26,12 +26,7 @@ pub struct Run<'a> {
 #[derive(Clone, Copy)]
 pub enum Question<'a> {
     Report,
-    /// Whether these nodes keep lockstep, and their messages the delay bound from a step on.
-    Verdict {
-        correct: &'a [u32],
-        delta: u32,
-        gst: u32,
-    },
+    Verdict(Terms<'a>),
 }
 
 /// The answer to a question.
@@ -48,7 +43,10 @@ impl<'a> Run<'a> {
         alloc: Global,
         question: Question<'_>,
         desk: &mut D,
-    ) -> Result<Answer, Refusal> {
+    ) -> Result<Answer, Refusal>
+        ensures { IfOk result (λ answer. (p : ProgramTree) × IsProgramOf self.now.source (D.files desk.old) p
+            × AnswersRun p (D.files desk.old self.now.schedule.now) question answer) }
+    {
         let opened = Opened::open(alloc, self.source, desk)?;
         let schedule = schedule_in(alloc, self.schedule, desk)?;
         let program = opened.program(alloc)?;
@@ -66,7 +64,10 @@ impl<'a> Run<'a> {
 }
 
 /// The schedule in a file; its text is let go before the run.
-fn schedule_in<D: Desk>(alloc: Global, name: &str, desk: &mut D) -> Result<Schedule, Refusal> {
+fn schedule_in<D: Desk>(alloc: Global, name: &str, desk: &mut D) -> Result<Schedule, Refusal>
+    ensures { IfOk result (λ schedule. IfSome (D.files desk.old name.now)
+        (λ text. IsSchedule text schedule.setup schedule.plan schedule.events.items)) }
+{
     let bytes = desk.read(alloc, name)?;
     match str::from_utf8(&bytes) {
         Ok(text) => Ok(read_schedule(alloc, text)?),
@@ -82,36 +83,18 @@ fn answer_of<P: Plan>(
     question: Question<'_>,
 ) -> Result<Answer, Refusal>
     requires { P.nodes plan ≡ schedule.now.setup.nodes }
+    ensures { IfOk result (Answered (P.start plan) (P.receives plan) program.now schedule.now question) }
 {
+    let setup = &schedule.setup;
+    let events = schedule.events.as_slice();
     match question {
         Question::Report => {
-            let report = explained_run(alloc, program, &schedule.setup, plan, &schedule.events)?;
+            let report = explained_run(alloc, program, setup, plan, events)?;
             Ok(Answer::Report(report))
         }
-        Question::Verdict {
-            correct,
-            delta,
-            gst,
-        } => {
-            let Some(correct) = nodes_in(correct, schedule.setup.nodes) else {
-                return Err(Refusal::BadSetup);
-            };
-            let journal = run_schedule(alloc, program, &schedule.setup, plan, &schedule.events)?;
-            Ok(Answer::Verdict(judge(&journal, correct, delta, gst)))
+        Question::Verdict(terms) => {
+            let verdict = judged_run(alloc, program, setup, plan, events, terms)?;
+            Ok(Answer::Verdict(verdict))
         }
     }
-}
-
-/// The set of the listed nodes, where each is below a number of nodes.
-fn nodes_in(list: &[u32], nodes: u32) -> Option<NodeSet>
-    ensures within { IfSome result (λ set. AreNodes nodes set.bits) }
-{
-    let mut set = NodeSet::empty();
-    for node in list {
-        if *node >= nodes || *node >= MAX_NODES {
-            return None;
-        }
-        set = set.with(*node);
-    }
-    Some(set)
 }

@@ -1,14 +1,14 @@
-//! From a checked program and any schedule to the report of its run.
-ghost use Rattle.std.specs.Prelude.{◌≡◌, ◌↔◌, Err, IfErr, IfOk};
+//! From a checked program and any schedule to what is said of its run.
+ghost use Rattle.std.specs.Prelude.{◌≡◌, ◌<◌, ◌⊎◌, ◌↔◌, All, Err, IfErr, IfNone, IfOk, IfSome};
 ghost use Rattle.adversary.specs.Driving.{IsFirstUnknown};
-ghost use Rattle.command_runs.specs.Explained.{IsReportOf};
+ghost use Rattle.command_runs.specs.Explained.{AreListed, IsReportOf, IsVerdictOf};
 ghost use Rattle.round_meaning.specs.Setups.{IsLawful};
 
 use adversary::{RunFault, run_schedule};
-use omission_explainer::{Report, explain};
+use omission_explainer::{Report, Verdict, explain, judge};
 use round_check::Checked;
 use round_lang::NoMemory;
-use round_meaning::Setup;
+use round_meaning::{MAX_NODES, NodeSet, Setup};
 use slot_plans::Plan;
 use std::alloc::Global;
 use step_machine::Event;
@@ -33,4 +33,52 @@ pub fn explained_run<P: Plan>(
         Ok(report) => Ok(report),
         Err(NoMemory) => Err(RunFault::NoMemory),
     }
+}
+
+/// What a run is judged for: the nodes that are taken as correct, the bound on the delay in steps, and
+/// the step number from which on it is to hold.
+#[derive(Clone, Copy)]
+pub struct Terms<'a> {
+    pub correct: &'a [u32],
+    pub delta: u32,
+    pub gst: u32,
+}
+
+/// The verdict on running a schedule's events in single steps.
+///
+/// Refusals are those of `run_schedule`; `BadSetup` is also answered where a node of `correct` isn't one of
+/// the run's.
+pub fn judged_run<P: Plan>(
+    alloc: Global,
+    program: &Checked,
+    setup: &Setup,
+    plan: P,
+    events: &[Event],
+    terms: Terms<'_>,
+) -> Result<Verdict, RunFault>
+    requires { IsLawful program.now.values setup.now → P.nodes plan ≡ setup.now.nodes }
+    ensures unknown { IfErr result (IsFirstUnknown setup.now events.now) }
+    ensures judged { IfOk result (IsVerdictOf (P.start plan) (P.receives plan) program.now setup.now events.now
+        terms.correct.now terms.delta terms.gst) }
+{
+    let Some(correct) = nodes_in(terms.correct, setup.nodes) else {
+        return Err(RunFault::BadSetup);
+    };
+    let journal = run_schedule(alloc, program, setup, plan, events)?;
+    Ok(judge(&journal, correct, terms.delta, terms.gst))
+}
+
+/// The set of the listed nodes, where each is below a number of nodes and below the most that there can be.
+fn nodes_in(list: &[u32], nodes: u32) -> Option<NodeSet>
+    ensures some { IfSome result (λ set. AreListed nodes list.now set.bits) }
+    ensures none { IfNone result (All (λ n. (n < nodes) × (n < MAX_NODES)) list.now → ⊥) }
+{
+    let mut set = NodeSet::empty();
+    for node in list {
+        if *node >= nodes || *node >= MAX_NODES {
+            return None;
+        }
+        set = set.with(*node);
+    }
+    Some(set)
 }

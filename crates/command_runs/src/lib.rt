@@ -11,7 +11,7 @@ mod run;
 mod sources;
 
 pub use desk::{Desk, DeskFault};
-pub use explained::explained_run;
+pub use explained::{Terms, explained_run, judged_run};
 pub use library::{LibraryFault, gather};
 pub use memory_desk::MemoryDesk;
 pub use refusal::Refusal;

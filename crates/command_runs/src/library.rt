@@ -1,8 +1,10 @@
 //! Programs that come with the product.
 ghost use Rattle.std.specs.Prelude.{◌≡◌, ◌≤◌, ◌<◌, ◌↔◌, Err, IfOk};
+ghost use Rattle.command_runs.specs.Library.{gather_round, gather_tree};
 ghost use Rattle.command_runs.specs.declared.library.LibraryFault.TheVariants as fault;
+ghost use Rattle.round_lang.specs.Tree.{TNamed, tree_of};
 
-use round_check::{Checked, check};
+use round_check::{CheckFault, Checked, check};
 use round_lang::{
     Assignment, BinaryOperator, Block, Constant, Expr, Field, Formula, Identifier, NoMemory,
     Program, Ty, UnaryOperator, Variable, VariableKind,
@@ -30,29 +32,34 @@ impl From<NoMemory> for LibraryFault {
 /// 1 to 64 values.
 pub fn gather(alloc: Global, values: u32) -> Result<Checked, LibraryFault>
     ensures bad { (result ≡ Err fault.BadValues) ↔ (¬ ((1 ≤ values) × (values ≤ 64))) }
-    ensures values { IfOk result (λ p. p.values ≡ values) }
+    ensures program { IfOk result (λ p. p ≡ gather_tree values) }
 {
     if values < 1 || values > 64 {
         return Err(LibraryFault::BadValues);
     }
     match check(alloc, gather_program(alloc, values)?) {
         Ok(checked) => Ok(checked),
-        Err(_) => Err(LibraryFault::NoMemory),
+        Err(CheckFault::NoMemory) => Err(LibraryFault::NoMemory),
+        Err(_) => unreachable!(),
     }
 }
 
-fn identifier(alloc: Global, text: &str) -> Result<Identifier, NoMemory> {
+fn identifier(alloc: Global, text: &str) -> Result<Identifier, NoMemory>
+    ensures { IfOk result (λ name. name ≡ text.now) }
+{
     Ok(Identifier::new(String::from_str(alloc, text)?))
 }
 
-fn named(alloc: Global, text: &str) -> Result<Expr, NoMemory> {
+fn named(alloc: Global, text: &str) -> Result<Expr, NoMemory>
+    ensures { IfOk result (λ expr. tree_of expr ≡ TNamed text.now) }
+{
     Ok(Expr::Named(identifier(alloc, text)?))
 }
 
 fn gather_program(alloc: Global, values: u32) -> Result<Program, NoMemory>
     requires first { 0 < values }
     requires last { values ≤ 64 }
-    ensures { IfOk result (λ p. p.values ≡ values) }
+    ensures { IfOk result (λ p. p ≡ gather_tree values) }
 {
     let own = Expr::Unary(UnaryOperator::Single, Box::new(alloc, named(alloc, "x")?)?);
     let input = Variable {
@@ -75,7 +82,9 @@ fn gather_program(alloc: Global, values: u32) -> Result<Program, NoMemory>
     ))
 }
 
-fn gather_block(alloc: Global) -> Result<Block, NoMemory> {
+fn gather_block(alloc: Global) -> Result<Block, NoMemory>
+    ensures { IfOk result (λ b. b ≡ gather_round) }
+{
     let left = Box::new(alloc, named(alloc, "seen")?)?;
     let right = Box::new(alloc, named(alloc, "s")?)?;
     let both = Expr::Binary(BinaryOperator::Union, left, right);

@@ -68,7 +68,8 @@ pub enum Refusal {
 impl Refusal {
     /// The exit status.
     pub fn status(&self) -> u8
-        ensures { result ≤ 3 }
+        ensures within { result ≤ 3 }
+        ensures refused { 0 < result }
     {
         match self {
             Refusal::Words(_)

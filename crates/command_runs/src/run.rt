@@ -1,8 +1,11 @@
 //! Running a command.
-ghost use Rattle.std.specs.Prelude.{◌≤◌};
+ghost use Rattle.std.specs.Prelude.{◌≡◌, ◌≤◌, IsOk, OnOk, map};
+ghost use Rattle.std.specs.Io.KnownBytes.{Appends, Keeps};
+ghost use Rattle.command_runs.specs.Served.{IsServed, answer_text, summary_text};
 
 use crate::asking::{Answer, Question, Run};
 use crate::desk::Desk;
+use crate::explained::Terms;
 use crate::refusal::Refusal;
 use crate::sources::Opened;
 use command_words::{Words, read_words};
@@ -23,6 +26,11 @@ pub fn run_words<'a, D: Desk, O: Write, E: Write>(
     err: &mut E,
 ) -> u8
     ensures status { result ≤ 3 }
+    // Status 0: what `out` gained is what the words' command prints of the desk's files.
+    ensures served { result ≡ 0 → IsServed (map (λ s. s.now) words.entry.now) (D.files desk.old)
+        (O.contents out.old) (O.contents out.new) }
+    // And nothing was written to `err`.
+    ensures quiet { result ≡ 0 → Keeps (E.contents err.old) (E.contents err.new) }
 {
     match serve(alloc, words, desk, out) {
         Ok(()) => 0,
@@ -39,7 +47,10 @@ fn serve<'a, D: Desk, O: Write>(
     words: &'a [&'a str],
     desk: &mut D,
     out: &mut O,
-) -> Result<(), Refusal> {
+) -> Result<(), Refusal>
+    ensures { OnOk result (IsServed (map (λ s. s.now) words.entry.now) (D.files desk.old)
+        (O.contents out.old) (O.contents out.new)) }
+{
     match read_words(alloc, words)? {
         Words::Check { source } => {
             let program = Opened::open(alloc, source, desk)?.program(alloc)?;
@@ -58,20 +69,21 @@ fn serve<'a, D: Desk, O: Write>(
             gst,
         } => {
             let run = Run { source, schedule };
-            let correct = &correct;
-            let question = Question::Verdict {
-                correct,
+            let terms = Terms {
+                correct: &correct,
                 delta,
                 gst,
             };
-            let answer = run.answer(alloc, question, desk)?;
+            let answer = run.answer(alloc, Question::Verdict(terms), desk)?;
             written(write_answer(&answer, out), out)
         }
     }
 }
 
 /// What a program declares: the number of its values, its period and the number of its variables.
-fn write_summary<O: Write>(program: &Checked, out: &mut O) -> io::Result<()> {
+fn write_summary<O: Write>(program: &Checked, out: &mut O) -> io::Result<()>
+    ensures { OnOk result (Appends (O.contents out.old) (O.contents out.new) (summary_text program.now)) }
+{
     let program = program.program();
     writeln!(
         out,
@@ -82,7 +94,9 @@ fn write_summary<O: Write>(program: &Checked, out: &mut O) -> io::Result<()> {
     )
 }
 
-fn write_answer<O: Write>(answer: &Answer, out: &mut O) -> io::Result<()> {
+fn write_answer<O: Write>(answer: &Answer, out: &mut O) -> io::Result<()>
+    ensures { OnOk result (Appends (O.contents out.old) (O.contents out.new) (answer_text answer.now)) }
+{
     match answer {
         Answer::Report(report) => write_report(report, out),
         Answer::Verdict(verdict) => writeln!(out, "{verdict}"),
@@ -90,7 +104,10 @@ fn write_answer<O: Write>(answer: &Answer, out: &mut O) -> io::Result<()> {
 }
 
 /// That all was written, to the last byte that the writer still holds.
-fn written<O: Write>(done: io::Result<()>, out: &mut O) -> Result<(), Refusal> {
+fn written<O: Write>(done: io::Result<()>, out: &mut O) -> Result<(), Refusal>
+    ensures done { OnOk result (IsOk done) }
+    ensures kept { OnOk result (Keeps (O.contents out.old) (O.contents out.new)) }
+{
     if done.is_err() || out.flush().is_err() {
         return Err(Refusal::Write);
     }

@@ -1,4 +1,7 @@
 //! Programs, from source files and from the library.
+ghost use Rattle.std.specs.Prelude.{◌≡◌, ℕ, List, IfOk, codes};
+ghost use Rattle.command_runs.specs.Library.{gather_tree};
+ghost use Rattle.command_runs.specs.Served.{Holds, Opens, file_name};
 
 use crate::desk::Desk;
 use crate::library::{LibraryFault, gather};
@@ -23,7 +26,10 @@ impl<'a> Opened<'a> {
         alloc: Global,
         source: Source<'a>,
         desk: &mut D,
-    ) -> Result<Opened<'a>, Refusal> {
+    ) -> Result<Opened<'a>, Refusal>
+        ensures opened { IfOk result (Opens source (D.files desk.old)) }
+        ensures files { (name : List ℕ) → D.files desk.new name ≡ D.files desk.old name }
+    {
         match source {
             Source::File(name) => {
                 let bytes = desk.read(alloc, file_name(name))?;
@@ -37,7 +43,9 @@ impl<'a> Opened<'a> {
     }
 
     /// The program.
-    pub fn program(self, alloc: Global) -> Result<Checked, Refusal> {
+    pub fn program(self, alloc: Global) -> Result<Checked, Refusal>
+        ensures { IfOk result (Holds self) }
+    {
         match self {
             Opened::File(program) => Ok(program),
             Opened::Library { name, values } => Ok(library_program(alloc, name, values)?),
@@ -46,11 +54,15 @@ impl<'a> Opened<'a> {
 }
 
 /// A desk has standard input under `-`; a source file of that name is reached by its folder.
-fn file_name(name: &str) -> &str {
+fn file_name(name: &str) -> &str
+    ensures { result.now ≡ file_name name.now }
+{
     if name == "-" { "./-" } else { name }
 }
 
-fn library_program(alloc: Global, name: &str, values: u32) -> Result<Checked, LibraryFault> {
+fn library_program(alloc: Global, name: &str, values: u32) -> Result<Checked, LibraryFault>
+    ensures { IfOk result (λ p. (name.now ≡ codes "gather") × (p ≡ gather_tree values)) }
+{
     match name {
         "gather" => gather(alloc, values),
         _ => Err(LibraryFault::NoSuchName),

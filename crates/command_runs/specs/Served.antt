@@ -1,0 +1,115 @@
+-- What the program writes, as a relation of its words to the files on the desk.
+use Rattle.std.specs.Prelude.{◌≡◌, ◌++◌, ℕ, List, [], Option, IfSome, Ok, codes, length, if◌then◌else◌}
+use Rattle.std.specs.Fmt.{decimal}
+use Rattle.std.specs.Io.KnownBytes.{Appends}
+use Rattle.std.specs.Str.{bytes_eq}
+use Rattle.adversary.specs.Reading.{schedule_of}
+use Rattle.adversary.specs.declared.reading.Schedule.{Schedule}
+use Rattle.command_runs.specs.declared.asking.Answer.{Answer}
+use Rattle.command_runs.specs.declared.asking.Answer.TheVariants as answer
+use Rattle.command_runs.specs.declared.asking.Question.{Question}
+use Rattle.command_runs.specs.declared.asking.Question.TheVariants as question
+use Rattle.command_runs.specs.declared.sources.Opened.{Opened}
+use Rattle.command_runs.specs.declared.sources.Opened.TheVariants as opened
+use Rattle.command_runs.specs.Explained.{IsReportOf, IsVerdictOf}
+use Rattle.command_runs.specs.Library.{gather_tree}
+use Rattle.command_words.specs.Given.{Means}
+use Rattle.command_words.specs.declared.values.Source.{Source}
+use Rattle.command_words.specs.declared.values.Source.TheVariants.{File, Library}
+use Rattle.command_words.specs.declared.words.Words.{Words}
+use Rattle.command_words.specs.declared.words.Words.TheVariants.{Check, Judge, Run}
+use Rattle.omission_explainer.specs.Report.{report_text}
+use Rattle.omission_explainer.specs.Verdict.{verdict_text}
+use Rattle.omission_explainer.specs.declared.judging.Verdict.{Verdict}
+use Rattle.omission_explainer.specs.declared.report.Report.{Report}
+use Rattle.round_lang.specs.Source.{IsSource}
+use Rattle.round_lang.specs.Syntax.{ProgramTree}
+use Rattle.round_meaning.specs.declared.setup.Setup.{Setup}
+use Rattle.slot_plans.specs.Growing.{growing_start}
+use Rattle.slot_plans.specs.Known.{known_start}
+use Rattle.slot_plans.specs.declared.kind.PlanKind.{PlanKind}
+use Rattle.slot_plans.specs.declared.kind.PlanKind.TheVariants.{Growing, Known}
+use Rattle.step_machine.specs.declared.event.Event.{Event}
+
+-- what a desk holds under each name, where it says so
+abbrev pub Files : Type 0
+Files = List ℕ → Option (List ℕ)
+
+-- a source file named `-` is reached by its folder, since `-` is standard input
+abbrev pub file_name : List ℕ → List ℕ
+file_name name = if bytes_eq name (codes "-") then codes "./-" else name
+
+-- the program of a source: what the file's text is, or the library's
+abbrev pub IsProgramOf : Source → Files → ProgramTree → Type 0
+IsProgramOf (File name) files p = IfSome (files (file_name name.now)) (λ text. IsSource text p)
+IsProgramOf (Library name values) files p = (name.now ≡ codes "gather") × (p ≡ gather_tree values)
+
+-- a source that was opened: the program of its file, or what it names of the library
+abbrev pub Opens : Source → Files → Opened → Type 0
+Opens (File name) files (opened.File p) = IfSome (files (file_name name.now)) (λ text. IsSource text p)
+Opens (Library name values) files (opened.Library n k) = (n ≡ name) × (k ≡ values)
+Opens _ files _ = ⊥
+
+-- the program of an opened source
+abbrev pub Holds : Opened → ProgramTree → Type 0
+Holds (opened.File q) p = p ≡ q
+Holds (opened.Library name values) p = (name.now ≡ codes "gather") × (p ≡ gather_tree values)
+
+-- at which step each round starts, by the plan's name
+abbrev pub start_of : PlanKind → ℕ → ℕ → ℕ
+start_of (Known delta) nodes = known_start nodes delta
+start_of Growing nodes = growing_start nodes
+
+-- how many receive steps each round has
+abbrev pub receives_of : PlanKind → ℕ → ℕ
+receives_of (Known delta) r = delta
+receives_of Growing r = r
+
+-- the text is this schedule
+abbrev pub IsSchedule : List ℕ → Setup → PlanKind → List Event → Type 0
+IsSchedule text s k events = schedule_of text ≡ Ok (s, k, events)
+
+-- `ok values K period P variables M`
+abbrev pub summary_text : ProgramTree → List ℕ
+summary_text p =
+    codes "ok values " ++ decimal p.values ++ codes " period " ++ decimal p.period ++ codes " variables "
+    ++ decimal (length p.variables) ++ codes "\n"
+
+-- the report of the program's run under the schedule in a file
+abbrev pub ReportsRun : ProgramTree → Option (List ℕ) → Report → Type 0
+ReportsRun p file report = IfSome file (λ text. (s : Setup) × (k : PlanKind) × (events : List Event)
+    × IsSchedule text s k events × IsReportOf (start_of k s.nodes) p s events report)
+
+-- the verdict on the program's run under the schedule in a file
+abbrev pub JudgesRun : ProgramTree → Option (List ℕ) → List ℕ → ℕ → ℕ → Verdict → Type 0
+JudgesRun p file correct delta gst verdict = IfSome file (λ text. (s : Setup) × (k : PlanKind) × (events : List Event)
+    × IsSchedule text s k events × IsVerdictOf (start_of k s.nodes) (receives_of k) p s events correct delta gst verdict)
+
+-- the answer to a question on a run
+abbrev pub AnswersRun : ProgramTree → Option (List ℕ) → Question → Answer → Type 0
+AnswersRun p file question.Report (answer.Report report) = ReportsRun p file report
+AnswersRun p file (question.Verdict terms) (answer.Verdict verdict) = JudgesRun p file terms.correct.now terms.delta terms.gst verdict
+AnswersRun p file _ _ = ⊥
+
+-- the same of a schedule that was read, under a plan
+abbrev pub Answered : (start receives : ℕ → ℕ) → ProgramTree → Schedule → Question → Answer → Type 0
+Answered start receives p s question.Report (answer.Report report) = IsReportOf start p s.setup s.events.items report
+Answered start receives p s (question.Verdict terms) (answer.Verdict verdict) =
+    IsVerdictOf start receives p s.setup s.events.items terms.correct.now terms.delta terms.gst verdict
+Answered start receives p s _ _ = ⊥
+
+abbrev pub answer_text : Answer → List ℕ
+answer_text (answer.Report report) = report_text report
+answer_text (answer.Verdict verdict) = verdict_text verdict ++ codes "\n"
+
+-- what `out` gained is what the command prints
+abbrev pub Serves : Words → Files → Option (List ℕ) → Option (List ℕ) → Type 0
+Serves (Check source) files old new = (p : ProgramTree) × IsProgramOf source files p × Appends old new (summary_text p)
+Serves (Run source schedule) files old new = (p : ProgramTree) × IsProgramOf source files p
+    × ((report : Report) × ReportsRun p (files schedule.now) report × Appends old new (report_text report))
+Serves (Judge source schedule correct delta gst) files old new = (p : ProgramTree) × IsProgramOf source files p
+    × ((verdict : Verdict) × JudgesRun p (files schedule.now) correct.items delta gst verdict × Appends old new (verdict_text verdict ++ codes "\n"))
+
+-- the words mean a command, and it was served
+abbrev pub IsServed : List (List ℕ) → Files → Option (List ℕ) → Option (List ℕ) → Type 0
+IsServed words files old new = (w : Words) × Means words w × Serves w files old new
