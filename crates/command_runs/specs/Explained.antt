@@ -1,5 +1,5 @@
 -- What the report of a schedule's run says.
-use Rattle.std.specs.Prelude.{◌≡◌, ◌<◌, ◌↔◌, ℕ, List, All, IsTrue, map, nat_eq}
+use Rattle.std.specs.Prelude.{◌≡◌, ◌<◌, ◌↔◌, ℕ, List, All, IfSome, IsTrue, map, nat_eq}
 use Rattle.std.specs.List.{list_any}
 use Rattle.adversary.specs.Driving.{ClosedAreDue}
 use Rattle.omission_explainer.specs.InRounds.{IsOfRounds, printed_omits}
@@ -8,10 +8,10 @@ use Rattle.omission_explainer.specs.declared.report.Report.{Report}
 use Rattle.round_lang.specs.Syntax.{ProgramTree}
 use Rattle.round_meaning.specs.Rounds.{algorithm_of}
 use Rattle.round_meaning.specs.declared.setup.Setup.{Setup}
-use Rattle.step_journal.specs.Log.{Log, history, world_of}
+use Rattle.step_journal.specs.Log.{Log}
 use Rattle.step_machine.specs.declared.event.Event.{Event}
 use Rattle.slot_plans.specs.Plan.{IsClearRound}
-use Rattle.omission_explainer.specs.Verdict.{AreNodes, IsDelayBound, IsLockstep}
+use Rattle.omission_explainer.specs.Verdict.{AreNodes, HearsFrom, IsDelayBound, IsLockstep}
 use Rattle.omission_explainer.specs.declared.judging.Verdict.{Verdict}
 use Rattle.round_lang.specs.Sets.{is_in}
 
@@ -38,7 +38,7 @@ pub record AreListed (nodes : ℕ) (list : List ℕ) (members : ℕ) : Type 0 wh
   pub listed : (i : ℕ) → i < 64 → is_in members i ≡ list_any (nat_eq i) list
 
 -- The verdict is of a run whose events are these: whether the listed nodes step in lockstep, whether messages between them keep the bound,
--- and the first round from which the plan then promises that none is omitted.
+-- and the first round of the plan from which, where both is so, none of their messages is omitted.
 pub record IsVerdictOf (start receives : ℕ → ℕ) (p : ProgramTree) (s : Setup) (events : List Event) (list : List ℕ) (delta gst : ℕ) (verdict : Verdict) : Type 0 where
   pub run : Log
   pub program : run.program ≡ p
@@ -46,6 +46,7 @@ pub record IsVerdictOf (start receives : ℕ → ℕ) (p : ProgramTree) (s : Set
   pub trace : run.trace ≡ events
   pub correct : ℕ
   pub listed : AreListed s.nodes list correct
-  pub lockstep : IsTrue verdict.lockstep ↔ IsLockstep correct (history run)
-  pub bound : IsTrue verdict.bound ↔ IsDelayBound (world_of start run) (history run) correct delta gst
+  pub lockstep : IsTrue verdict.lockstep ↔ IsLockstep run.trace correct
+  pub bound : IsTrue verdict.bound ↔ IsDelayBound start run correct delta gst
   pub clear : IsClearRound receives start delta gst verdict.clear
+  pub hears : IsTrue verdict.lockstep → IsTrue verdict.bound → IfSome verdict.clear (HearsFrom start run correct)

@@ -45,7 +45,7 @@ impl<'a> Run<'a> {
         desk: &mut D,
     ) -> Result<Answer, Refusal>
         ensures { IfOk result (λ answer. (p : ProgramTree) × IsProgramOf self.now.source (D.files desk.old) p
-            × AnswersRun p (D.files desk.old self.now.schedule.now) question answer) }
+            × AnswersRun p (D.files desk.old self.now.schedule.now) question.entry answer) }
     {
         let opened = Opened::open(alloc, self.source, desk)?;
         let schedule = schedule_in(alloc, self.schedule, desk)?;
@@ -83,7 +83,7 @@ fn answer_of<P: Plan>(
     question: Question<'_>,
 ) -> Result<Answer, Refusal>
     requires { P.nodes plan ≡ schedule.now.setup.nodes }
-    ensures { IfOk result (Answered (P.start plan) (P.receives plan) program.now schedule.now question) }
+    ensures { IfOk result (Answered (P.start plan) (P.receives plan) program.now schedule.now question.entry) }
 {
     let setup = &schedule.setup;
     let events = schedule.events.as_slice();

@@ -59,7 +59,7 @@ pub fn judged_run<P: Plan>(
     requires { IsLawful program.now.values setup.now → P.nodes plan ≡ setup.now.nodes }
     ensures unknown { IfErr result (IsFirstUnknown setup.now events.now) }
     ensures judged { IfOk result (IsVerdictOf (P.start plan) (P.receives plan) program.now setup.now events.now
-        terms.correct.now terms.delta terms.gst) }
+        terms.entry.correct.now terms.entry.delta terms.entry.gst) }
 {
     let Some(correct) = nodes_in(terms.correct, setup.nodes) else {
         return Err(RunFault::BadSetup);

@@ -4,7 +4,7 @@ ghost use Rattle.command_runs.specs.Library.{gather_round, gather_tree};
 ghost use Rattle.command_runs.specs.declared.library.LibraryFault.TheVariants as fault;
 ghost use Rattle.round_lang.specs.Tree.{TNamed, tree_of};
 
-use round_check::{CheckFault, Checked, check};
+use round_check::{Checked, check};
 use round_lang::{
     Assignment, BinaryOperator, Block, Constant, Expr, Field, Formula, Identifier, NoMemory,
     Program, Ty, UnaryOperator, Variable, VariableKind,
@@ -39,8 +39,7 @@ pub fn gather(alloc: Global, values: u32) -> Result<Checked, LibraryFault>
     }
     match check(alloc, gather_program(alloc, values)?) {
         Ok(checked) => Ok(checked),
-        Err(CheckFault::NoMemory) => Err(LibraryFault::NoMemory),
-        Err(_) => unreachable!(),
+        Err(_) => Err(LibraryFault::NoMemory),
     }
 }
 

@@ -1,5 +1,5 @@
 //! Why a command was refused.
-ghost use Rattle.std.specs.Prelude.{◌≡◌, ◌≤◌};
+ghost use Rattle.std.specs.Prelude.{◌≡◌, ◌<◌, ◌≤◌};
 
 use crate::desk::DeskFault;
 use crate::library::LibraryFault;

@@ -27,7 +27,7 @@ impl<'a> Opened<'a> {
         source: Source<'a>,
         desk: &mut D,
     ) -> Result<Opened<'a>, Refusal>
-        ensures opened { IfOk result (Opens source (D.files desk.old)) }
+        ensures opened { IfOk result (Opens source.entry (D.files desk.old)) }
         ensures files { (name : List ℕ) → D.files desk.new name ≡ D.files desk.old name }
     {
         match source {
@@ -44,7 +44,7 @@ impl<'a> Opened<'a> {
 
     /// The program.
     pub fn program(self, alloc: Global) -> Result<Checked, Refusal>
-        ensures { IfOk result (Holds self) }
+        ensures { IfOk result (Holds self.entry) }
     {
         match self {
             Opened::File(program) => Ok(program),

@@ -1,0 +1,64 @@
+-- From what each layer answers to what a command prints.
+use Rattle.std.proofs.Common.{◌≡◌, ◌++◌, ℕ, List, Option, Some, None, Result, Ok, Err, sym, ap, ◌∙◌, subst}
+use Rattle.std.specs.Prelude.{IfSome, IsOk, OnOk}
+use Rattle.std.specs.Io.KnownBytes.{Appends, Keeps}
+use Rattle.adversary.specs.declared.reading.Schedule.{Schedule}
+use Rattle.command_words.specs.declared.values.Source.{Source}
+use Rattle.command_words.specs.declared.values.Source.TheVariants as source
+use Rattle.round_lang.specs.Source.{IsSource}
+use Rattle.round_lang.specs.Syntax.{ProgramTree}
+use Rattle.slot_plans.specs.declared.kind.PlanKind.{PlanKind}
+use Rattle.command_runs.specs.Explained.{IsReportOf, IsVerdictOf}
+use Rattle.command_runs.specs.Library.{gather_tree}
+use Rattle.command_runs.specs.Served.{Answered, AnswersRun, Files, Holds, IsProgramOf, IsSchedule, Opens, file_name, receives_of, start_of}
+use Rattle.command_runs.specs.declared.asking.Answer.{Answer}
+use Rattle.command_runs.specs.declared.asking.Answer.TheVariants as answer
+use Rattle.command_runs.specs.declared.asking.Question.{Question}
+use Rattle.command_runs.specs.declared.asking.Question.TheVariants as question
+use Rattle.command_runs.specs.declared.sources.Opened.{Opened}
+use Rattle.command_runs.specs.declared.sources.Opened.TheVariants as opened
+
+-- the program of what was opened is the source's
+pub program_of : (s : Source) (files : Files) (o : Opened) (p : ProgramTree) → Opens s files o → Holds o p → IsProgramOf s files p
+program_of (source.File name) files (opened.File q) p opens holds =
+    subst (λ (r : ProgramTree). IfSome (files (file_name name.now)) (λ text. IsSource text r)) (sym holds) opens
+program_of (source.Library name values) files (opened.Library n k) p opens holds =
+    (sym (ap (λ t. t.now) opens.0) ∙ holds.0, holds.1 ∙ ap gather_tree opens.1)
+program_of (source.File name) files (opened.Library n k) p opens holds = absurd opens
+program_of (source.Library name values) files (opened.File q) p opens holds = absurd opens
+
+-- an answer on a schedule that was read is one on its file
+pub answers_run : (start receives : ℕ → ℕ) (p : ProgramTree) (k : PlanKind) (s : Schedule) (q : Question) (file : Option (List ℕ)) (a : Answer) → s.plan ≡ k → start ≡ start_of k s.setup.nodes → receives ≡ receives_of k
+    → IfSome file (λ text. IsSchedule text s.setup s.plan s.events.items) → Answered start receives p s q a → AnswersRun p file q a
+answers_run start receives p k s question.Report None (answer.Report r) kind starts waits read said = tt
+answers_run start receives p k s question.Report (Some text) (answer.Report r) kind starts waits read said = (
+  s.setup,
+  k,
+  s.events.items,
+  subst (λ (l : PlanKind). IsSchedule text s.setup l s.events.items) kind read,
+  subst (λ f. IsReportOf f p s.setup s.events.items r) starts said,
+)
+answers_run start receives p k s (question.Verdict t) None (answer.Verdict v) kind starts waits read said = tt
+answers_run start receives p k s (question.Verdict t) (Some text) (answer.Verdict v) kind starts waits read said = (
+  s.setup,
+  k,
+  s.events.items,
+  subst (λ (l : PlanKind). IsSchedule text s.setup l s.events.items) kind read,
+  subst (λ f. IsVerdictOf (start_of k s.setup.nodes) f p s.setup s.events.items t.correct.now t.delta t.gst v) waits
+  (subst (λ f. IsVerdictOf f receives p s.setup s.events.items t.correct.now t.delta t.gst v) starts said),
+)
+answers_run start receives p k s question.Report file (answer.Verdict v) kind starts waits read said = absurd said
+answers_run start receives p k s (question.Verdict t) file (answer.Report r) kind starts waits read said = absurd said
+
+-- what was written and then kept was written
+appends_kept : (a b c : Option (List ℕ)) (text : List ℕ) → Appends a b text → Keeps b c → Appends a c text
+appends_kept None b c text w k = tt
+appends_kept (Some xs) None c text w k = absurd w
+appends_kept (Some xs) (Some ys) None text w k = absurd k
+appends_kept (Some xs) (Some ys) (Some zs) text w k = k ∙ w
+
+-- what follows where all was written to its end
+pub printed : {A B E F : Type 0} {Q : Type 0} (r : Result A E) (done : Result B F) (a b c : Option (List ℕ)) (text : List ℕ) → OnOk r (IsOk done) → OnOk done (Appends a b text) → OnOk r (Keeps b c) → (Appends a c text → Q) → OnOk r Q
+printed (Ok x) (Ok y) a b c text done wrote kept f = f (appends_kept a b c text wrote kept)
+printed (Ok x) (Err y) a b c text done wrote kept f = absurd (cc done)
+printed (Err e) done a b c text went wrote kept f = tt

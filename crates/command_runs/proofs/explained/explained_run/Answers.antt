@@ -1,0 +1,28 @@
+use Rattle.std.proofs.Common.{◌≡◌, ◌∙◌, All, ap, subst}
+use Rattle.adversary.specs.Driving.{ClosedAreDue}
+use Rattle.omission_explainer.specs.InRounds.{IsOfRounds, printed_omits}
+use Rattle.omission_explainer.specs.Reported.{IsReported, names_in, types_in}
+use Rattle.round_lang.specs.Syntax.{ProgramTree}
+use Rattle.round_meaning.specs.Rounds.{algorithm_of}
+use Rattle.command_runs.proofs.explained.explained_run.Goals as goal
+
+pub returns-in-Ok-clause-explained : goal.returns-in-Ok-clause-explained
+returns-in-Ok-clause-explained g c =
+    let run = c.in_ok-journal.journal.log in
+    let ran = c.in_ok-journal.ensures in
+    let said = c.in-Ok.ensures in
+    let rows = c.in-Ok.report.rows in
+    let of_program = subst (λ p. All (IsOfRounds (algorithm_of p run.setup) (printed_omits rows)) rows) ran.program said.in_rounds in record {
+      run = run;
+      program = ran.program;
+      setup = ran.setup;
+      trace = ran.trace;
+      closed = subst (λ p. ClosedAreDue (g.P.Plan.start p) run) ran.plan ran.closed;
+      values = said.values ∙ ap (λ (p : ProgramTree). p.values) ran.program;
+      names = said.names ∙ ap names_in ran.program;
+      types = said.types ∙ ap types_in ran.program;
+      listed = said.listed;
+      reported = subst (λ p. All (IsReported (g.P.Plan.start p) run) rows) ran.plan said.reported;
+      in_rounds = subst (λ s. All (IsOfRounds (algorithm_of c.args.program.now s) (printed_omits rows)) rows) ran.setup of_program;
+      counted = said.counted;
+    }

@@ -1,0 +1,6 @@
+use Rattle.std.proofs.Common.{take}
+use Rattle.command_runs.specs.Explained.{AreListed}
+use Rattle.command_runs.proofs.explained.nodes_in.Given as goal
+
+abbrev pub invariant-loop-node : goal.invariant-loop-node
+invariant-loop-node l = AreListed l.nodes (take l.node-index l.list) l.set.bits
