@@ -1,5 +1,5 @@
 -- A set of nodes from their list.
-use Rattle.std.proofs.Common.{◌≡◌, ℕ, ◌<◌, Bool, true, false, List, [], ◌∷◌, ◌++◌, refl, sym, ap, ap₂, ◌∙◌, subst, arith}
+use Rattle.std.proofs.Common.{◌≡◌, ℕ, ◌<◌, Bool, true, false, List, [], ◌∷◌, ◌++◌, refl, sym, ap, ap₂, ◌∙◌, arith}
 use Rattle.std.specs.Prelude.{◌&&◌, ◌||◌, nat_eq, nat_lt}
 use Rattle.std.specs.List.{list_any}
 use Rattle.std.proofs.lemmas.Bool.Decides.{nat_tests}
@@ -35,11 +35,11 @@ pub listed_more : (nodes members more n : ℕ) (list : List ℕ) → n < nodes �
 listed_more nodes members more n list within e are = record {
   nodes_alone = nodes_with nodes members more n within e are.nodes_alone;
   listed = λ i h.
-    let one : is_in (only 64 n) i ≡ nat_eq i n = is_in-set_of 64 (λ v. nat_eq v n) i ∙ ap (λ b. b && nat_eq i n) (below i h) in
-    ap (λ s. is_in s i) e
-    ∙ is_in-set_of 64 (λ v. is_in members v || is_in (only 64 n) v) i
-    ∙ ap (λ b. b && (is_in members i || is_in (only 64 n) i)) (below i h)
-    ∙ ap₂ (λ a b. a || b) (are.listed i h) one
-    ∙ or_last (list_any (nat_eq i) list) (nat_eq i n)
-    ∙ sym (list_any-append (nat_eq i) list (n ∷ []));
+      let one : is_in (only 64 n) i ≡ nat_eq i n = is_in-set_of 64 (λ v. nat_eq v n) i ∙ ap (λ b. b && nat_eq i n) (below i h) in
+      ap (λ s. is_in s i) e
+      ∙ is_in-set_of 64 (λ v. is_in members v || is_in (only 64 n) v) i
+      ∙ ap (λ b. b && (is_in members i || is_in (only 64 n) i)) (below i h)
+      ∙ ap₂ (λ a b. a || b) (are.listed i h) one
+      ∙ or_last (list_any (nat_eq i) list) (nat_eq i n)
+      ∙ sym (list_any-append (nat_eq i) list (n ∷ []));
 }

@@ -1,5 +1,5 @@
 -- From what each layer answers to what a command prints.
-use Rattle.std.proofs.Common.{◌≡◌, ◌++◌, ℕ, List, Option, Some, None, Result, Ok, Err, sym, ap, ◌∙◌, subst}
+use Rattle.std.proofs.Common.{◌≡◌, ℕ, List, Option, Some, None, Result, Ok, Err, sym, ap, ◌∙◌, subst}
 use Rattle.std.specs.Prelude.{IfSome, IsOk, OnOk}
 use Rattle.std.specs.Io.KnownBytes.{Appends, Keeps}
 use Rattle.adversary.specs.declared.reading.Schedule.{Schedule}
@@ -45,7 +45,7 @@ answers_run start receives p k s (question.Verdict t) (Some text) (answer.Verdic
   s.events.items,
   subst (λ (l : PlanKind). IsSchedule text s.setup l s.events.items) kind read,
   subst (λ f. IsVerdictOf (start_of k s.setup.nodes) f p s.setup s.events.items t.correct.now t.delta t.gst v) waits
-  (subst (λ f. IsVerdictOf f receives p s.setup s.events.items t.correct.now t.delta t.gst v) starts said),
+      (subst (λ f. IsVerdictOf f receives p s.setup s.events.items t.correct.now t.delta t.gst v) starts said),
 )
 answers_run start receives p k s question.Report file (answer.Verdict v) kind starts waits read said = absurd said
 answers_run start receives p k s (question.Verdict t) file (answer.Report r) kind starts waits read said = absurd said

@@ -1,5 +1,5 @@
 -- The programs that come with the product.
-use Rattle.std.specs.Prelude.{ℕ, List, [], ◌∷◌, codes}
+use Rattle.std.specs.Prelude.{ℕ, [], ◌∷◌, codes}
 use Rattle.round_lang.specs.declared.expr.BinaryOperator.TheVariants.{Union}
 use Rattle.round_lang.specs.declared.expr.Constant.TheVariants.{True}
 use Rattle.round_lang.specs.declared.expr.Ty.TheVariants.{Set}

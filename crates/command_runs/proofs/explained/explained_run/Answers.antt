@@ -1,4 +1,4 @@
-use Rattle.std.proofs.Common.{◌≡◌, ◌∙◌, All, ap, subst}
+use Rattle.std.proofs.Common.{◌∙◌, All, ap, subst}
 use Rattle.adversary.specs.Driving.{ClosedAreDue}
 use Rattle.omission_explainer.specs.InRounds.{IsOfRounds, printed_omits}
 use Rattle.omission_explainer.specs.Reported.{IsReported, names_in, types_in}
