@@ -1,11 +1,10 @@
 -- What is in the grammar is found.
-use Rattle.std.proofs.Common.{◌≡◌, ℕ, zero, suc, ◌+◌, ◌<◌, ◌≤◌, max, Bool, true, false, cond, ◌&&◌, ltb, leb, List, [], ◌∷◌, length, Option, Some, None, refl, sym, ap, ◌∙◌, subst, arith, rules, lt-ltb, le-leb}
+use Rattle.std.proofs.Common.{◌≡◌, ℕ, zero, suc, ◌+◌, ◌<◌, ◌≤◌, max, true, cond, ltb, leb, List, ◌∷◌, length, Option, Some, None, refl, ap, ◌∙◌, subst, arith, lt-ltb, le-leb}
 use Rattle.round_lang.specs.declared.expr.Constant.{Constant}
 use Rattle.round_lang.specs.declared.expr.UnaryOperator.{UnaryOperator}
 use Rattle.round_lang.specs.declared.expr.UnaryOperator.TheVariants as unary
 use Rattle.round_lang.specs.declared.expr.BinaryOperator.{BinaryOperator}
 use Rattle.round_lang.specs.declared.expr.BinaryOperator.TheVariants as binary
-use Rattle.round_lang.specs.declared.token.Mark.{Mark}
 use Rattle.round_lang.specs.declared.token.Mark.TheVariants as m
 use Rattle.round_lang.specs.declared.parsing.level.Level.{Level}
 use Rattle.round_lang.specs.declared.parsing.level.Level.TheVariants.{Whole, Disjunction, Conjunction, Negation, Comparison, Sum, Product, Postfix, Atom}
@@ -15,8 +14,8 @@ use Rattle.round_lang.specs.Tree.{Tree, TNumber, TFixed, TNamed, TUnary, TBinary
 use Rattle.round_lang.specs.Grammar.{Reads, tighter, left_operand, level_of, value_of}
 use Rattle.round_lang.specs.Grammar as g
 use Rattle.round_lang.specs.Source.{IsExpr}
-use Rattle.round_lang.specs.Reading.{◌>>=◌, Found, Reader, after, name_at, value_within, number_at, same_level, operator_of, operator_at, or_else, operand, found, chain, chained, compared, negated, closed, indexed, postfixed, called, has, brackets, comprehension, atom_by, atom, choice, chosen, postfixes, products, sums, comparisons, negations, conjunctions, disjunctions, level_at, parse, formula}
-use Rattle.round_lang.proofs.Steps.{some_then, guard_some, some_is, after_is, level_itself}
+use Rattle.round_lang.specs.Reading.{Reader, after, name_at, value_within, number_at, operator_of, operator_at, operand, found, chain, chained, compared, negated, closed, indexed, postfixed, called, has, brackets, comprehension, atom, choice, chosen, postfixes, products, sums, comparisons, negations, conjunctions, disjunctions, parse, formula}
+use Rattle.round_lang.proofs.Steps.{level_itself}
 use Rattle.round_lang.proofs.Ends.{Ends, ends_at_close, ends_at_then, ends_at_else, ends_at_comma, ends_at_square, ends_at_curly, ends_at_operator}
 
 -- an operator of a level is found there

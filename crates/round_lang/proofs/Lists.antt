@@ -1,14 +1,14 @@
 -- Items behind a mark, and lists of items with commas between them.
-use Rattle.std.proofs.Common.{◌≡◌, ℕ, zero, suc, ◌+◌, ◌<◌, ◌≤◌, Bool, true, false, cond, List, [], ◌∷◌, length, Option, Some, None, refl, sym, ap, ◌∙◌, subst, arith}
+use Rattle.std.proofs.Common.{◌≡◌, ℕ, suc, ◌+◌, ◌<◌, ◌≤◌, Bool, true, false, cond, List, [], ◌∷◌, length, Option, Some, None, refl, sym, ap, ◌∙◌, subst, arith}
 use Rattle.round_lang.specs.declared.token.Mark.{Mark}
 use Rattle.round_lang.specs.declared.token.Mark.TheVariants as m
-use Rattle.round_lang.specs.Lexemes.{Lexeme, name, number, mark, same_mark}
+use Rattle.round_lang.specs.Lexemes.{Lexeme, mark, same_mark}
 use Rattle.round_lang.specs.Source.{Many, After, Listed}
 use Rattle.round_lang.specs.Source as g
 use Rattle.round_lang.specs.Reading.{◌>>=◌, Part, after, begins_with}
-use Rattle.round_lang.specs.Parts.{items, behind_comma, others, listed}
+use Rattle.round_lang.specs.Parts.{behind_comma, others, listed}
 use Rattle.round_lang.proofs.Steps.{some_then, some_is, mark_same, mark_itself, after_is}
-use Rattle.round_lang.proofs.Repetition.{ahead, ItemLaws, AllGood, many_good, many_found, weight_of}
+use Rattle.round_lang.proofs.Repetition.{ahead, ItemLaws, many_good, many_found, weight_of}
 
 pub begun_is : (sign : Mark) (ws : List Lexeme) → begins_with sign ws ≡ true → (rest : List Lexeme) × (ws ≡ mark sign ∷ rest)
 unfolding begins_with

@@ -1,6 +1,5 @@
 -- What the loops over a program's parts keep.
-use Rattle.std.proofs.Common.{◌≡◌, ℕ, zero, suc, ◌+◌, ◌<◌, ◌≤◌, Bool, true, false, cond, List, [], ◌∷◌, ◌++◌, length, Option, Some, None, refl, sym, ap, ◌∙◌, subst, arith, length-append}
-use Rattle.std.specs.Prelude.{option_map}
+use Rattle.std.proofs.Common.{◌≡◌, ℕ, ◌+◌, ◌<◌, ◌≤◌, Bool, true, false, cond, List, [], ◌∷◌, ◌++◌, length, Option, Some, None, refl, ap, ◌∙◌, subst, arith, length-append}
 use Rattle.round_lang.specs.declared.token.Mark.TheVariants as m
 use Rattle.round_lang.specs.declared.program.Variable.{Variable}
 use Rattle.round_lang.specs.declared.block.Assignment.{Assignment}
@@ -14,11 +13,11 @@ use Rattle.round_lang.specs.Limits.{max_variables, max_fields}
 use Rattle.round_lang.specs.Outcome.{Fails}
 use Rattle.round_lang.specs.Tree.{Tree}
 use Rattle.round_lang.specs.Syntax.{BlockTree}
-use Rattle.round_lang.specs.Source.{IsDecl, variables_of, decides_of}
+use Rattle.round_lang.specs.Source.{variables_of, decides_of}
 use Rattle.round_lang.specs.Reading.{◌>>=◌, Part, after, begins_with, begins_name, formula}
 use Rattle.round_lang.specs.Parts.{items, behind_comma, others, listed, begins_declaration, declaration, variable_count, declarations, declared, field, fields, any_formula, sent, assignment, any_assignment, assignments, block, any_block, blocks}
 use Rattle.round_lang.proofs.Steps.{after_is}
-use Rattle.round_lang.proofs.Repetition.{ahead, ItemLaws, GoesOn, goes_first, goes_next, goes_end, goes_none}
+use Rattle.round_lang.proofs.Repetition.{ahead, GoesOn, goes_first, goes_next, goes_end, goes_none}
 use Rattle.round_lang.proofs.Lists.{PartLaws, after_none, after_some}
 use Rattle.round_lang.proofs.Items.{expr_laws, field_laws, assignment_laws, declaration_laws}
 use Rattle.round_lang.proofs.Blocks.{block_laws}

@@ -1,13 +1,13 @@
 -- What the loop over a text keeps.
-use Rattle.std.proofs.Common.{◌≡◌, ℕ, ◌+◌, ◌<◌, ◌≤◌, Some, None, List, [], ◌∷◌, ◌++◌, ◌-◌, length, take, drop, map, refl, sym, ap, ◌∙◌, subst, arith, append_assoc}
+use Rattle.std.proofs.Common.{◌≡◌, ℕ, ◌+◌, ◌<◌, ◌≤◌, Some, None, List, [], ◌∷◌, ◌++◌, ◌-◌, length, take, drop, refl, sym, ap, ◌∙◌, subst, arith, append_assoc}
 use Rattle.std.proofs.lemmas.List.{append-nil, nil_from_length, length-take, take_rest, drop-drop, drop_all, length-drop, map-append}
 use Rattle.round_lang.specs.declared.token.Token.{Token}
 use Rattle.round_lang.specs.Lexemes.{Lexeme, lexeme_of, lexemes}
 use Rattle.round_lang.specs.Tokens.{Tokens, lexeme}
 use Rattle.round_lang.proofs.Longest.{empty_is_none}
 use Rattle.round_lang.specs.Tokens as t
-use Rattle.round_lang.specs.Scanning.{Step, skip, token, bad, step}
-use Rattle.round_lang.proofs.Pieces.{Splits, Skips, Begins, Says, step_says}
+use Rattle.round_lang.specs.Scanning.{Step, step}
+use Rattle.round_lang.proofs.Pieces.{Skips, Begins, Says, step_says}
 
 -- the tokens begin with those found
 pub record Leaves (found : List Lexeme) (rest : List ℕ) (ls : List Lexeme) : Type 0 where

@@ -1,8 +1,8 @@
 -- Each rule takes words away.
-use Rattle.std.proofs.Common.{◌≡◌, ℕ, suc, ◌<◌, ◌≤◌, Bool, false, List, [], ◌∷◌, length, refl, arith}
+use Rattle.std.proofs.Common.{◌≡◌, ℕ, ◌<◌, ◌≤◌, false, List, length, refl, arith}
 use Rattle.round_lang.specs.declared.token.Mark.TheVariants as m
 use Rattle.round_lang.specs.declared.parsing.level.Level.{Level}
-use Rattle.round_lang.specs.Lexemes.{Lexeme, mark, same_mark}
+use Rattle.round_lang.specs.Lexemes.{Lexeme, same_mark}
 use Rattle.round_lang.specs.Tree.{Tree}
 use Rattle.round_lang.specs.Grammar.{Reads}
 use Rattle.round_lang.specs.Grammar as g

@@ -1,7 +1,6 @@
 -- What the readers find is in the grammar.
-use Rattle.std.proofs.Common.{◌≡◌, ℕ, zero, suc, ◌<◌, ◌≤◌, max, Bool, true, false, cond, ltb, leb, List, [], ◌∷◌, length, Option, Some, None, refl, sym, ap, ◌∙◌, subst, arith, rules}
+use Rattle.std.proofs.Common.{◌≡◌, ℕ, zero, suc, ◌≤◌, max, ltb, List, [], ◌∷◌, length, Option, Some, None, refl, sym, ap, ◌∙◌, subst, arith}
 use Rattle.std.proofs.lemmas.Bool.{ltb-true}
-use Rattle.round_lang.specs.declared.expr.Constant.{Constant}
 use Rattle.round_lang.specs.declared.expr.UnaryOperator.{UnaryOperator}
 use Rattle.round_lang.specs.declared.expr.UnaryOperator.TheVariants as unary
 use Rattle.round_lang.specs.declared.expr.BinaryOperator.{BinaryOperator}
@@ -17,7 +16,7 @@ use Rattle.round_lang.specs.Grammar.{Reads, tighter, left_operand}
 use Rattle.round_lang.specs.Grammar as g
 use Rattle.round_lang.specs.Source.{IsExpr}
 use Rattle.round_lang.specs.Reading.{◌>>=◌, Found, Reader, after, name_at, number_at, operator_at, or_else, operand, found, chain, chained, compared, negated, closed, indexed, postfixed, called, has, brackets, comprehension, atom_by, atom, choice, chosen, postfixes, products, sums, comparisons, negations, conjunctions, disjunctions, level_at, parse, formula}
-use Rattle.round_lang.proofs.Steps.{some_then, guard_some, some_is, after_is, name_is, Numeral, number_is, operator_is}
+use Rattle.round_lang.proofs.Steps.{some_then, guard_some, some_is, after_is, name_is, number_is, operator_is}
 
 -- What nests at most n deep nests at most m deep.
 pub deeper : {level : Level} {n : ℕ} {t : Tree} {ws rest : List Lexeme} → Reads level n t ws rest → (m : ℕ) → n ≤ m → Reads level m t ws rest

@@ -1,5 +1,5 @@
 -- The steps of the readers, taken apart.
-use Rattle.std.proofs.Common.{◌≡◌, ℕ, zero, suc, ◌<◌, ◌≤◌, Bool, true, false, cond, ◌&&◌, leb, List, [], ◌∷◌, length, Option, Some, None, refl, sym, ap, ◌∙◌, subst, arith, rules}
+use Rattle.std.proofs.Common.{◌≡◌, ℕ, ◌≤◌, Bool, true, false, cond, ◌&&◌, leb, List, ◌∷◌, length, Option, Some, None, refl, ap, ◌∙◌, subst, rules}
 use Rattle.std.proofs.lemmas.Bool.{leb-true}
 use denote.Enum.Bare.{same_true, true_same}
 use Rattle.round_lang.specs.declared.expr.Ty.{Ty}

@@ -1,5 +1,5 @@
 -- The language's limits.
-use Rattle.std.specs.Prelude.{ℕ, ◌<◌, ◌≤◌, List, length}
+use Rattle.std.specs.Prelude.{ℕ, ◌<◌, ◌≤◌}
 
 abbrev pub max_values : ℕ
 max_values = 64

@@ -1,5 +1,5 @@
 -- Reading the parts of a program with one token of lookahead. No reader has to believe this file: laws tie it to the grammar.
-use Rattle.std.specs.Prelude.{ℕ, zero, suc, ◌+◌, Bool, true, false, ◌&&◌, not, List, [], ◌∷◌, length, Option, Some, None, nat_lt, nat_le, if◌then◌else◌}
+use Rattle.std.specs.Prelude.{ℕ, zero, suc, ◌+◌, Bool, true, false, List, [], ◌∷◌, length, Option, Some, None, nat_lt, if◌then◌else◌}
 use Rattle.round_lang.specs.declared.token.Mark.TheVariants as m
 use Rattle.round_lang.specs.declared.block.Field.{Field}
 use Rattle.round_lang.specs.declared.block.Assignment.{Assignment}
@@ -7,7 +7,7 @@ use Rattle.round_lang.specs.declared.program.Variable.{Variable}
 use Rattle.round_lang.specs.declared.program.VariableKind.TheVariants.{Input, State}
 use Rattle.round_lang.specs.declared.parsing.part.Declaration.{Declaration}
 use Rattle.round_lang.specs.declared.parsing.part.Declaration.TheVariants as d
-use Rattle.round_lang.specs.Lexemes.{Lexeme, name, mark}
+use Rattle.round_lang.specs.Lexemes.{Lexeme, mark}
 use Rattle.round_lang.specs.Limits.{max_values, max_period, max_variables, max_fields, max_number}
 use Rattle.round_lang.specs.Tree.{Tree}
 use Rattle.round_lang.specs.Syntax.{BlockTree, ProgramTree}

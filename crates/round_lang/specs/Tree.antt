@@ -1,6 +1,5 @@
 -- The tree that an expression is, without the places of its parts in memory.
-use Rattle.std.specs.Prelude.{ℕ, Bool, true, false, ◌&&◌, List, ◌==◌}
-use Rattle.std.specs.Str.{bytes_eq}
+use Rattle.std.specs.Prelude.{ℕ, List}
 use Rattle.round_lang.specs.declared.expr.Constant.{Constant}
 use Rattle.round_lang.specs.declared.expr.UnaryOperator.{UnaryOperator}
 use Rattle.round_lang.specs.declared.expr.BinaryOperator.{BinaryOperator}

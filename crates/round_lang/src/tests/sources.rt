@@ -121,8 +121,8 @@ fn the_parts_of_the_others(rt: HostRuntime) -> Result<(), Fail> {
     Ok(())
 }
 
-/// `gather` with this in the place of its condition.
-fn gather_when(alloc: std::alloc::Global, nots: usize) -> Result<String, std::alloc::AllocError> {
+/// A program whose condition is `true` behind so many times `not`.
+fn program_when(alloc: std::alloc::Global, nots: usize) -> Result<String, std::alloc::AllocError> {
     let mut text = String::from_str(alloc, "values 2 period 1 at 1: message () send when ")?;
     for _ in 0..nots {
         text.push_str("not ")?;
@@ -134,9 +134,9 @@ fn gather_when(alloc: std::alloc::Global, nots: usize) -> Result<String, std::al
 #[test]
 fn changed_sources(rt: HostRuntime) -> Result<(), Fail> {
     let alloc = rt.alloc();
-    assert_eq!(rt; fault_of(alloc, gather_when(alloc, 31)?.as_str()), None);
+    assert_eq!(rt; fault_of(alloc, program_when(alloc, 31)?.as_str()), None);
     assert_eq!(rt;
-        fault_of(alloc, gather_when(alloc, 32)?.as_str()),
+        fault_of(alloc, program_when(alloc, 32)?.as_str()),
         Some(LangFault::TooDeep)
     );
     assert_eq!(rt;

@@ -1,4 +1,4 @@
-use Rattle.std.proofs.Common.{sym, ◌∙◌}
+use Rattle.std.proofs.Common.{sym}
 use Rattle.std.proofs.lemmas.List.{take_rest}
 use Rattle.round_lang.proofs.Names.{front_in_name}
 use Rattle.round_lang.proofs.lexing.next_piece.Goals as goal

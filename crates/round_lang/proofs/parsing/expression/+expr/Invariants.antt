@@ -2,7 +2,7 @@ use Rattle.std.proofs.Common.{◌+◌, ◌-◌, ◌*◌}
 use Rattle.round_lang.specs.Lexemes.{lexemes}
 use Rattle.round_lang.specs.Tree.{tree_of}
 use Rattle.round_lang.proofs.Descent.{rank, GoesOn}
-use Rattle.round_lang.specs.declared.parsing.level.Level.TheVariants.{Whole, Negation, Comparison, Postfix, Atom}
+use Rattle.round_lang.specs.declared.parsing.level.Level.TheVariants.{Whole, Negation, Comparison, Postfix}
 use Rattle.round_lang.proofs.parsing.expression.+expr.Given as goal
 
 abbrev pub decreases-read : goal.decreases-read

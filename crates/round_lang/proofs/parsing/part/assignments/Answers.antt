@@ -1,4 +1,4 @@
-use Rattle.std.proofs.Common.{sym, ◌∙◌, arith}
+use Rattle.std.proofs.Common.{sym}
 use Rattle.std.proofs.lemmas.Result.{err_from_is_err_and}
 use Rattle.round_lang.proofs.Loops.{assigns_first, assigns_fails, assigns_shorter, assigns_next, assigns_end}
 use Rattle.round_lang.proofs.parsing.part.assignments.Goals as goal

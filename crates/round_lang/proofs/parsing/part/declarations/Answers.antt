@@ -1,4 +1,4 @@
-use Rattle.std.proofs.Common.{sym, ◌∙◌, arith}
+use Rattle.std.proofs.Common.{sym, arith}
 use Rattle.std.proofs.lemmas.Result.{err_from_is_err_and}
 use Rattle.round_lang.proofs.Loops.{declares_first, declares_fails, declares_shorter, declares_next, declares_end}
 use Rattle.round_lang.proofs.parsing.part.declarations.Goals as goal

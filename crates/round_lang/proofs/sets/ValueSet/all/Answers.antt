@@ -1,4 +1,4 @@
-use Rattle.std.proofs.Common.{arith, refl}
+use Rattle.std.proofs.Common.{refl}
 use Rattle.round_lang.specs.Sets.{set_of}
 use Rattle.round_lang.proofs.SetLaws.{is-everything}
 use Rattle.round_lang.proofs.sets.ValueSet.all.Goals as goal

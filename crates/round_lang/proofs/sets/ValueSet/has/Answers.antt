@@ -1,4 +1,3 @@
-use Rattle.std.proofs.Common.{◌≡◌, arith, ◌∙◌}
 use Rattle.round_lang.proofs.SetLaws.{tests_member}
 use Rattle.round_lang.proofs.sets.ValueSet.has.Goals as goal
 

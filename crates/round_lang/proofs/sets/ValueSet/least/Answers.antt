@@ -1,4 +1,4 @@
-use Rattle.std.proofs.Common.{◌<◌, arith}
+use Rattle.std.proofs.Common.{arith}
 use Rattle.round_lang.proofs.SetLaws.{is-least, is-least_none}
 use Rattle.round_lang.proofs.sets.ValueSet.least.Goals as goal
 
