@@ -12,7 +12,7 @@ use std::alloc::Global;
 use std::fmt::Debug;
 use std::process::Abort;
 use std::test::Fail;
-use step_machine::{Name, Node, Sealed};
+use step_machine::{Name, Node, Prepared, Sealed};
 
 /// What is done. A node that isn't the journal's own, a double, does the same with frames of its own.
 #[derive(Clone, Copy)]
@@ -88,6 +88,22 @@ fn seen_of(journal: &Journal<Known>, node: u32) -> Seen
     }
 }
 
+/// What the node has for another; where memory is wanting once, it's asked again.
+fn prepare(node: &mut Node, to: u32) -> Result<Prepared, Fail>
+    requires { to < node.old.setup.nodes }
+    ensures ready { IfOk result (λ p. p ≡ record {
+      name = record { from = node.old.me; to = to; round = node.old.round };
+      state = node.old.state;
+      message = (algorithm_in node.old).send node.old.round node.old.state node.old.me to;
+    }) }
+    ensures node { node.new ≡ node.old }
+{
+    match node.prepare(to) {
+        Ok(prepared) => Ok(prepared),
+        Err(_) => Ok(node.prepare(to)?),
+    }
+}
+
 /// The name of the node's next message to the first node.
 fn name_of(journal: &Journal<Known>, node: &mut Node) -> Result<Name, Fail>
     requires setup { node.old.setup ≡ journal.now.log.setup }
@@ -99,7 +115,7 @@ fn name_of(journal: &Journal<Known>, node: &mut Node) -> Result<Name, Fail>
     if nodes == 0 {
         return Err(Fail::new("no node"));
     }
-    let name = node.prepare(0)?.name();
+    let name = prepare(node, 0)?.name();
     if name.from >= nodes {
         return Err(Fail::new("no such node"));
     }
@@ -126,7 +142,7 @@ fn do_send(
         return Err(Fail::new("no such message"));
     }
     let before = seen_of(journal, me);
-    let prepared = node.prepare(to)?;
+    let prepared = prepare(node, to)?;
     let name = prepared.name();
     match journal.send(prepared) {
         Ok(()) => Ok(None),
@@ -281,7 +297,9 @@ fn do_skip(journal: &Journal<Known>, node: &mut Node) -> Result<(), Fail>
     if node.round() > journal.book().setup().rounds {
         return Err(Fail::new("no such round"));
     }
-    node.finish()?;
+    if node.finish().is_err() {
+        node.finish()?;
+    }
     node.settle();
     Ok(())
 }
@@ -394,7 +412,8 @@ pub fn play(
     assert!(rt; setup.is_lawful(program));
     let mut journal = Journal::open(alloc, program, &setup, plan)?;
     let mut nodes = all_nodes(alloc, program, &setup)?;
-    let mut told = String::new(alloc);
+    // So that telling takes no memory.
+    let mut told = String::with_capacity(alloc, 400)?;
     for deed in acts {
         if !told.is_empty() {
             told.push_str(", ")?;
