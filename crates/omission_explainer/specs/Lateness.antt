@@ -9,7 +9,7 @@ use Rattle.step_journal.specs.World.{World, is_receive, nodes_of}
 use Rattle.step_machine.specs.declared.event.Event.{Event}
 use Rattle.step_machine.specs.declared.event.Name.{Name}
 
--- at which of its steps a receiver that has taken `count` is the first time free to hear of a message; silence keeps it from nothing
+-- the step number below which a receiver that has taken `count` steps lacked a message: that of its release, or the next one; it lacks nothing of silence
 abbrev pub open_until : ℕ → Mark → ℕ
 open_until count Unsent = 0
 open_until count Silent = 0

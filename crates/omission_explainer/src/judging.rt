@@ -41,7 +41,7 @@ fn yes_or_no(flag: bool) -> &'static str
     if flag { "yes" } else { "no" }
 }
 
-/// How many steps each correct node has taken, by node.
+/// For how many nodes step counts are kept: a run has no more.
 const COUNTS: usize = MAX_NODES as usize;
 
 /// Judges the run of a journal, where the nodes `correct` are correct, for the bound `delta` on the
@@ -160,7 +160,7 @@ fn slot_at<P: Plan>(book: &Book<P>, node: u32, count: u64) -> Option<Name>
     }
 }
 
-/// The step of its receiver from which a message is there, or how many steps that has taken.
+/// Up to which step number its receiver lacks a message.
 fn open_until<P: Plan>(book: &Book<P>, name: Name) -> u64
     requires { IsName book.now.log.setup name }
     ensures { result ≡ open_until (count_of book.now.log name.to) (mark_in (P.start book.now.plan) book.now.log name) }
