@@ -7,3 +7,4 @@ mod Rows
 pub mod Sound
 pub mod TypedTurns
 pub mod TypedStarts
+mod Broadcasts

@@ -12,3 +12,4 @@ pub mod Omissions
 pub mod States
 pub mod Laws
 pub mod Typed
+pub mod Broadcast

@@ -2,6 +2,7 @@
 //! the run of all nodes in rounds.
 #![tactic(auto)]
 
+mod broadcast;
 mod env;
 mod evaluator;
 mod laws;
@@ -15,6 +16,7 @@ mod states;
 mod tests;
 mod turn;
 
+pub use broadcast::is_broadcast;
 pub use env::{Env, Scope};
 pub use evaluator::eval;
 pub use laws::{

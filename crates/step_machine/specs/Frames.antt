@@ -1,5 +1,5 @@
 -- Messages on their way, and what a node has ready for a send slot.
-use Rattle.std.specs.Prelude.{◌≡◌, ℕ, List, Option, Some, option_map}
+use Rattle.std.specs.Prelude.{◌≡◌, List, Option, Some, option_map}
 use Rattle.round_lang.specs.declared.value.Value.{Value}
 use Rattle.round_meaning.specs.Rounds.{Algorithm}
 use Rattle.step_machine.specs.declared.event.Name.{Name}

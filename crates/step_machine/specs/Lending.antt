@@ -1,10 +1,10 @@
 -- What a node is when the round's end that it lent is given back.
-use Rattle.std.specs.Prelude.{◌≡◌, ⊤, Result, OnOk}
+use Rattle.std.specs.Prelude.{⊤, Result, OnOk}
 use mathlib.Core.Option.{none}
 use Rattle.std.specs.Borrow.{MutBor, Fml, follows_so}
 use Rattle.round_lang.specs.declared.memory.NoMemory.{NoMemory}
 use Rattle.step_machine.specs.Nodes.{IsEnd, IsSameTurn}
-use Rattle.step_machine.specs.declared.node.Finished.{Finished}
+use Rattle.step_machine.specs.declared.node.finished.Finished.{Finished}
 use Rattle.step_machine.specs.declared.node.Node.{Node}
 use Rattle.step_machine.specs.contracts.node.Node.{the_row}
 

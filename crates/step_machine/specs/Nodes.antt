@@ -1,5 +1,5 @@
 -- A node, as contracts see it, and what it ends a round with.
-use Rattle.std.specs.Prelude.{◌≡◌, ℕ, ◌<◌, List, Option, Some, None, IsSome, length, option_map, slice_index_or}
+use Rattle.std.specs.Prelude.{◌≡◌, ℕ, ◌<◌, List, Option, Some, None, IsSome, option_map, slice_index_or}
 use Rattle.std.specs.Option.{ForSome}
 use Rattle.std.specs.List.{filter_map}
 use Rattle.round_lang.specs.declared.value.Value.{Value}
@@ -25,6 +25,10 @@ pub record NodeView : Type 0 where
 
 abbrev pub algorithm_in : NodeView → Algorithm
 algorithm_in n = algorithm_of n.program n.setup
+
+-- in its round the node sends this, a message or silence, to every node
+abbrev pub IsSaidToAll : NodeView → Option (List Value) → Type 0
+IsSaidToAll n m = (dest : ℕ) → (algorithm_in n).send n.round n.state n.me dest ≡ m
 
 -- the frame of a sender, none where none is held
 abbrev pub held_at : List (Option Frame) → ℕ → Option Frame

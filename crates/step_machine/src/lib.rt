@@ -3,8 +3,11 @@
 
 mod event;
 mod node;
+mod prepared;
 mod sealed;
+mod spoken;
 
 pub use event::{Event, InFlight, Name};
 pub use node::{Finished, Node, Taken};
-pub use sealed::{Prepared, Sealed};
+pub use prepared::Prepared;
+pub use sealed::Sealed;

@@ -1,17 +1,22 @@
 //! A node.
 ghost use Rattle.std.specs.Arc.{arc_value};
 ghost use Rattle.std.specs.Borrow.{sem};
-ghost use Rattle.std.specs.Prelude.{◌≡◌, ◌≢◌, ℕ, ◌+◌, ◌<◌, ◌≤◌, ◌↔◌, IfOk, IsSome, Some, None, length, replicate, slice_set};
+ghost use Rattle.std.specs.Prelude.{◌≡◌, ◌≢◌, ℕ, ◌+◌, ◌<◌, ◌≤◌, ◌↔◌, IfOk, IsSome, Some, None, length, option_map, replicate, slice_set};
 ghost use Rattle.round_meaning.specs.Rounds.{algorithm_of};
 ghost use Rattle.round_meaning.specs.Setups.{IsSized};
 ghost use Rattle.step_machine.specs.Frames.{Spells};
 ghost use Rattle.step_machine.specs.Nodes.{IsDoubled, IsEnd, IsHeld, IsSameTurn, ahead, algorithm_in, held_at, inbox_of};
 
+mod finished;
+
 use crate::event::Name;
-use crate::sealed::{Prepared, Sealed};
+use crate::prepared::Prepared;
+use crate::sealed::Sealed;
+use crate::spoken::Spoken;
+pub use finished::Finished;
 use round_check::Checked;
-use round_lang::{NoMemory, Vars};
-use round_meaning::{Received, Setup, end_of, initial_of, send_of};
+use round_lang::{Message, NoMemory, Vars};
+use round_meaning::{Received, Setup, end_of, initial_of, is_broadcast, send_of};
 use std::alloc::Global;
 use std::marker::Model;
 use std::sync::Arc;
@@ -29,7 +34,8 @@ pub enum Taken {
 }
 
 /// One node, outside of all locks: its program and setup, its round (from 1), its state after the
-/// round before, the frames of its round that it holds, by sender, and room for the next state.
+/// round before, the frames of its round that it holds, by sender, and room for the next state. What it
+/// sends in its round is kept where it's the same for all, so that it's computed once.
 #[derive(Drop)]
 pub struct Node {
     alloc: Global,
@@ -40,6 +46,7 @@ pub struct Node {
     state: Arc<Vars>,
     held: Vec<Option<Sealed>>,
     next: Option<Arc<Vars>>,
+    spoken: Option<Spoken>,
 }
 
 impl Model for Node {
@@ -92,6 +99,7 @@ impl Node {
             state,
             held,
             next: None,
+            spoken: None,
         })
     }
 
@@ -112,6 +120,39 @@ impl Node {
         }) }
         ensures same { self.new ≡ self.old }
     {
+        let message = self.message_to(dest)?;
+        let name = Name {
+            from: self.me,
+            to: dest,
+            round: self.round,
+        };
+        let state = Arc::try_clone(&self.state)?;
+        Ok(Prepared::new(name, state, message))
+    }
+
+    /// The message to `dest`, or silence.
+    fn message_to(&mut self, dest: u32) -> Result<Option<Arc<Message>>, NoMemory>
+        ensures says { IfOk result (λ m. option_map (λ a. arc_value a) m
+            ≡ (algorithm_in self.old).send self.old.round self.old.state self.old.me dest) }
+        ensures same { self.new ≡ self.old }
+    {
+        if let Some(spoken) = &self.spoken {
+            return spoken.message();
+        }
+        let message = self.computed(dest)?;
+        if is_broadcast(&self.program, self.round) {
+            let spoken = Spoken::new(message);
+            let message = spoken.message()?;
+            self.spoken = Some(spoken);
+            return Ok(message);
+        }
+        Ok(message)
+    }
+
+    fn computed(&self, dest: u32) -> Result<Option<Arc<Message>>, NoMemory>
+        ensures { IfOk result (λ m. option_map (λ a. arc_value a) m
+            ≡ (algorithm_in self.now).send self.now.round self.now.state self.now.me dest) }
+    {
         let message = send_of(
             self.alloc,
             &self.program,
@@ -121,13 +162,10 @@ impl Node {
             self.me,
             dest,
         )?;
-        let name = Name {
-            from: self.me,
-            to: dest,
-            round: self.round,
-        };
-        let state = Arc::try_clone(&self.state)?;
-        Ok(Prepared::new(name, state, message))
+        match message {
+            Some(message) => Ok(Some(Arc::new(self.alloc, message)?)),
+            None => Ok(None),
+        }
     }
 
     /// Takes a frame that was sent to it. What isn't kept is dropped.
@@ -192,6 +230,7 @@ impl Node {
             None => unreachable!(),
         }
         let_go_of_all(&mut self.held);
+        self.spoken = None;
         self.round += 1;
     }
 }
@@ -219,58 +258,4 @@ fn inbox_of(alloc: Global, held: &[Option<Sealed>]) -> Result<Vec<Received>, NoM
         }
     }
     Ok(inbox)
-}
-
-/// What a node ended its round with.
-#[derive(Clone, Copy)]
-pub struct Finished<'a> {
-    node: &'a Node,
-    ghost ended: { IsEnd node.now },
-}
-
-impl<'a> Finished<'a> {
-    /// The node that ended a round.
-    pub fn node(&self) -> u32
-        ensures value { result ≡ self.now.node.now.me }
-        ensures one { result < self.now.node.now.setup.nodes }
-    {
-        let node = self.node;
-        node.me
-    }
-
-    pub fn round(&self) -> u32
-        ensures { result ≡ self.now.node.now.round }
-    {
-        let node = self.node;
-        node.round
-    }
-
-    /// The state before the round's end.
-    pub fn old(&self) -> &'a Vars
-        ensures { result.now ≡ self.now.node.now.state }
-    {
-        let node = self.node;
-        &node.state
-    }
-
-    /// The frames that it was computed from, by sender.
-    pub fn frames(&self) -> &'a [Option<Sealed>]
-        ensures value { result.now ≡ self.now.node.now.held }
-        ensures sized { length result.now ≡ self.now.node.now.setup.nodes }
-        ensures held { IsHeld (algorithm_in self.now.node.now) self.now.node.now.setup.nodes self.now.node.now.me self.now.node.now.round result.now }
-    {
-        let node = self.node;
-        &node.held
-    }
-
-    /// The state after the round, to be shared.
-    pub fn new_state(&self) -> Result<Arc<Vars>, NoMemory>
-        ensures { IfOk result (λ s. Some (arc_value s) ≡ self.now.node.now.next) }
-    {
-        let node = self.node;
-        match &node.next {
-            Some(next) => Ok(Arc::try_clone(next)?),
-            None => unreachable!(),
-        }
-    }
 }

@@ -1,17 +1,18 @@
 //! Messages on their way.
-ghost use Rattle.std.specs.Prelude.{◌≡◌, ◌↔◌, IfSome, IsTrue, None, Some, option_map};
+ghost use Rattle.std.specs.Prelude.{◌≡◌};
 
 use crate::event::Name;
 use round_lang::{Message, Vars};
 use std::marker::Model;
 use std::sync::Arc;
 
-/// A message under its name, with the state that its sender was in.
+/// A message under its name, with the state that its sender was in. Both are shared, since one state
+/// sends many messages, and often the same to all.
 #[derive(Drop)]
 pub struct Sealed {
     name: Name,
     state: Arc<Vars>,
-    message: Message,
+    message: Arc<Message>,
 }
 
 impl Model for Sealed {
@@ -20,10 +21,22 @@ impl Model for Sealed {
 
     ghost Value = { Frame };
 
-    ghost view = { λ s. record { name = s.name; state = arc_value s.state; message = s.message } };
+    ghost view = { λ s. record { name = s.name; state = arc_value s.state; message = arc_value s.message } };
 }
 
 impl Sealed {
+    ghost use Rattle.std.specs.Arc.{arc_value};
+
+    pub(crate) fn new(name: Name, state: Arc<Vars>, message: Arc<Message>) -> Sealed
+        ensures { result ≡ record { name = name; state = arc_value state; message = arc_value message } }
+    {
+        Sealed {
+            name,
+            state,
+            message,
+        }
+    }
+
     pub fn name(&self) -> Name
         ensures { result ≡ self.now.name }
     {
@@ -41,77 +54,5 @@ impl Sealed {
         ensures { result.now ≡ self.now.message }
     {
         &self.message
-    }
-}
-
-/// What a node has ready for a send slot: its state, and the message to the slot's node or silence.
-#[derive(Drop)]
-pub struct Prepared {
-    name: Name,
-    state: Arc<Vars>,
-    message: Option<Message>,
-}
-
-impl Model for Prepared {
-    ghost use Rattle.std.specs.Arc.{arc_value};
-    ghost use Rattle.step_machine.specs.Frames.{Ready};
-
-    ghost Value = { Ready };
-
-    ghost view = { λ s. record { name = s.name; state = arc_value s.state; message = s.message } };
-}
-
-impl Prepared {
-    ghost use Rattle.std.specs.Arc.{arc_value};
-    ghost use Rattle.step_machine.specs.Frames.{Ready, frame_of};
-
-    pub(crate) fn new(name: Name, state: Arc<Vars>, message: Option<Message>) -> Prepared
-        ensures { result ≡ record { name = name; state = arc_value state; message = message } }
-    {
-        Prepared {
-            name,
-            state,
-            message,
-        }
-    }
-
-    /// The name that the message has, or would have.
-    pub fn name(&self) -> Name
-        ensures { result ≡ self.now.name }
-    {
-        self.name
-    }
-
-    /// The state that it was prepared in.
-    pub fn state(&self) -> &Vars
-        ensures { result.now ≡ self.now.state }
-    {
-        &self.state
-    }
-
-    /// Whether there is no message.
-    pub fn is_silent(&self) -> bool
-        ensures { IsTrue result ↔ (self.now.message ≡ None) }
-    {
-        self.message.is_none()
-    }
-
-    /// The message under its name, where there is one.
-    pub fn into_sealed(self) -> Option<Sealed>
-        ensures { result ≡ frame_of self }
-    {
-        let Prepared {
-            name,
-            state,
-            message,
-        } = self;
-        match message {
-            Some(message) => Some(Sealed {
-                name,
-                state,
-                message,
-            }),
-            None => None,
-        }
     }
 }

@@ -1,11 +1,12 @@
 //! Runs by hand: what is done, one deed after the other, and what the journal answers.
-ghost use Rattle.std.specs.Prelude.{◌≡◌, ◌<◌, All, IfOk};
+ghost use Rattle.std.specs.Prelude.{◌≡◌, ◌<◌, ◌≤◌, All, IfOk, OnErr};
 ghost use Rattle.round_meaning.specs.Setups.{IsSized};
 ghost use Rattle.step_journal.specs.Stock.{IsMail};
 ghost use Rattle.step_machine.specs.Nodes.{algorithm_in};
 
 use crate::{CloseFault, IdleFault, Journal, ReceiveFault, SendFault};
 use round_check::Checked;
+use round_lang::NoMemory;
 use round_meaning::{Inputs, Setup};
 use slot_plans::Known;
 use std::alloc::Global;
@@ -205,6 +206,48 @@ fn do_receive(
     }
 }
 
+/// A node ends its round, and the journal closes it or says why not. Where only the node's memory was
+/// wanting, nothing is done.
+fn end_round(
+    rt: &impl Abort,
+    journal: &mut Journal<Known>,
+    node: &mut Node,
+    me: u32,
+) -> Result<Option<CloseFault>, NoMemory>
+    requires me { me < journal.old.log.setup.nodes }
+    requires round { node.old.round ≤ node.old.setup.rounds }
+    requires program { node.old.program ≡ journal.old.log.program }
+    requires setup { node.old.setup ≡ journal.old.log.setup }
+    ensures program { journal.new.log.program ≡ journal.old.log.program }
+    ensures setup { journal.new.log.setup ≡ journal.old.log.setup }
+    ensures node_program { node.new.program ≡ node.old.program }
+    ensures node_setup { node.new.setup ≡ node.old.setup }
+    ensures again { OnErr result (node.new.round ≡ node.old.round) }
+{
+    let before = seen_of(journal, me);
+    let finished = node.finish()?;
+    match journal.close(&finished) {
+        Ok(()) => {
+            node.settle();
+            Ok(None)
+        }
+        Err(CloseFault::NoMemory) => {
+            assert_eq!(rt; seen_of(journal, me), before);
+            match journal.close(&finished) {
+                Ok(()) => {
+                    node.settle();
+                    Ok(None)
+                }
+                Err(fault) => Ok(Some(fault)),
+            }
+        }
+        Err(fault) => {
+            assert_eq!(rt; seen_of(journal, me), before);
+            Ok(Some(fault))
+        }
+    }
+}
+
 fn do_close(
     rt: &impl Abort,
     journal: &mut Journal<Known>,
@@ -221,23 +264,9 @@ fn do_close(
     if node.round() > journal.book().setup().rounds {
         return Err(Fail::new("no such round"));
     }
-    let before = seen_of(journal, me);
-    let finished = node.finish()?;
-    match journal.close(&finished) {
-        Ok(()) => {
-            node.settle();
-            Ok(None)
-        }
-        Err(CloseFault::NoMemory) => {
-            assert_eq!(rt; seen_of(journal, me), before);
-            journal.close(&finished)?;
-            node.settle();
-            Ok(None)
-        }
-        Err(fault) => {
-            assert_eq!(rt; seen_of(journal, me), before);
-            Ok(Some(fault))
-        }
+    match end_round(rt, journal, node, me) {
+        Ok(fault) => Ok(fault),
+        Err(NoMemory) => Ok(end_round(rt, journal, node, me)?),
     }
 }
 

@@ -18,4 +18,5 @@ invariant_of-result c =
       me = omega arith;
       sized = ap length none ∙ length-replicate _ _;
       held = subst (IsHeld _ _ _ _) (sym none) (none_held _ _ _ _);
+      spoken = λ m is. absurd cc;
     }

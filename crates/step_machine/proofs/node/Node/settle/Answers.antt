@@ -13,4 +13,5 @@ invariant_of-self c =
       me = c.self.invariant.me;
       sized = ap length written ∙ omega (arith, same, c.self.invariant.sized);
       held = held_none _ _ _ _ _ (λ j. ap (λ l. held_at l j) written ∙ c.let_go_of_all.ensures j);
+      spoken = λ m is. absurd cc;
     }

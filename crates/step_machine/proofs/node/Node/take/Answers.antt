@@ -1,6 +1,6 @@
 use Rattle.std.proofs.Common.{◌≡◌, ◌<◌, ap, ◌∙◌, arith, length-set, sym, subst}
 use Rattle.step_machine.specs.declared.event.Name.{Name}
-use Rattle.step_machine.specs.Frames.{Frame, Spells}
+use Rattle.step_machine.specs.Frames.{Spells}
 use Rattle.step_machine.specs.Nodes.{IsFrom, NodeView, algorithm_in}
 use Rattle.step_machine.specs.NodeInside.{node_seen}
 use Rattle.step_machine.proofs.Held.{one_held}
@@ -25,4 +25,5 @@ invariant_of-self-2 c =
       me = c.self.invariant.me;
       sized = length-set _ _ _ ∙ c.self.invariant.sized;
       held = one_held _ _ _ _ _ _ _ c.self.invariant.sized here new c.self.invariant.held;
+      spoken = c.self.invariant.spoken;
     }
