@@ -57,6 +57,8 @@ pub fn judged_run<P: Plan>(
     terms: Terms<'_>,
 ) -> Result<Verdict, RunFault>
     requires { IsLawful program.now.values setup.now → P.nodes plan ≡ setup.now.nodes }
+    ensures bad_setup { (result ≡ Err RunFault.BadSetup)
+        ↔ (IsLawful program.now.values setup.now × All (λ n. n < setup.now.nodes) terms.entry.correct.now → ⊥) }
     ensures unknown { IfErr result (IsFirstUnknown setup.now events.now) }
     ensures judged { IfOk result (IsVerdictOf (P.start plan) (P.receives plan) program.now setup.now events.now
         terms.entry.correct.now terms.entry.delta terms.entry.gst) }
@@ -71,6 +73,7 @@ pub fn judged_run<P: Plan>(
 /// The set of the listed nodes, where each is below a number of nodes and below the most that there can be.
 fn nodes_in(list: &[u32], nodes: u32) -> Option<NodeSet>
     ensures some { IfSome result (λ set. AreListed nodes list.now set.bits) }
+    ensures each { IfSome result (λ _set. All (λ n. n < nodes) list.now) }
     ensures none { IfNone result (All (λ n. (n < nodes) × (n < MAX_NODES)) list.now → ⊥) }
 {
     let mut set = NodeSet::empty();

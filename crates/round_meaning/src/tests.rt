@@ -4,8 +4,8 @@ mod operators;
 mod programs;
 
 use crate::{
-    Inputs, NodeSet, OmissionTable, Received, Setup, decision_of, end_of, initial_of, run_rounds,
-    send_of,
+    Inputs, NodeSet, OmissionTable, Received, Setup, decision_of, end_of, initial_of, is_broadcast,
+    run_rounds, send_of,
 };
 use programs::{Maker, count_votes, gather, numbers};
 use round_check::Checked;
@@ -88,6 +88,16 @@ fn rounds_and_phases(rt: HostRuntime) -> Result<(), Fail> {
     assert_eq!(rt; number_sent(alloc, Constant::Dest, 2)?, Some(0));
     assert_eq!(rt; number_sent(alloc, Constant::Round, 5)?, Some(5));
     assert_eq!(rt; number_sent(alloc, Constant::Nodes, 5)?, Some(2));
+    Ok(())
+}
+
+#[test]
+fn what_all_are_sent(rt: HostRuntime) -> Result<(), Fail> {
+    let alloc = rt.alloc();
+    let to_all = numbers(Maker { alloc }, Constant::Me)?;
+    let to_each = numbers(Maker { alloc }, Constant::Dest)?;
+    assert!(rt; is_broadcast(&to_all, 1) && is_broadcast(&to_all, 2));
+    assert!(rt; is_broadcast(&to_each, 1) && !is_broadcast(&to_each, 2));
     Ok(())
 }
 
