@@ -2,7 +2,9 @@
 ghost use Rattle.std.specs.Prelude.{◌≡◌, ◌≤◌, ◌<◌, ◌↔◌, Err, IfOk};
 ghost use Rattle.command_runs.specs.Library.{gather_round, gather_tree};
 ghost use Rattle.command_runs.specs.declared.library.LibraryFault.TheVariants as fault;
-ghost use Rattle.round_lang.specs.Tree.{TNamed, tree_of};
+ghost use Rattle.round_lang.specs.Limits.{max_nesting};
+ghost use Rattle.round_lang.specs.Tokens.{IsName};
+ghost use Rattle.round_lang.specs.Tree.{TNamed, nesting, tree_of};
 
 use round_check::{Checked, check};
 use round_lang::{
@@ -44,12 +46,27 @@ pub fn gather(alloc: Global, values: u32) -> Result<Checked, LibraryFault>
 }
 
 fn identifier(alloc: Global, text: &str) -> Result<Identifier, NoMemory>
+    requires { IsName text.now }
     ensures { IfOk result (λ name. name ≡ text.now) }
 {
-    Ok(Identifier::new(String::from_str(alloc, text)?))
+    match Identifier::new(String::from_str(alloc, text)?) {
+        Some(name) => Ok(name),
+        None => unreachable!(),
+    }
+}
+
+fn nested(expr: Expr) -> Formula
+    requires { nesting (tree_of expr) ≤ max_nesting }
+    ensures { result ≡ tree_of expr }
+{
+    match Formula::new(expr) {
+        Some(formula) => formula,
+        None => unreachable!(),
+    }
 }
 
 fn named(alloc: Global, text: &str) -> Result<Expr, NoMemory>
+    requires { IsName text.now }
     ensures { IfOk result (λ expr. tree_of expr ≡ TNamed text.now) }
 {
     Ok(Expr::Named(identifier(alloc, text)?))
@@ -69,7 +86,7 @@ fn gather_program(alloc: Global, values: u32) -> Result<Program, NoMemory>
         name: identifier(alloc, "seen")?,
         kind: VariableKind::State {
             ty: Ty::Set,
-            start: Formula::new(own),
+            start: nested(own),
         },
     };
     Ok(Program::new(
@@ -93,13 +110,13 @@ fn gather_block(alloc: Global) -> Result<Block, NoMemory>
     };
     let join = Assignment {
         target: identifier(alloc, "seen")?,
-        formula: Formula::new(both),
+        formula: nested(both),
     };
     Ok(Block::new(
         1,
         vec![in alloc; field]?,
-        Formula::new(Expr::Fixed(Constant::True)),
-        vec![in alloc; Formula::new(named(alloc, "seen")?)]?,
+        nested(Expr::Fixed(Constant::True)),
+        vec![in alloc; nested(named(alloc, "seen")?)]?,
         vec![in alloc; join]?,
         Vec::new(alloc),
     ))

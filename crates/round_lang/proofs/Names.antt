@@ -1,4 +1,4 @@
--- Names are ASCII.
+-- Names are ASCII, and the front of a text that begins as one is one.
 use Rattle.std.proofs.Common.{◌≡◌, ℕ, ◌+◌, ◌<◌, Bool, true, false, ◌&&◌, List, [], ◌∷◌, length, take, drop, get_or, refl, arith}
 use Rattle.std.specs.Str.{IsAscii}
 use Rattle.std.specs.List.{list_all, prefix_len}
@@ -6,7 +6,7 @@ use Rattle.std.proofs.Math.Numerals.{one-add}
 use Rattle.std.proofs.lemmas.Bool.{and_from}
 use Rattle.std.proofs.lemmas.Bool.Decides.{nat_tests}
 use Rattle.std.proofs.lemmas.Str.Ascii.{IsAscii-nil, IsAscii-cons}
-use Rattle.round_lang.specs.Tokens.{begins_name, is_in_name}
+use Rattle.round_lang.specs.Tokens.{begins_name, is_in_name, is_name}
 use Rattle.round_lang.proofs.Longest.{all_in_run}
 
 in_name_ascii : (b : ℕ) → is_in_name b ≡ true → b < 128
@@ -19,11 +19,18 @@ both : (a b : Bool) → (a && b) ≡ true → (a ≡ true) × (b ≡ true)
 both true b e = (refl, e)
 both false b e = absurd cc
 
-pub names_ascii : (bs : List ℕ) → list_all is_in_name bs ≡ true → IsAscii bs
+names_ascii : (bs : List ℕ) → list_all is_in_name bs ≡ true → IsAscii bs
 names_ascii [] h = IsAscii-nil
 names_ascii (b ∷ bs) h = let p = both (is_in_name b) (list_all is_in_name bs) h in IsAscii-cons b bs (in_name_ascii b p.0) (names_ascii bs p.1)
 
-pub front_in_name : (text : List ℕ) (n : ℕ) → 0 < length text → begins_name (get_or text 0 0) ≡ true → n ≡ prefix_len is_in_name (drop 1 text) → list_all is_in_name (take (1 + n) text) ≡ true
-front_in_name [] n lt h e = absurd (omega arith)
-front_in_name (a ∷ bs) n lt h e =
-    rw (one-add, e) (and_from (is_in_name a) (list_all is_in_name (take (prefix_len is_in_name bs) bs)) (begins_in_name a h) (all_in_run is_in_name bs))
+pub spelt_ascii : (bs : List ℕ) → is_name bs ≡ true → IsAscii bs
+spelt_ascii [] h = IsAscii-nil
+spelt_ascii (b ∷ bs) h =
+    let p = both (begins_name b) (list_all is_in_name bs) h in
+    IsAscii-cons b bs (in_name_ascii b (begins_in_name b p.0)) (names_ascii bs p.1)
+
+-- the front of a text that begins as a name is spelt as one
+pub front_is_name : (text : List ℕ) (n : ℕ) → 0 < length text → begins_name (get_or text 0 0) ≡ true → n ≡ prefix_len is_in_name (drop 1 text) → is_name (take (1 + n) text) ≡ true
+front_is_name [] n lt h e = absurd (omega arith)
+front_is_name (a ∷ bs) n lt h e =
+    rw (one-add, e) (and_from (begins_name a) (list_all is_in_name (take (prefix_len is_in_name bs) bs)) h (all_in_run is_in_name bs))

@@ -2,7 +2,8 @@
 use Rattle.std.proofs.Common.{◌≡◌, ℕ, ◌+◌, ◌<◌, ◌≤◌, Some, None, List, [], ◌∷◌, ◌++◌, ◌-◌, length, take, drop, refl, sym, ap, ◌∙◌, subst, arith, append_assoc}
 use Rattle.std.proofs.lemmas.List.{append-nil, nil_from_length, length-take, take_rest, drop-drop, drop_all, length-drop, map-append}
 use Rattle.round_lang.specs.declared.token.Token.{Token}
-use Rattle.round_lang.specs.Lexemes.{Lexeme, lexeme_of, lexemes}
+use Rattle.round_lang.specs.CodeTokens.{lexeme_of, lexemes}
+use Rattle.round_lang.specs.Lexemes.{Lexeme}
 use Rattle.round_lang.specs.Tokens.{Tokens, lexeme}
 use Rattle.round_lang.proofs.Longest.{empty_is_none}
 use Rattle.round_lang.specs.Tokens as t

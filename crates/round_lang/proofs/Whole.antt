@@ -5,7 +5,8 @@ use Rattle.std.proofs.lemmas.Bool.{eqb-true}
 use Rattle.round_lang.specs.declared.token.Mark.TheVariants as m
 use Rattle.round_lang.specs.declared.token.Token.{Token}
 use Rattle.round_lang.specs.declared.program.Variable.{Variable}
-use Rattle.round_lang.specs.Lexemes.{Lexeme, lexemes}
+use Rattle.round_lang.specs.CodeTokens.{lexemes}
+use Rattle.round_lang.specs.Lexemes.{Lexeme}
 use Rattle.round_lang.specs.Limits.{max_values, max_period}
 use Rattle.round_lang.specs.Reading.{after, number_at}
 use Rattle.round_lang.specs.Syntax.{BlockTree, ProgramTree}

@@ -5,6 +5,7 @@ pub mod Tree
 pub mod TreeCode
 pub mod Syntax
 pub mod Lexemes
+pub mod CodeTokens
 pub mod Keywords
 pub mod Tokens
 pub mod Scanning

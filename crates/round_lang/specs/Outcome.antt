@@ -5,14 +5,15 @@ use Rattle.round_lang.specs.declared.block.Field.{Field}
 use Rattle.round_lang.specs.declared.program.Variable.{Variable}
 use Rattle.round_lang.specs.declared.expr.BinaryOperator.{BinaryOperator}
 use Rattle.round_lang.specs.declared.expr.Expr.{Expr}
-use Rattle.round_lang.specs.declared.token.Name.{Name}
+use Rattle.round_lang.specs.declared.name.Name.{Name}
 use Rattle.round_lang.specs.declared.token.Token.{Token}
 use Rattle.round_lang.specs.declared.parsing.fault.Fault.{Fault}
 use Rattle.round_lang.specs.declared.parsing.fault.Fault.TheVariants as fault
 use Rattle.round_lang.specs.declared.parsing.part.Declared.{Declared}
 use Rattle.round_lang.specs.declared.parsing.level.Level.{Level}
 use Rattle.round_lang.specs.declared.parsing.level.Level.TheVariants.{Disjunction, Conjunction, Sum, Product}
-use Rattle.round_lang.specs.Lexemes.{Lexeme, lexemes}
+use Rattle.round_lang.specs.CodeTokens.{lexemes}
+use Rattle.round_lang.specs.Lexemes.{Lexeme}
 use Rattle.round_lang.specs.Tree.{Tree, tree_of}
 use Rattle.round_lang.specs.Reading.{Found}
 

@@ -4,7 +4,8 @@ use Rattle.std.specs.Char.{is_ascii_digit}
 use Rattle.std.specs.List.{prefix_len}
 use Rattle.round_lang.specs.declared.lexing.Piece.{Piece}
 use Rattle.round_lang.specs.declared.lexing.Piece.TheVariants as p
-use Rattle.round_lang.specs.Lexemes.{Lexeme, number, lexeme_of}
+use Rattle.round_lang.specs.CodeTokens.{lexeme_of}
+use Rattle.round_lang.specs.Lexemes.{Lexeme, number}
 use Rattle.round_lang.specs.Keywords.{keyword, short_symbol, long_symbol}
 use Rattle.round_lang.specs.Tokens.{is_blank, begins_name, is_in_name, word_of, line_len}
 

@@ -1,9 +1,10 @@
 -- The tokens of a text: names, keywords, numbers and symbols, each as long as can be.
-use Rattle.std.specs.Prelude.{◌≡◌, ℕ, ◌<◌, ◌≤◌, Bool, true, false, not, ◌&&◌, ◌||◌, ◌==◌, if◌then◌else◌, List, [], ◌∷◌, length, take, drop, Option, Some, None}
+use Rattle.std.specs.Prelude.{◌≡◌, ℕ, ◌<◌, ◌≤◌, Bool, true, false, not, ◌&&◌, ◌||◌, ◌==◌, if◌then◌else◌, List, [], ◌∷◌, length, take, drop, Option, Some, None, IsNone, IsTrue}
 use Rattle.std.specs.Char.{is_ascii_digit, is_ascii_alphabetic, is_ascii_alphanumeric}
 use Rattle.std.specs.List.{list_all, prefix_len}
 use Rattle.round_lang.specs.Lexemes.{Lexeme, name, number}
 use Rattle.round_lang.specs.Keywords.{keyword, symbol}
+use Rattle.round_lang.specs.Limits.{max_name}
 
 -- space, tab, CR and LF
 abbrev pub is_blank : ℕ → Bool
@@ -29,6 +30,12 @@ is_number (b ∷ bs) = is_ascii_digit b && list_all is_ascii_digit bs
 abbrev pub word_of : List ℕ → Option Lexeme → Lexeme
 word_of bs None = name bs
 word_of bs (Some l) = l
+
+-- a name: spelt as one, no keyword, and within the limit
+pub record IsName (bs : List ℕ) : Type 0 where
+  pub spelt : IsTrue (is_name bs)
+  pub no_keyword : IsNone (keyword bs)
+  pub short : length bs ≤ max_name
 
 -- the token that these bytes spell, if they spell one
 unfoldable pub lexeme : List ℕ → Option Lexeme

@@ -1,5 +1,5 @@
 -- The tree that an expression is, without the places of its parts in memory.
-use Rattle.std.specs.Prelude.{ℕ, List}
+use Rattle.std.specs.Prelude.{ℕ, suc, max, List}
 use Rattle.round_lang.specs.declared.expr.Constant.{Constant}
 use Rattle.round_lang.specs.declared.expr.UnaryOperator.{UnaryOperator}
 use Rattle.round_lang.specs.declared.expr.BinaryOperator.{BinaryOperator}
@@ -25,3 +25,14 @@ tree_of (Binary' op p a q b) = TBinary op (tree_of a) (tree_of b)
 tree_of (If' p c q a r b) = TIf (tree_of c) (tree_of a) (tree_of b)
 tree_of (SetOf' x p e) = TSetOf x (tree_of e)
 tree_of (RowOf' x p e) = TRowOf x (tree_of e)
+
+-- how deep a tree nests: what has no parts nests 1 deep
+abbrev pub nesting : Tree → ℕ
+nesting (TNumber n) = 1
+nesting (TFixed c) = 1
+nesting (TNamed x) = 1
+nesting (TUnary op a) = suc (nesting a)
+nesting (TBinary op a b) = suc (max (nesting a) (nesting b))
+nesting (TIf c a b) = suc (max (nesting c) (max (nesting a) (nesting b)))
+nesting (TSetOf x e) = suc (nesting e)
+nesting (TRowOf x e) = suc (nesting e)

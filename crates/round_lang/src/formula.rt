@@ -1,41 +1,60 @@
 //! An expression, seen by contracts as its tree.
-ghost use Rattle.std.specs.Prelude.{◌≡◌, IfOk, IsTrue, ◌↔◌};
-ghost use Rattle.round_lang.specs.Tree.{tree_of};
+ghost use Rattle.std.specs.Prelude.{◌≡◌, ◌≤◌, ◌↔◌, IfOk, IsTrue, SomeIff};
+ghost use Rattle.round_lang.specs.Limits.{max_nesting};
+ghost use Rattle.round_lang.specs.Tree.{nesting, tree_of};
 
 use crate::copies::{copy, same};
 use crate::expr::Expr;
+use crate::limits::MAX_NESTING;
 use crate::memory::NoMemory;
 use std::alloc::Global;
 use std::marker::Model;
 
-/// An expression of a program.
+/// An expression of a program, which nests at most 32 deep.
 #[derive(Drop, Debug)]
 pub struct Formula {
     expr: Expr,
 }
 
 impl Model for Formula {
-    ghost use Rattle.round_lang.specs.Tree.{Tree, tree_of};
-    ghost use Rattle.round_lang.specs.TreeCode.{Word, words, tree_from, tree_back};
-    ghost use Rattle.std.specs.Prelude.{List};
+    ghost use Rattle.std.specs.Prelude.{◌≤◌, List};
     ghost use Rattle.std.specs.Coded.{codes, code_by};
+    ghost use Rattle.round_lang.specs.Limits.{max_nesting};
+    ghost use Rattle.round_lang.specs.Tree.{Tree, nesting, tree_of};
+    ghost use Rattle.round_lang.specs.TreeCode.{Word, words, tree_from, tree_back};
 
     ghost Value = { Tree };
 
     ghost coded = { code_by (List Word) (Prim.hlevel codes) words tree_from tree_back };
 
     ghost view = { λ f. tree_of f.expr };
+
+    ghost invariant = { λ f. nesting (tree_of f.expr) ≤ max_nesting };
 }
 
 impl Formula {
-    pub fn new(expr: Expr) -> Formula
+    /// The expression, if it nests within the limit.
+    pub fn new(expr: Expr) -> Option<Formula>
+        ensures { SomeIff result (nesting (tree_of expr) ≤ max_nesting) (tree_of expr) }
+    {
+        if nests_within(&expr, MAX_NESTING) {
+            Some(Formula { expr })
+        } else {
+            None
+        }
+    }
+
+    /// The expression, which is known to nest within the limit.
+    pub(crate) fn known(expr: Expr) -> Formula
+        requires { nesting (tree_of expr) ≤ max_nesting }
         ensures { result ≡ tree_of expr }
     {
         Formula { expr }
     }
 
     pub fn expr(&self) -> &Expr
-        ensures { tree_of result.now ≡ self.now }
+        ensures tree { tree_of result.now ≡ self.now }
+        ensures shallow { nesting (tree_of result.now) ≤ max_nesting }
     {
         &self.expr
     }
@@ -53,5 +72,28 @@ impl Formula {
         ensures { IsTrue result ↔ (self.now ≡ other.now) }
     {
         same(&self.expr, &other.expr)
+    }
+}
+
+/// Whether the expression nests at most so deep. It looks at no part that lies deeper, so that it
+/// needs little stack whatever it's given.
+fn nests_within(expr: &Expr, depth: usize) -> bool
+    ensures { IsTrue result ↔ (nesting (tree_of expr.now) ≤ depth) }
+{
+    if depth == 0 {
+        return false;
+    }
+    let inner = depth - 1;
+    match expr {
+        Expr::Number(_) => true,
+        Expr::Fixed(_) => true,
+        Expr::Named(_) => true,
+        Expr::Unary(_, a) => nests_within(a, inner),
+        Expr::Binary(_, a, b) => nests_within(a, inner) && nests_within(b, inner),
+        Expr::If(c, a, b) => {
+            nests_within(c, inner) && nests_within(a, inner) && nests_within(b, inner)
+        }
+        Expr::SetOf(_, body) => nests_within(body, inner),
+        Expr::RowOf(_, body) => nests_within(body, inner),
     }
 }

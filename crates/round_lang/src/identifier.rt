@@ -1,11 +1,14 @@
 //! Names of the language, seen by contracts as their bytes.
-ghost use Rattle.std.specs.Prelude.{◌≡◌, ◌↔◌, IfOk, IsTrue, string_bytes};
+ghost use Rattle.std.specs.Prelude.{◌≡◌, ◌↔◌, IfOk, IsTrue, SomeIff, string_bytes};
 ghost use Rattle.std.specs.Str.{bytes_eq};
+ghost use Rattle.round_lang.specs.Tokens.{IsName};
 
+use crate::lexing::is_name;
 use crate::memory::NoMemory;
 use std::marker::Model;
 
-/// A name of a variable, a field or a comprehension's number.
+/// A name of a variable, a field or a comprehension's number: a letter or `_` and then letters,
+/// digits and `_`, of at most 32 bytes and no keyword.
 #[derive(Drop, Debug)]
 pub struct Identifier {
     text: String,
@@ -13,21 +16,38 @@ pub struct Identifier {
 
 impl Model for Identifier {
     ghost use Rattle.std.specs.Prelude.{List, ℕ, string_bytes};
+    ghost use Rattle.round_lang.specs.Tokens.{IsName};
 
     ghost Value = { List ℕ };
 
     ghost view = { λ n. string_bytes n.text };
+
+    ghost invariant = { λ n. IsName (string_bytes n.text) };
 }
 
 impl Identifier {
-    pub fn new(text: String) -> Identifier
+    /// The name that the text is.
+    pub fn new(text: String) -> Option<Identifier>
+        ensures { SomeIff result (IsName (string_bytes text)) (string_bytes text) }
+    {
+        if is_name(text.as_bytes()) {
+            Some(Identifier { text })
+        } else {
+            None
+        }
+    }
+
+    /// The name that the text is known to be.
+    pub(crate) fn known(text: String) -> Identifier
+        requires { IsName (string_bytes text) }
         ensures { result ≡ string_bytes text }
     {
         Identifier { text }
     }
 
     pub fn as_str(&self) -> &str
-        ensures { result.now ≡ self.now }
+        ensures text { result.now ≡ self.now }
+        ensures name { IsName result.now }
     {
         self.text.as_str()
     }

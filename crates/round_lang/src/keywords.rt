@@ -2,7 +2,7 @@
 ghost use Rattle.std.specs.Prelude.{◌≡◌, option_map};
 ghost use Rattle.std.specs.Str.{bytes_eq};
 ghost use Rattle.round_lang.specs.Keywords as spec;
-ghost use Rattle.round_lang.specs.Lexemes.{lexeme_of};
+ghost use Rattle.round_lang.specs.CodeTokens.{lexeme_of};
 
 use crate::expr::{BinaryOperator, Constant, Ty, UnaryOperator};
 use crate::token::{Mark, Word};

@@ -1,14 +1,18 @@
 //! From a text to its tokens.
-ghost use Rattle.std.specs.Prelude.{◌≡◌, ◌≢◌, ◌<◌, ◌≤◌, ◌+◌, true, length, slice_index, drop, IfOk, IfErr, List};
+ghost use Rattle.std.specs.Prelude.{◌≡◌, ◌≢◌, ◌<◌, ◌≤◌, ◌+◌, ◌↔◌, length, slice_index, drop, IfOk, IfErr, IsNone, IsTrue, List};
 ghost use Rattle.std.specs.Char.{is_ascii_digit};
 ghost use Rattle.std.specs.List.{list_all, prefix_len};
+ghost use Rattle.round_lang.specs.Keywords as words;
 ghost use Rattle.round_lang.specs.Tokens as spec;
 ghost use Rattle.round_lang.specs.Scanning.{step, symbol_step, step_of};
-ghost use Rattle.round_lang.specs.Lexemes.{Lexeme, lexemes};
+ghost use Rattle.round_lang.specs.CodeTokens.{lexemes};
+ghost use Rattle.round_lang.specs.Lexemes.{Lexeme};
 
 use crate::fault::Span;
 use crate::keywords::{keyword, long_symbol, short_symbol};
-use crate::token::{Name, Token, Word};
+use crate::limits::MAX_NAME;
+use crate::name::Name;
+use crate::token::{Token, Word};
 use std::alloc::{AllocError, AllocFailed, Global};
 
 /// What stands at the front of a text, with its length.
@@ -59,9 +63,34 @@ fn line_len(text: &[u8]) -> usize
     text.iter().take_while(|b| **b != b'\n').count()
 }
 
+/// Whether a name may have these bytes after its first.
+fn are_in_name(bytes: &[u8]) -> bool
+    ensures { result ≡ list_all spec.is_in_name bytes.now }
+{
+    bytes.iter().all(|b| is_in_name(*b))
+}
+
+/// Whether the bytes are a letter or `_`, and then letters, digits and `_`.
+fn is_spelt_as_name(bytes: &[u8]) -> bool
+    ensures { result ≡ spec.is_name bytes.now }
+{
+    match bytes {
+        [first, rest @ ..] => begins_name(*first) && are_in_name(rest),
+        [] => false,
+    }
+}
+
+/// Whether the bytes are a name within its limit.
+pub fn is_name(bytes: &[u8]) -> bool
+    ensures { IsTrue result ↔ spec.IsName bytes.now }
+{
+    bytes.len() <= MAX_NAME && is_spelt_as_name(bytes) && keyword(bytes).is_none()
+}
+
 /// The name that these bytes are.
 fn name_of(bytes: &[u8]) -> Name<'_>
-    requires { list_all spec.is_in_name bytes.now ≡ true }
+    requires spelt { IsTrue (spec.is_name bytes.now) }
+    requires no_keyword { IsNone (words.keyword bytes.now) }
     ensures { result.text.now ≡ bytes.now }
 {
     match str::from_utf8(bytes) {

@@ -1,6 +1,6 @@
 //! From a text to its program.
 ghost use Rattle.std.specs.Prelude.{◌≡◌, ◌≢◌, ◌<◌, ◌↔◌, IfOk, IfErr, Err, length};
-ghost use Rattle.round_lang.specs.Lexemes.{lexemes};
+ghost use Rattle.round_lang.specs.CodeTokens.{lexemes};
 ghost use Rattle.round_lang.specs.Outcome.{Gives};
 ghost use Rattle.round_lang.specs.Parts as parts;
 ghost use Rattle.round_lang.specs.Source.{IsSource};
@@ -14,6 +14,7 @@ mod part;
 
 use crate::fault::LangFault;
 use crate::lexing::{TokenFault, tokens};
+use crate::limits::{MAX_PERIOD, MAX_VALUES};
 use crate::program::Program;
 use crate::token::{Mark, Token};
 use cursor::{expect, number_at, span_at};
@@ -31,9 +32,9 @@ fn program(parser: Parser, tokens: &[Token<'_>]) -> Result<Program, Fault>
     ensures { Gives (λ p. p) result (parts.program (lexemes tokens.now)) }
 {
     let rest = expect(parser.end, Mark::Values, tokens)?;
-    let (values, rest) = number_at(parser.end, 1, 64, rest)?;
+    let (values, rest) = number_at(parser.end, 1, MAX_VALUES, rest)?;
     let rest = expect(parser.end, Mark::Period, rest)?;
-    let (period, rest) = number_at(parser.end, 1, 8, rest)?;
+    let (period, rest) = number_at(parser.end, 1, MAX_PERIOD, rest)?;
     let (declared, rest) = declarations(parser, rest)?;
     let (blocks, rest) = blocks(parser, rest)?;
     if rest.is_empty() {

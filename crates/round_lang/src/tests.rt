@@ -1,6 +1,7 @@
 //! Texts and what they parse to.
 
 mod faults;
+mod limits;
 mod sources;
 mod tokens;
 mod trees;

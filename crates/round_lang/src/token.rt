@@ -4,6 +4,7 @@ ghost use Rattle.round_lang.specs.Lexemes.{same_mark};
 
 use crate::expr::{BinaryOperator, Constant, Ty, UnaryOperator};
 use crate::fault::Span;
+use crate::name::Name;
 
 /// A symbol or a keyword of the grammar that isn't a type, a constant, an operator between two
 /// operands or a call of one argument.
@@ -35,12 +36,6 @@ pub enum Mark {
     Assign,
     Semicolon,
     Comma,
-}
-
-/// The text of a name.
-#[derive(Clone, Copy, Debug)]
-pub struct Name<'a> {
-    pub text: &'a str,
 }
 
 /// What a token is. A number has its digits.

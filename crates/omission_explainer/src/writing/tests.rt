@@ -80,7 +80,8 @@ impl Case {
     fn report(&self, alloc: Global) -> Result<Report, NoMemory> {
         let mut names = Vec::new(alloc);
         for name in self.names {
-            names.push(Identifier::new(String::from_str(alloc, name)?))?;
+            let name = Identifier::new(String::from_str(alloc, name)?);
+            names.push(name.ok_or(NoMemory)?)?;
         }
         let mut rows = Vec::new(alloc);
         for row in self.rows {

@@ -61,7 +61,7 @@ pub(crate) struct Sketch<'a> {
 }
 
 fn name(alloc: Global, text: &str) -> Result<Identifier, NoMemory> {
-    Ok(Identifier::new(String::from_str(alloc, text)?))
+    Identifier::new(String::from_str(alloc, text)?).ok_or(NoMemory)
 }
 
 fn two(alloc: Global, operator: BinaryOperator, a: Expr, b: Expr) -> Result<Expr, NoMemory> {
@@ -108,7 +108,7 @@ fn expr(alloc: Global, form: &Form<'_>) -> Result<Expr, NoMemory> {
 }
 
 pub(crate) fn formula(alloc: Global, form: &Form<'_>) -> Result<Formula, NoMemory> {
-    Ok(Formula::new(expr(alloc, form)?))
+    Formula::new(expr(alloc, form)?).ok_or(NoMemory)
 }
 
 fn variable(alloc: Global, line: &Line<'_>) -> Result<Variable, NoMemory> {

@@ -1,21 +1,17 @@
 //! What comes next among the tokens.
-ghost use Rattle.std.specs.Prelude.{◌≡◌, ◌≤◌, option_map};
-ghost use Rattle.round_lang.specs.Lexemes.{lexemes};
+ghost use Rattle.std.specs.Prelude.{◌≡◌, ◌≤◌, IfOk, length, option_map};
+ghost use Rattle.round_lang.specs.CodeTokens.{lexemes};
 ghost use Rattle.round_lang.specs.Outcome.{Gives, left_of, name_found, operator_found, rest_of};
 ghost use Rattle.round_lang.specs.Reading as reading;
 ghost use Rattle.round_lang.specs.Grammar as grammar;
 
 use crate::expr::{BinaryOperator, Ty};
 use crate::fault::Span;
+use crate::limits::{MAX_NAME, MAX_NUMBER};
+use crate::name::Name;
 use crate::parsing::fault::Fault;
 use crate::parsing::level::{Level, is_level, level_of};
-use crate::token::{Mark, Name, Token, Word, is_mark};
-
-/// How many bytes a name has at most.
-pub const MAX_NAME: usize = 32;
-
-/// The largest number of the language.
-pub const MAX_NUMBER: u64 = 4_294_967_295;
+use crate::token::{Mark, Token, Word, is_mark};
 
 /// Where the next token stands, or where the text ends.
 pub fn span_at(end: usize, tokens: &[Token<'_>]) -> Span {
@@ -82,7 +78,8 @@ pub fn name_at<'t, 'a>(
     end: usize,
     tokens: &'t [Token<'a>],
 ) -> Result<(Name<'a>, &'t [Token<'a>]), Fault>
-    ensures { Gives name_found result (reading.name_at (lexemes tokens.now)) }
+    ensures gives { Gives name_found result (reading.name_at (lexemes tokens.now)) }
+    ensures short { IfOk result (λ x. length x.0.text.now ≤ MAX_NAME) }
 {
     match tokens {
         [first, rest @ ..] => match first.word {

@@ -1,6 +1,6 @@
 //! Expressions, by recursive descent with one token of lookahead.
-ghost use Rattle.std.specs.Prelude.{◌≡◌, ◌<◌, ◌≤◌, suc, IfOk};
-ghost use Rattle.round_lang.specs.Lexemes.{lexemes};
+ghost use Rattle.std.specs.Prelude.{◌≡◌, ◌<◌, ◌≤◌, suc, IfOk, length};
+ghost use Rattle.round_lang.specs.CodeTokens.{lexemes};
 ghost use Rattle.round_lang.specs.Outcome.{Gives, IsChainLevel, expr_found, left_of};
 ghost use Rattle.round_lang.specs.Reading as reading;
 ghost use Rattle.round_lang.specs.Tree.{TBinary, TIf, TRowOf, TSetOf, tree_of};
@@ -8,15 +8,14 @@ ghost use Rattle.round_lang.specs.Tree.{TBinary, TIf, TRowOf, TSetOf, tree_of};
 use crate::expr::{BinaryOperator, Expr, UnaryOperator};
 use crate::formula::Formula;
 use crate::identifier::Identifier;
+use crate::limits::{MAX_NAME, MAX_NESTING, MAX_NUMBER};
 use crate::memory::NoMemory;
-use crate::parsing::cursor::{MAX_NUMBER, after, expect, name_at, number_at, operator_at, span_at};
+use crate::name::Name;
+use crate::parsing::cursor::{after, expect, name_at, number_at, operator_at, span_at};
 use crate::parsing::fault::Fault;
 use crate::parsing::level::{Level, tighter};
-use crate::token::{Mark, Name, Token, Word};
+use crate::token::{Mark, Token, Word};
 use std::alloc::Global;
-
-/// How deep an expression nests at most.
-pub const MAX_NESTING: usize = 32;
 
 /// What a parser carries along: its allocator, and the length of the text.
 #[derive(Clone, Copy)]
@@ -29,9 +28,10 @@ pub struct Parser {
 type Nested<'t, 'a> = Result<(Expr, usize, &'t [Token<'a>]), Fault>;
 
 pub fn identifier(alloc: Global, name: Name<'_>) -> Result<Identifier, NoMemory>
+    requires { length name.text.now ≤ MAX_NAME }
     ensures { IfOk result (λ x. x ≡ name.entry.text.now) }
 {
-    Ok(Identifier::new(String::from_str(alloc, name.text)?))
+    Ok(Identifier::known(String::from_str(alloc, name.text)?))
 }
 
 fn binary(
@@ -66,7 +66,7 @@ pub fn read<'t, 'a>(
     level: Level,
     tokens: &'t [Token<'a>],
 ) -> Nested<'t, 'a>
-    requires { room ≤ 32 }
+    requires { room ≤ MAX_NESTING }
     ensures gives { Gives expr_found result (reading.parse room level (lexemes tokens.now)) }
     ensures nests { IfOk result (λ x. x.1 ≤ room) }
 {
@@ -83,7 +83,7 @@ fn at_level<'t, 'a>(
     level: Level,
     tokens: &'t [Token<'a>],
 ) -> Nested<'t, 'a>
-    requires { inner < 32 }
+    requires { inner < MAX_NESTING }
     ensures gives { Gives expr_found result (reading.level_at (reading.parse inner) (suc inner) level (lexemes tokens.now)) }
     ensures nests { IfOk result (λ x. x.1 ≤ suc inner) }
 {
@@ -109,7 +109,7 @@ fn closed<'t, 'a>(
     mark: Mark,
     tokens: &'t [Token<'a>],
 ) -> Nested<'t, 'a>
-    requires { inner < 32 }
+    requires { inner < MAX_NESTING }
     ensures gives { Gives expr_found result (reading.closed (reading.parse inner) (suc inner) mark (lexemes tokens.now)) }
     ensures nests { IfOk result (λ x. x.1 ≤ inner) }
 {
@@ -121,7 +121,7 @@ fn closed<'t, 'a>(
 #[cycle(expr)]
 #[tactic(auto, unfolding(crate::specs::Reading::chosen, crate::specs::Reading::choice))]
 fn whole<'t, 'a>(parser: Parser, inner: usize, tokens: &'t [Token<'a>]) -> Nested<'t, 'a>
-    requires { inner < 32 }
+    requires { inner < MAX_NESTING }
     ensures gives { Gives expr_found result (reading.level_at (reading.parse inner) (suc inner) Level.Whole (lexemes tokens.now)) }
     ensures nests { IfOk result (λ x. x.1 ≤ suc inner) }
 {
@@ -149,7 +149,7 @@ fn chain<'t, 'a>(
     level: Level,
     tokens: &'t [Token<'a>],
 ) -> Nested<'t, 'a>
-    requires room { inner < 32 }
+    requires room { inner < MAX_NESTING }
     requires chain { IsChainLevel level }
     ensures gives { Gives expr_found result (reading.level_at (reading.parse inner) (suc inner) level (lexemes tokens.now)) }
     ensures nests { IfOk result (λ x. x.1 ≤ suc inner) }
@@ -170,7 +170,7 @@ fn chain<'t, 'a>(
 #[cycle(expr)]
 #[tactic(auto, unfolding(crate::specs::Reading::comparisons, crate::specs::Reading::compared, crate::specs::Reading::operand))]
 fn comparison<'t, 'a>(parser: Parser, inner: usize, tokens: &'t [Token<'a>]) -> Nested<'t, 'a>
-    requires { inner < 32 }
+    requires { inner < MAX_NESTING }
     ensures gives { Gives expr_found result (reading.level_at (reading.parse inner) (suc inner) Level.Comparison (lexemes tokens.now)) }
     ensures nests { IfOk result (λ x. x.1 ≤ suc inner) }
 {
@@ -191,7 +191,7 @@ fn comparison<'t, 'a>(parser: Parser, inner: usize, tokens: &'t [Token<'a>]) -> 
 #[cycle(expr)]
 #[tactic(auto, unfolding(crate::specs::Reading::negations, crate::specs::Reading::negated))]
 fn negation<'t, 'a>(parser: Parser, inner: usize, tokens: &'t [Token<'a>]) -> Nested<'t, 'a>
-    requires { inner < 32 }
+    requires { inner < MAX_NESTING }
     ensures gives { Gives expr_found result (reading.level_at (reading.parse inner) (suc inner) Level.Negation (lexemes tokens.now)) }
     ensures nests { IfOk result (λ x. x.1 ≤ suc inner) }
 {
@@ -208,7 +208,7 @@ fn negation<'t, 'a>(parser: Parser, inner: usize, tokens: &'t [Token<'a>]) -> Ne
 #[cycle(expr)]
 #[tactic(auto, unfolding(crate::specs::Reading::postfixes, crate::specs::Reading::postfixed, crate::specs::Reading::indexed))]
 fn postfix<'t, 'a>(parser: Parser, inner: usize, tokens: &'t [Token<'a>]) -> Nested<'t, 'a>
-    requires { inner < 32 }
+    requires { inner < MAX_NESTING }
     ensures gives { Gives expr_found result (reading.level_at (reading.parse inner) (suc inner) Level.Postfix (lexemes tokens.now)) }
     ensures nests { IfOk result (λ x. x.1 ≤ suc inner) }
 {
@@ -229,7 +229,7 @@ fn postfix<'t, 'a>(parser: Parser, inner: usize, tokens: &'t [Token<'a>]) -> Nes
 #[cycle(expr)]
 #[tactic(auto, unfolding(crate::specs::Reading::atom))]
 fn atom<'t, 'a>(parser: Parser, inner: usize, tokens: &'t [Token<'a>]) -> Nested<'t, 'a>
-    requires { inner < 32 }
+    requires { inner < MAX_NESTING }
     ensures gives { Gives expr_found result (reading.atom (reading.parse inner) (suc inner) (lexemes tokens.now)) }
     ensures nests { IfOk result (λ x. x.1 ≤ suc inner) }
 {
@@ -264,7 +264,7 @@ fn call<'t, 'a>(
     operator: UnaryOperator,
     tokens: &'t [Token<'a>],
 ) -> Nested<'t, 'a>
-    requires { inner < 32 }
+    requires { inner < MAX_NESTING }
     ensures gives { Gives expr_found result (reading.called (reading.parse inner) (suc inner) operator (lexemes tokens.now)) }
     ensures nests { IfOk result (λ x. x.1 ≤ suc inner) }
 {
@@ -280,7 +280,7 @@ fn call<'t, 'a>(
 #[cycle(expr)]
 #[tactic(auto, unfolding(crate::specs::Reading::has))]
 fn has<'t, 'a>(parser: Parser, inner: usize, tokens: &'t [Token<'a>]) -> Nested<'t, 'a>
-    requires { inner < 32 }
+    requires { inner < MAX_NESTING }
     ensures gives { Gives expr_found result (reading.has (reading.parse inner) (suc inner) (lexemes tokens.now)) }
     ensures nests { IfOk result (λ x. x.1 ≤ suc inner) }
 {
@@ -298,7 +298,7 @@ fn has<'t, 'a>(parser: Parser, inner: usize, tokens: &'t [Token<'a>]) -> Nested<
 #[cycle(expr)]
 #[tactic(auto, unfolding(crate::specs::Reading::brackets))]
 fn brackets<'t, 'a>(parser: Parser, inner: usize, tokens: &'t [Token<'a>]) -> Nested<'t, 'a>
-    requires { inner < 32 }
+    requires { inner < MAX_NESTING }
     ensures gives { Gives expr_found result (reading.brackets (reading.parse inner) (suc inner) (lexemes tokens.now)) }
     ensures nests { IfOk result (λ x. x.1 ≤ suc inner) }
 {
@@ -310,7 +310,7 @@ fn brackets<'t, 'a>(parser: Parser, inner: usize, tokens: &'t [Token<'a>]) -> Ne
 #[cycle(expr)]
 #[tactic(auto, unfolding(crate::specs::Reading::comprehension))]
 fn set_of<'t, 'a>(parser: Parser, inner: usize, tokens: &'t [Token<'a>]) -> Nested<'t, 'a>
-    requires { inner < 32 }
+    requires { inner < MAX_NESTING }
     ensures gives { Gives expr_found result (reading.comprehension (reading.parse inner) (suc inner) TSetOf Mark.CloseCurly (lexemes tokens.now)) }
     ensures nests { IfOk result (λ x. x.1 ≤ suc inner) }
 {
@@ -329,7 +329,7 @@ fn set_of<'t, 'a>(parser: Parser, inner: usize, tokens: &'t [Token<'a>]) -> Nest
 #[cycle(expr)]
 #[tactic(auto, unfolding(crate::specs::Reading::comprehension))]
 fn row_of<'t, 'a>(parser: Parser, inner: usize, tokens: &'t [Token<'a>]) -> Nested<'t, 'a>
-    requires { inner < 32 }
+    requires { inner < MAX_NESTING }
     ensures gives { Gives expr_found result (reading.comprehension (reading.parse inner) (suc inner) TRowOf Mark.CloseSquare (lexemes tokens.now)) }
     ensures nests { IfOk result (λ x. x.1 ≤ suc inner) }
 {
@@ -353,5 +353,5 @@ pub fn formula<'t, 'a>(
     ensures { Gives left_of result (reading.formula (lexemes tokens.now)) }
 {
     let (expr, _, rest) = read(parser, MAX_NESTING, Level::Whole, tokens)?;
-    Ok((Formula::new(expr), rest))
+    Ok((Formula::known(expr), rest))
 }

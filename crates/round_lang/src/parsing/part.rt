@@ -1,6 +1,6 @@
 //! The parts of a program: declarations, blocks and assignments.
-ghost use Rattle.std.specs.Prelude.{◌≡◌, ◌≤◌, ◌++◌, [], ◌∷◌, IfOk, vec_len};
-ghost use Rattle.round_lang.specs.Lexemes.{lexemes};
+ghost use Rattle.std.specs.Prelude.{◌≡◌, ◌≤◌, ◌++◌, [], ◌∷◌, IfOk, length, vec_len};
+ghost use Rattle.round_lang.specs.CodeTokens.{lexemes};
 ghost use Rattle.round_lang.specs.Outcome.{Gives, name_found, left_of, list_found, head_found, sending_found, declared_found};
 ghost use Rattle.round_lang.specs.Parts as parts;
 ghost use Rattle.round_lang.specs.Source.{variables_of, decides_of};
@@ -9,22 +9,17 @@ use crate::block::{Assignment, Block, Field};
 use crate::expr::Ty;
 use crate::formula::Formula;
 use crate::identifier::Identifier;
+use crate::limits::{MAX_FIELDS, MAX_NAME, MAX_NUMBER, MAX_VARIABLES};
 use crate::memory::NoMemory;
+use crate::name::Name;
 use crate::parsing::cursor::{
-    MAX_NUMBER, after, begins_name, begins_with, expect, expect_equal, name_at, number_at, span_at,
-    type_at,
+    after, begins_name, begins_with, expect, expect_equal, name_at, number_at, span_at, type_at,
 };
 use crate::parsing::expression::{Parser, formula, identifier};
 use crate::parsing::fault::Fault;
 use crate::program::{Variable, VariableKind};
-use crate::token::{Mark, Name, Token, Word};
+use crate::token::{Mark, Token, Word};
 use std::alloc::Global;
-
-/// How many fields a block has at most.
-const MAX_FIELDS: usize = 8;
-
-/// How many variables a program has at most.
-const MAX_VARIABLES: usize = 16;
 
 /// What a declaration declares.
 #[derive(Drop)]
@@ -49,7 +44,8 @@ fn counted_name<'t, 'a>(
     most: usize,
     tokens: &'t [Token<'a>],
 ) -> Result<(Name<'a>, &'t [Token<'a>]), Fault>
-    ensures { Gives name_found result (parts.counted_name count most (lexemes tokens.now)) }
+    ensures gives { Gives name_found result (parts.counted_name count most (lexemes tokens.now)) }
+    ensures short { IfOk result (λ x. length x.0.text.now ≤ MAX_NAME) }
 {
     let (name, rest) = name_at(end, tokens)?;
     if count < most {

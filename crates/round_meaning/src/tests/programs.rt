@@ -7,6 +7,11 @@ use round_lang::{
 };
 use std::alloc::Global;
 
+/// An expression of a program, none of which here nests too deep.
+fn nested(expr: Expr) -> Result<Formula, NoMemory> {
+    Formula::new(expr).ok_or(NoMemory)
+}
+
 /// Makes the parts of programs.
 #[derive(Clone, Copy)]
 pub struct Maker {
@@ -15,7 +20,7 @@ pub struct Maker {
 
 impl Maker {
     fn name(self, text: &str) -> Result<Identifier, NoMemory> {
-        Ok(Identifier::new(String::from_str(self.alloc, text)?))
+        Identifier::new(String::from_str(self.alloc, text)?).ok_or(NoMemory)
     }
 
     pub fn named(self, name: &str) -> Result<Expr, NoMemory> {
@@ -55,7 +60,7 @@ impl Maker {
     fn assignment(self, target: &str, formula: Expr) -> Result<Assignment, NoMemory> {
         Ok(Assignment {
             target: self.name(target)?,
-            formula: Formula::new(formula),
+            formula: nested(formula)?,
         })
     }
 
@@ -71,7 +76,7 @@ impl Maker {
             name: self.name(name)?,
             kind: VariableKind::State {
                 ty,
-                start: Formula::new(start),
+                start: nested(start)?,
             },
         })
     }
@@ -124,8 +129,8 @@ fn gather_block(maker: Maker) -> Result<Block, NoMemory> {
     Ok(Block::new(
         1,
         vec![in maker.alloc; maker.field("s", Ty::Set)?]?,
-        Formula::new(Expr::Fixed(Constant::True)),
-        vec![in maker.alloc; Formula::new(maker.named("seen")?)]?,
+        nested(Expr::Fixed(Constant::True))?,
+        vec![in maker.alloc; nested(maker.named("seen")?)?]?,
         vec![in maker.alloc; maker.assignment("seen", joined)?]?,
         Vec::new(maker.alloc),
     ))
@@ -181,8 +186,8 @@ fn votes_block(maker: Maker) -> Result<Block, NoMemory> {
     Ok(Block::new(
         1,
         vec![in maker.alloc; maker.field("v", Ty::Num)?]?,
-        Formula::new(Expr::Fixed(Constant::True)),
-        vec![in maker.alloc; Formula::new(maker.named("x")?)]?,
+        nested(Expr::Fixed(Constant::True))?,
+        vec![in maker.alloc; nested(maker.named("x")?)?]?,
         vec![in maker.alloc; one_vote_more(maker)?]?,
         close_votes(maker)?,
     ))
@@ -208,8 +213,8 @@ fn number_block(
     Ok(Block::new(
         number,
         vec![in maker.alloc; maker.field(field, Ty::Num)?]?,
-        Formula::new(Expr::Fixed(when)),
-        vec![in maker.alloc; Formula::new(Expr::Fixed(sent))]?,
+        nested(Expr::Fixed(when))?,
+        vec![in maker.alloc; nested(Expr::Fixed(sent))?]?,
         Vec::new(maker.alloc),
         Vec::new(maker.alloc),
     ))

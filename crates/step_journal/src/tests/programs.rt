@@ -8,7 +8,12 @@ use round_lang::{
 use std::alloc::Global;
 
 fn name(alloc: Global, text: &str) -> Result<Identifier, NoMemory> {
-    Ok(Identifier::new(String::from_str(alloc, text)?))
+    Identifier::new(String::from_str(alloc, text)?).ok_or(NoMemory)
+}
+
+/// An expression of a program, none of which here nests too deep.
+fn nested(expr: Expr) -> Result<Formula, NoMemory> {
+    Formula::new(expr).ok_or(NoMemory)
 }
 
 fn named(alloc: Global, text: &str) -> Result<Expr, NoMemory> {
@@ -18,7 +23,7 @@ fn named(alloc: Global, text: &str) -> Result<Expr, NoMemory> {
 /// `input x`, `state seen: set = single(x)`.
 fn variables(alloc: Global) -> Result<Vec<Variable>, NoMemory> {
     let x = Box::new(alloc, named(alloc, "x")?)?;
-    let start = Formula::new(Expr::Unary(UnaryOperator::Single, x));
+    let start = nested(Expr::Unary(UnaryOperator::Single, x))?;
     let mut variables = Vec::new(alloc);
     variables.push(Variable {
         name: name(alloc, "x")?,
@@ -37,7 +42,7 @@ fn block(alloc: Global, condition: Expr) -> Result<Block, NoMemory> {
     let told = Box::new(alloc, named(alloc, "s")?)?;
     let joined = Assignment {
         target: name(alloc, "seen")?,
-        formula: Formula::new(Expr::Binary(BinaryOperator::Union, seen, told)),
+        formula: nested(Expr::Binary(BinaryOperator::Union, seen, told))?,
     };
     let field = Field {
         name: name(alloc, "s")?,
@@ -46,8 +51,8 @@ fn block(alloc: Global, condition: Expr) -> Result<Block, NoMemory> {
     Ok(Block::new(
         1,
         vec![in alloc; field]?,
-        Formula::new(condition),
-        vec![in alloc; Formula::new(named(alloc, "seen")?)]?,
+        nested(condition)?,
+        vec![in alloc; nested(named(alloc, "seen")?)?]?,
         vec![in alloc; joined]?,
         Vec::new(alloc),
     ))

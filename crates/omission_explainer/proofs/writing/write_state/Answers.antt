@@ -13,7 +13,7 @@ loop-place-preserved g c =
     let names = c.as_slice-names.result.now in
     let name = c.as_str.result.now in
     let named : name ≡ get_or report.names i [] =
-    c.as_str.ensures ∙ get_or_read names i _ c.loop-place-test.true c.index-names-place.is [] ∙ ap (λ ns. get_or ns i []) c.as_slice-names.ensures in
+    c.as_str.ensures.text ∙ get_or_read names i _ c.loop-place-test.true c.index-names-place.is [] ∙ ap (λ ns. get_or ns i []) c.as_slice-names.ensures in
     let typed : c.type_at-ty.result ≡ type_at report.types i =
     c.type_at-ty.ensures ∙ ap (λ ts. type_at ts i) c.as_slice.ensures in
     let more = variable_written (out c.loop-place.out) (out c.write-in-loop-place.new.self) (out c.write_value.new.out) report state i name c.type_at-ty.result named typed c.in_ok-write-2.ensures.bytes c.in_ok-write_value.ensures in

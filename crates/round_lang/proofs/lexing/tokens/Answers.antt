@@ -1,5 +1,5 @@
 use Rattle.std.proofs.Common.{drop, arith, length-drop}
-use Rattle.round_lang.specs.Lexemes.{lexeme_of}
+use Rattle.round_lang.specs.CodeTokens.{lexeme_of}
 use Rattle.round_lang.specs.Scanning.{skip, token, bad}
 use Rattle.round_lang.proofs.Pieces.{Skips, Begins}
 use Rattle.round_lang.proofs.Scanned.{scanned_skip, scanned_token, scanned_bad, scanned_all, scanned_only, next_says, lexemes-push}

@@ -1,5 +1,5 @@
 use Rattle.std.proofs.Common.{◌+◌, ◌-◌, ◌*◌}
-use Rattle.round_lang.specs.Lexemes.{lexemes}
+use Rattle.round_lang.specs.CodeTokens.{lexemes}
 use Rattle.round_lang.specs.Tree.{tree_of}
 use Rattle.round_lang.proofs.Descent.{rank, GoesOn}
 use Rattle.round_lang.specs.declared.parsing.level.Level.TheVariants.{Whole, Negation, Comparison, Postfix}

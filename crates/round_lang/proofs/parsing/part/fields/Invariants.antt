@@ -1,5 +1,5 @@
 use Rattle.std.proofs.Common.{length}
-use Rattle.round_lang.specs.Lexemes.{lexemes}
+use Rattle.round_lang.specs.CodeTokens.{lexemes}
 use Rattle.round_lang.proofs.Loops.{FieldsOn}
 use Rattle.round_lang.proofs.parsing.part.fields.Given as goal
 
