@@ -4,6 +4,7 @@ mod faults;
 mod sources;
 mod tokens;
 mod trees;
+mod words;
 
 use crate::{LangFault, Span, parse};
 use std::alloc::Global;
