@@ -4,3 +4,4 @@ pub mod Names
 pub mod Rules
 pub mod Types
 pub mod Causes
+pub mod Shapes

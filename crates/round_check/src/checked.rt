@@ -1,18 +1,22 @@
 //! Checked programs.
-ghost use Rattle.std.specs.Prelude.{◌≡◌, true, IfOk, IfErr, OnOk};
+ghost use Rattle.std.specs.Prelude.{◌≡◌, true, IfOk, IfErr, OnOk, option_copied, slice_get};
+ghost use Rattle.std.specs.Arc.{arc_value};
 ghost use Rattle.round_check.specs.Causes.{is_typed, IsFault, input_name, decided_name};
+ghost use Rattle.round_check.specs.Shapes.{message_kinds, state_kinds};
 
 use crate::causes::{first_cause, first_input};
 use crate::fault::CheckFault;
-use round_lang::{Identifier, NoMemory, Program};
+use crate::shapes::ShapedProgram;
+use round_lang::{Identifier, NoMemory, Program, Shape};
 use std::alloc::Global;
 use std::marker::Model;
 use std::sync::Arc;
 
-/// A program in which every name has one meaning and every expression its type; copies share it.
+/// A program in which every name has one meaning and every expression its type, with the shapes of
+/// its states and messages; copies share them.
 #[derive(Drop)]
 pub struct Checked {
-    program: Arc<Program>,
+    shaped: Arc<ShapedProgram>,
 }
 
 impl Model for Checked {
@@ -27,9 +31,9 @@ impl Model for Checked {
 
     ghost coded = { Prim.hlevel (codes, formula.the_row.coded) };
 
-    ghost view = { λ c. arc_value c.program };
+    ghost view = { λ c. (arc_value c.shaped).program };
 
-    ghost invariant = { λ c. is_typed (arc_value c.program) ≡ true };
+    ghost invariant = { λ c. is_typed (arc_value c.shaped).program ≡ true };
 }
 
 /// The program where no cause stands against it, else the first that stands; NoMemory only where
@@ -44,17 +48,37 @@ pub fn check(alloc: Global, program: Program) -> Result<Checked, CheckFault>
     if let Some(fault) = first_cause(&program) {
         return Err(fault);
     }
-    match Arc::new(alloc, program) {
-        Ok(program) => Ok(Checked { program }),
-        Err(_) => Err(CheckFault::NoMemory),
+    match shared(alloc, program) {
+        Ok(shaped) => Ok(Checked { shaped }),
+        Err(NoMemory) => Err(CheckFault::NoMemory),
     }
+}
+
+fn shared(alloc: Global, program: Program) -> Result<Arc<ShapedProgram>, NoMemory>
+    ensures { IfOk result (λ shaped. (arc_value shaped).program ≡ program) }
+{
+    Ok(Arc::new(alloc, ShapedProgram::new(alloc, program)?)?)
 }
 
 impl Checked {
     pub fn program(&self) -> &Program
         ensures { result.now ≡ self.now }
     {
-        &self.program
+        &self.shaped.program
+    }
+
+    /// The kinds of a state's values.
+    pub fn state_shape(&self) -> &Shape
+        ensures { result.now ≡ state_kinds self.now }
+    {
+        &self.shaped.state
+    }
+
+    /// The kinds of the values in a message of a block.
+    pub fn message_shape(&self, block: usize) -> Option<&Shape>
+        ensures { option_copied result ≡ slice_get (message_kinds self.now) block }
+    {
+        self.shaped.messages.get(block)
     }
 
     /// The same program; the text of it is shared.
@@ -62,7 +86,7 @@ impl Checked {
         ensures { IfOk result (λ checked. checked ≡ self.now) }
     {
         Ok(Checked {
-            program: Arc::try_clone(&self.program)?,
+            shaped: Arc::try_clone(&self.shaped)?,
         })
     }
 
@@ -70,14 +94,14 @@ impl Checked {
     pub fn typed(&self)
         ensures { is_typed self.now ≡ true }
     {
-        let _program = &self.program;
+        let _shaped = &self.shaped;
     }
 
     /// The input's name.
     pub fn input(&self) -> &Identifier
         ensures { result.now ≡ input_name self.now }
     {
-        match first_input(self.program.variables()) {
+        match first_input(self.shaped.program.variables()) {
             Some(name) => name,
             None => unreachable!(),
         }
@@ -87,7 +111,7 @@ impl Checked {
     pub fn decided(&self) -> &Identifier
         ensures { result.now ≡ decided_name self.now }
     {
-        match self.program.decides() {
+        match self.shaped.program.decides() {
             [first, ..] => first,
             [] => unreachable!(),
         }

@@ -6,6 +6,7 @@ mod checked;
 mod fault;
 mod names;
 mod rules;
+mod shapes;
 #[cfg(test)]
 mod tests;
 mod types;

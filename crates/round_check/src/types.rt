@@ -39,7 +39,7 @@ fn constant_type(constant: Constant) -> Ty
     }
 }
 
-fn kind_type(kind: &VariableKind) -> Ty
+pub(crate) fn kind_type(kind: &VariableKind) -> Ty
     ensures { result ≡ kind_type kind.now }
 {
     match kind {

@@ -14,3 +14,5 @@ pub mod Source
 pub mod Reading
 pub mod Parts
 pub mod Outcome
+pub mod Words
+pub mod Shapes

@@ -2,12 +2,14 @@
 #![tactic(auto)]
 
 mod block;
+mod builder;
 mod copies;
 mod expr;
 mod fault;
 mod formula;
 mod identifier;
 mod keywords;
+mod kind;
 mod laws;
 mod lexing;
 mod limits;
@@ -17,21 +19,26 @@ mod parsing;
 mod program;
 mod row;
 mod sets;
+mod shape;
 mod token;
 mod value;
 mod vars;
+mod words;
 
 pub use block::{Assignment, Block, Field};
+pub use builder::VarsBuilder;
 pub use expr::{BinaryOperator, Constant, Expr, Ty, UnaryOperator};
 pub use fault::{LangFault, Span};
 pub use formula::Formula;
 pub use identifier::Identifier;
+pub use kind::Kind;
 pub use laws::a_text_is_one_program;
 pub use memory::NoMemory;
 pub use parsing::parse;
 pub use program::{Program, Variable, VariableKind};
 pub use row::Row;
 pub use sets::ValueSet;
+pub use shape::Shape;
 pub use value::{Value, binary, unary};
 pub use vars::{Message, Vars};
 

@@ -1,5 +1,5 @@
 //! Rows, seen by contracts as the list of their numbers.
-ghost use Rattle.std.specs.Prelude.{◌≡◌, IfOk, slice_index};
+ghost use Rattle.std.specs.Prelude.{◌≡◌, IfOk, length, slice_index};
 
 use crate::memory::NoMemory;
 use std::marker::Model;
@@ -33,6 +33,13 @@ impl Row {
             Some(entry) => *entry,
             None => 0,
         }
+    }
+
+    /// The number of entries.
+    pub fn size(&self) -> usize
+        ensures { result ≡ length self.now }
+    {
+        self.entries.len()
     }
 
     pub fn as_slice(&self) -> &[u32]

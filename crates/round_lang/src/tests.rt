@@ -5,6 +5,7 @@ mod limits;
 mod sources;
 mod tokens;
 mod trees;
+mod words;
 
 use crate::{LangFault, Span, parse};
 use std::alloc::Global;

@@ -1,8 +1,10 @@
 //! Values of the language.
 ghost use Rattle.std.specs.Prelude.{◌≡◌, ◌≤◌, ◌↔◌, IfOk, IsTrue, slice_index};
 ghost use Rattle.round_lang.specs.Values.{num, flag, set, row, same, unary, binary};
+ghost use Rattle.round_lang.specs.Words.{kind_of};
 
 use crate::expr::{BinaryOperator, UnaryOperator};
+use crate::kind::Kind;
 use crate::memory::NoMemory;
 use crate::row::Row;
 use crate::sets::ValueSet;
@@ -50,6 +52,18 @@ impl Value {
 }
 
 impl Value {
+    /// How its words are read.
+    pub fn kind(&self) -> Kind
+        ensures { result ≡ kind_of self.now }
+    {
+        match self {
+            Value::Num(_) => Kind::Num,
+            Value::Flag(_) => Kind::Flag,
+            Value::Set(_) => Kind::Set,
+            Value::Row(r) => Kind::Row(r.size()),
+        }
+    }
+
     /// The number that it is, 0 where it is none.
     pub fn num(&self) -> u32
         ensures { result ≡ num self.now }

@@ -1,17 +1,28 @@
 //! A node's state and messages, seen by contracts as lists of values.
-ghost use Rattle.std.specs.Prelude.{◌≡◌, ◌<◌, ◌↔◌, [], ◌∷◌, ◌++◌, ℕ, IfOk, IsTrue, OnErr, OnOk, length, slice_index, slice_set};
+ghost use Rattle.std.specs.Prelude.{◌≡◌, ◌<◌, ◌↔◌, [], IfOk, IfSome, IsTrue, OnErr, OnOk, length, slice_index, slice_set};
 ghost use Rattle.round_lang.specs.Values.{at, num, flag, set, row};
+ghost use Rattle.round_lang.specs.Words.{read, read_spot, values_of, IsSmall, IsSpelled};
 
+use crate::builder::VarsBuilder;
+use crate::kind::Kind;
 use crate::memory::NoMemory;
 use crate::sets::ValueSet;
+use crate::shape::Shape;
 use crate::value::Value;
+use crate::words::{first_word, front, row_of, spot, write};
+use smallvec::SmallVec;
 use std::alloc::Global;
 use std::marker::Model;
 
-/// Values in the order of their declarations: a node's state, or a message.
+/// How many words lie in a state or message itself; more take an allocation.
+pub(crate) const INLINE: usize = 2;
+
+/// Values in the order of their declarations: a node's state, or a message. They are words, which
+/// the kinds of the shape tell how to read.
 #[derive(Drop, Debug)]
 pub struct Vars {
-    values: Vec<Value>,
+    shape: Shape,
+    words: SmallVec<u64, INLINE>,
 }
 
 /// The values of a block's fields, in order.
@@ -20,78 +31,120 @@ pub type Message = Vars;
 impl Model for Vars {
     ghost use Rattle.std.specs.Prelude.{List};
     ghost use Rattle.round_lang.specs.declared.value.Value.{Value as OneValue};
+    ghost use Rattle.round_lang.specs.Words.{values_of, IsSpelled};
 
     ghost Value = { List OneValue };
 
-    ghost view = { λ v. v.values.items };
+    ghost view = { λ v. values_of v.shape v.words.items };
+
+    ghost invariant = { λ v. IsSpelled v.shape v.words.items };
 }
 
 impl Vars {
-    /// No values yet; takes no memory.
+    /// No values; takes no memory.
     pub fn new(alloc: Global) -> Vars
         ensures { result ≡ [] }
     {
         Vars {
-            values: Vec::new(alloc),
+            shape: Shape::empty(),
+            words: SmallVec::new(alloc),
         }
     }
 
-    /// No values yet, with room for so many.
-    pub fn with_capacity(alloc: Global, count: usize) -> Result<Vars, NoMemory>
-        ensures { IfOk result (λ v. v ≡ []) }
+    /// The values that these words spell.
+    pub(crate) fn spelled(shape: Shape, words: SmallVec<u64, INLINE>) -> Vars
+        requires { IsSpelled shape words.items }
+        ensures { result ≡ values_of shape words.items }
     {
-        Ok(Vars {
-            values: Vec::with_capacity(alloc, count)?,
-        })
-    }
-
-    /// Adds a value at the end.
-    pub fn push(&mut self, value: Value) -> Result<(), NoMemory>
-        ensures ok { OnOk result (self.new ≡ self.old ++ value ∷ []) }
-        ensures err { OnErr result (self.new ≡ self.old) }
-    {
-        self.values.push(value)?;
-        Ok(())
+        Vars { shape, words }
     }
 
     pub fn len(&self) -> usize
         ensures { result ≡ length self.now }
     {
-        self.values.len()
+        self.shape.kinds().len()
     }
 
     pub fn is_empty(&self) -> bool
         ensures { IsTrue result ↔ (self.now ≡ []) }
     {
-        self.values.is_empty()
+        self.shape.kinds().is_empty()
     }
 
-    /// Writes the value at a place, where it has one.
-    pub fn put(&mut self, place: usize, value: Value)
-        ensures { self.new ≡ slice_set self.old place value }
+    /// Writes the value at a place, where it has one. Memory is wanted only where the value is of
+    /// another kind than the one before.
+    pub fn put(&mut self, place: usize, value: &Value) -> Result<(), NoMemory>
+        ensures ok { OnOk result (self.new ≡ slice_set self.old place value.now) }
+        ensures err { OnErr result (self.new ≡ self.old) }
     {
-        if place < self.values.len() {
-            self.values[place] = value;
+        let Some((kind, rest)) = spot(self.shape.kinds(), self.words.as_slice(), place) else {
+            return Ok(());
+        };
+        if kind == value.kind() {
+            let first = self.words.len() - rest.len();
+            write(self.words.as_mut_slice(), first, value);
+        } else {
+            *self = self.with(place, value)?;
         }
+        Ok(())
+    }
+
+    /// The same values but for the one at a place, laid out anew.
+    fn with(&self, place: usize, value: &Value) -> Result<Vars, NoMemory>
+        ensures { IfOk result (λ v. v ≡ slice_set self.now place value.now) }
+    {
+        let mut values = VarsBuilder::new(*self.words.allocator());
+        for i in 0..self.len() {
+            let one = self.value_with(place, value, i)?;
+            values.push(&one)?;
+        }
+        values.finish(&self.shape)
+    }
+
+    /// A copy of value `i` where another value stands at a place.
+    fn value_with(&self, place: usize, value: &Value, i: usize) -> Result<Value, NoMemory>
+        requires { i < length self.now }
+        ensures { IfOk result (λ v. v ≡ at (slice_set self.now place value.now) i) }
+    {
+        if i == place {
+            value.copy()
+        } else {
+            self.value(i)
+        }
+    }
+
+    /// The kind of the value at a place, and the words from its first one on.
+    fn spot(&self, place: usize) -> Option<(Kind, &[u64])>
+        ensures value { read_spot result ≡ at self.now place }
+        ensures small { IfSome result (λ s. IsSmall (read s.0 s.1.now)) }
+    {
+        spot(self.shape.kinds(), self.words.as_slice(), place)
     }
 
     /// A copy of the value at a place, the number 0 where there is none.
     pub fn value(&self, place: usize) -> Result<Value, NoMemory>
         ensures { IfOk result (λ v. v ≡ at self.now place) }
     {
-        match self.values.get(place) {
-            Some(value) => value.copy(),
-            None => Ok(Value::Num(0)),
-        }
+        let Some((kind, words)) = self.spot(place) else {
+            return Ok(Value::Num(0));
+        };
+        Ok(match kind {
+            Kind::Num => Value::Num(first_word(words) as u32),
+            Kind::Flag => Value::Flag(first_word(words) == 1),
+            Kind::Set => Value::Set(ValueSet {
+                bits: first_word(words),
+            }),
+            Kind::Row(size) => { Value::Row(row_of(*self.words.allocator(), front(words, size))?) }
+        })
     }
 
     /// The number at a place.
     pub fn num(&self, place: usize) -> u32
         ensures { result ≡ num (at self.now place) }
     {
-        match self.values.get(place) {
-            Some(value) => value.num(),
-            None => 0,
+        match self.spot(place) {
+            Some((Kind::Num, words)) => first_word(words) as u32,
+            _ => 0,
         }
     }
 
@@ -99,9 +152,9 @@ impl Vars {
     pub fn flag(&self, place: usize) -> bool
         ensures { result ≡ flag (at self.now place) }
     {
-        match self.values.get(place) {
-            Some(value) => value.flag(),
-            None => false,
+        match self.spot(place) {
+            Some((Kind::Flag, words)) => first_word(words) == 1,
+            _ => false,
         }
     }
 
@@ -109,9 +162,11 @@ impl Vars {
     pub fn set(&self, place: usize) -> ValueSet
         ensures { result.bits ≡ set (at self.now place) }
     {
-        match self.values.get(place) {
-            Some(value) => value.set(),
-            None => ValueSet::empty(),
+        match self.spot(place) {
+            Some((Kind::Set, words)) => ValueSet {
+                bits: first_word(words),
+            },
+            _ => ValueSet::empty(),
         }
     }
 
@@ -119,36 +174,28 @@ impl Vars {
     pub fn entry(&self, place: usize, entry: u32) -> u32
         ensures { result ≡ slice_index (row (at self.now place)) entry }
     {
-        match self.values.get(place) {
-            Some(value) => value.entry(entry),
-            None => 0,
+        match self.spot(place) {
+            Some((Kind::Row(size), words)) => match front(words, size).get(entry as usize) {
+                Some(word) => *word as u32,
+                None => 0,
+            },
+            _ => 0,
         }
     }
 
     pub fn copy(&self, alloc: Global) -> Result<Vars, NoMemory>
         ensures { IfOk result (λ v. v ≡ self.now) }
     {
-        let mut values = Vec::with_capacity(alloc, self.values.len())?;
-        for value in &self.values {
-            values.push(value.copy()?)?;
-        }
-        Ok(Vars { values })
+        Ok(Vars {
+            shape: self.shape.copy()?,
+            words: SmallVec::from_slice(alloc, self.words.as_slice())?,
+        })
     }
 
     /// Whether both hold the same values.
     pub fn same(&self, other: &Vars) -> bool
         ensures { IsTrue result ↔ (self.now ≡ other.now) }
     {
-        same_values(&self.values, &other.values)
-    }
-}
-
-fn same_values(one: &[Value], other: &[Value]) -> bool
-    ensures { IsTrue result ↔ (one.now ≡ other.now) }
-{
-    match (one, other) {
-        ([], []) => true,
-        ([a, one @ ..], [b, other @ ..]) => a.same(b) && same_values(one, other),
-        _ => false,
+        self.words.as_slice() == other.words.as_slice() && self.shape.is(other.shape.kinds())
     }
 }

@@ -9,7 +9,7 @@ use crate::{
 };
 use programs::{Maker, count_votes, gather, numbers};
 use round_check::Checked;
-use round_lang::{Constant, NoMemory, Value, ValueSet, Vars};
+use round_lang::{Constant, NoMemory, Shape, Value, ValueSet, Vars, VarsBuilder};
 use std::alloc::Global;
 use std::test::Fail;
 
@@ -25,16 +25,17 @@ fn setup_of(alloc: Global, inputs: &[u32]) -> Result<Setup, NoMemory> {
 
 /// A state of `gather`.
 fn gathered(alloc: Global, input: u32, seen: u64) -> Result<Vars, NoMemory> {
-    let mut vars = Vars::new(alloc);
-    vars.push(Value::Num(input))?;
-    vars.push(Value::Set(ValueSet { bits: seen }))?;
-    Ok(vars)
+    let mut values = VarsBuilder::new(alloc);
+    values.push(&Value::Num(input))?;
+    values.push(&Value::Set(ValueSet { bits: seen }))?;
+    values.finish(&Shape::empty())
 }
 
 /// A message of `gather`.
 fn told(alloc: Global, from: u32, seen: u64) -> Result<Received, NoMemory> {
-    let mut message = Vars::new(alloc);
-    message.push(Value::Set(ValueSet { bits: seen }))?;
+    let mut values = VarsBuilder::new(alloc);
+    values.push(&Value::Set(ValueSet { bits: seen }))?;
+    let message = values.finish(&Shape::empty())?;
     Ok(Received { from, message })
 }
 
