@@ -1,10 +1,17 @@
 -- A node and its run after a closed round.
-use Rattle.std.proofs.Common.{◌≡◌, ℕ, ◌+◌, ◌<◌, ◌≤◌, [], ◌∷◌, ◌++◌, length, subst, sym, ap, ◌∙◌, arith, ◌⊎◌, inl, inr, length-append}
+use Rattle.std.proofs.Common.{◌≡◌, ℕ, suc, ◌+◌, ◌-◌, ◌<◌, ◌≤◌, List, [], ◌∷◌, ◌++◌, length, get_or, Option, Some, None, subst, sym, ap, refl, ◌∙◌, arith, ◌⊎◌, inl, inr, length-append}
 use Rattle.std.proofs.lemmas.Bool.{cases_lt}
-use Rattle.std.proofs.lemmas.List.{get_or_past, get_or-set_same}
+use Rattle.std.proofs.lemmas.List.{get_or_past, get_or_push, get_or-set_same}
+use Rattle.std.proofs.lemmas.Option.{same_Some}
+use Rattle.round_lang.specs.declared.value.Value.{Value}
+use Rattle.round_lang.specs.Syntax.{ProgramTree}
+use Rattle.round_meaning.specs.declared.setup.Setup.{Setup}
+use Rattle.round_meaning.specs.Rounds.{algorithm_of}
+use Rattle.step_journal.proofs.Hearing.{held_begins}
 use Rattle.step_journal.specs.Agreement.{row}
-use Rattle.step_journal.specs.Log.{Log, closed, ended, round_of}
-use Rattle.step_machine.specs.Nodes.{NodeView}
+use Rattle.step_journal.specs.Log.{Log, closed, count_of, ended, history, round_of, state_before, world_of}
+use Rattle.step_machine.specs.Frames.{Frame}
+use Rattle.step_machine.specs.Nodes.{IsEnd, IsSameTurn, NodeView, held_at, inbox_of}
 use Rattle.adversary.specs.Driving.{IsNodeOf}
 
 -- a node with a round has a row
@@ -12,18 +19,61 @@ row_in : (v : Log) (i : ℕ) → 0 < round_of v i → (i < length v.rows) ⊎ (l
 row_in v i h (inl l) = l
 row_in v i h (inr past) = let none : length (row v.rows i) ≡ 0 = ap length (get_or_past v.rows i [] past) in absurd (omega arith)
 
--- the round of the node that ended one goes up by one
-round-closed : (v : Log) (f : NodeView) → 0 < round_of v f.me → round_of (closed v f) f.me ≡ round_of v f.me + 1
-round-closed v f h =
-    ap length (get_or-set_same v.rows f.me (row v.rows f.me ++ ended f ∷ []) [] (row_in v f.me h (cases_lt _ _)))
-    ∙ length-append (row v.rows f.me) (ended f ∷ [])
+-- the row of the node that ended a round has one state more
+row_closed : (v : Log) (f : NodeView) → 0 < round_of v f.me → row (closed v f).rows f.me ≡ row v.rows f.me ++ ended f ∷ []
+row_closed v f h = get_or-set_same v.rows f.me (row v.rows f.me ++ ended f ∷ []) [] (row_in v f.me h (cases_lt _ _))
 
--- the node that settled is in the next round of the run that closed its round
-pub node_closed : (v : Log) (f n m : NodeView) → f.me ≡ n.me → IsNodeOf v n.me n → 0 < round_of v n.me → m.program ≡ n.program → m.setup ≡ n.setup → m.me ≡ n.me → m.round ≡ n.round + 1 → IsNodeOf (closed v f) n.me m
-node_closed v f n m same is h program setup me round = record {
-  program = program ∙ is.program;
-  setup = setup ∙ is.setup;
-  me = me;
-  round = round ∙ ap (λ x. x + 1) (is.round ∙ ap (round_of v) (sym same))
-      ∙ sym (round-closed v f (subst (λ (i : ℕ). 0 < round_of v i) (sym same) h)) ∙ ap (round_of (closed v f)) same;
-}
+round-closed : (v : Log) (f : NodeView) → 0 < round_of v f.me → round_of (closed v f) f.me ≡ round_of v f.me + 1
+round-closed v f h = ap length (row_closed v f h) ∙ length-append (row v.rows f.me) (ended f ∷ [])
+
+-- which is the last
+state-closed : (v : Log) (f : NodeView) → 0 < round_of v f.me → state_before (closed v f) f.me (round_of (closed v f) f.me) ≡ ended f
+state-closed v f h =
+    let last : length (row v.rows f.me) ≡ round_of (closed v f) f.me - 1 = omega (arith, round-closed v f h) in
+    ap (λ x. get_or x (round_of (closed v f) f.me - 1) []) (row_closed v f h) ∙ get_or_push (row v.rows f.me) (ended f) [] (round_of (closed v f) f.me - 1) last
+
+end_of_same : (p q : ProgramTree) (s t : Setup) (a b i j : ℕ) (h k : List (Option Frame)) (x y : List Value) → p ≡ q → s ≡ t → a ≡ b → i ≡ j → h ≡ k → x ≡ y → (algorithm_of p s).end a i (inbox_of h) x ≡ (algorithm_of q t).end b j (inbox_of k) y
+end_of_same p q s t a b i j h k x y ps ss rounds nodes helds states = rw (ps, ss, rounds, nodes, helds, states) refl
+
+-- a turn ends alike wherever it's looked at
+ended_same : (n f : NodeView) → IsSameTurn n f → ended f ≡ ended n
+ended_same n f h =
+    end_of_same f.program n.program f.setup n.setup f.round n.round f.me n.me f.held n.held f.state n.state h.program h.setup h.round h.me h.held h.state
+
+-- the node adopted the state that it ended its round with
+pub record HasSettled (old new : NodeView) : Type 0 where
+  pub state : Some new.state ≡ old.next
+  pub held : (j : ℕ) → held_at new.held j ≡ None
+  pub places : length new.held ≡ length old.held
+  pub round : new.round ≡ old.round + 1
+  pub program : new.program ≡ old.program
+  pub setup : new.setup ≡ old.setup
+  pub me : new.me ≡ old.me
+
+-- a node n of a run that finished its due round, as f
+module _ (start : ℕ → ℕ) (v : Log) (n f : NodeView) (turn : IsSameTurn n f) (is : IsNodeOf start v n.me n) (first : 0 < round_of v n.me) (due : count_of v n.me ≡ start (round_of v n.me + 1)) where
+  at_own : IsNodeOf start v f.me n
+  at_own = subst (λ (i : ℕ). IsNodeOf start v i n) (sym turn.me) is
+
+  first_own : 0 < round_of v f.me
+  first_own = subst (λ (i : ℕ). 0 < round_of v i) (sym turn.me) first
+
+  due_own : count_of v f.me ≡ start (round_of v f.me + 1)
+  due_own = subst (λ (i : ℕ). count_of v i ≡ start (round_of v i + 1)) (sym turn.me) due
+
+  -- settled it is in the next round
+  pub node_closed : (r m : NodeView) → IsSameTurn n r → IsEnd r → HasSettled r m → IsNodeOf start (closed v f) n.me m
+  node_closed r m same end settled =
+      let own = at_own in
+      let some = first_own in
+      subst (λ (i : ℕ). IsNodeOf start (closed v f) i m) turn.me (record {
+        program = settled.program ∙ same.program ∙ own.program;
+        setup = settled.setup ∙ same.setup ∙ own.setup;
+        me = settled.me ∙ same.me ∙ own.me;
+        round = settled.round ∙ ap (λ x. x + 1) (same.round ∙ own.round) ∙ sym (round-closed v f some);
+        state = same_Some m.state (ended r) (settled.state ∙ end) ∙ ended_same n r same ∙ sym (ended_same n f turn) ∙ sym (state-closed v f some);
+        places = settled.places ∙ ap length same.held ∙ own.places;
+        held = λ q at l.
+            let next : round_of v f.me + 1 ≡ suc q = omega (arith, at, round-closed v f some) in
+            held_begins (world_of start v) (history v) f.me q m.held (omega (arith, due_own, ap start next)) (λ j k. settled.held j);
+      })

@@ -10,3 +10,4 @@ pub mod Starting
 pub mod Runs
 mod Rows
 pub mod Settled
+pub mod Nodes

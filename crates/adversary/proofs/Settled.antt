@@ -1,20 +1,21 @@
 -- No due round stays open.
-use Rattle.std.proofs.Common.{◌≡◌, ◌≢◌, ℕ, zero, suc, ◌+◌, ◌-◌, ◌<◌, ◌≤◌, [], ◌∷◌, Result, Ok, Err, OnOk, true, false, reverse, refl, ap, ◌∙◌, subst, arith, inl, inr, append-nil}
+use Rattle.std.proofs.Common.{◌≡◌, ◌≢◌, ℕ, zero, suc, ◌+◌, ◌-◌, ◌<◌, ◌≤◌, [], ◌∷◌, Result, Ok, Err, OnOk, true, false, length, reverse, refl, sym, ap, ◌∙◌, subst, arith, inl, inr, append-nil}
 use Rattle.std.proofs.lemmas.Bool.{cases_eq, cases_lt}
 use Rattle.std.proofs.lemmas.Bool.Decides.{nat_tests}
 use Rattle.slot_plans.specs.Plan.{PlanLaws}
 use Rattle.round_meaning.specs.declared.setup.Setup.{Setup}
 use Rattle.step_journal.proofs.Leaves.{happened_first}
 use Rattle.step_journal.proofs.Places.{steps_at, steps_other}
+use Rattle.step_journal.specs.Agreement.{row}
 use Rattle.step_journal.specs.Log.{IsDue, IsFaithful, Log, count_of, happened, history, round_of}
 use Rattle.step_journal.specs.Trace.{is_step, steps}
 use Rattle.step_machine.specs.declared.event.Event.{Event}
 use Rattle.step_machine.specs.declared.event.Event.TheVariants.{Step, Release}
 use Rattle.step_machine.specs.declared.event.Name.{Name}
-use Rattle.adversary.specs.Driving.{AreSettled, ClosedAreDue, GoesOn, IsSettled}
+use Rattle.adversary.specs.Driving.{AreSettled, ClosedAreDue, GoesOn, IsInRound, IsSettled}
 
 -- one event more in the trace
-newest : (old new : Log) (i : ℕ) (e : Event) → GoesOn old new i (e ∷ []) → history new ≡ e ∷ history old
+pub newest : (old new : Log) (i : ℕ) (e : Event) → GoesOn old new i (e ∷ []) → history new ≡ e ∷ history old
 newest old new i e g = ap reverse g.trace ∙ happened_first old e
 
 same_history : (old new : Log) (i : ℕ) → GoesOn old new i [] → history new ≡ history old
@@ -29,6 +30,10 @@ no_steps v none i = ap (λ t. steps i (reverse t)) none
 
 stepped : (old new : Log) (i : ℕ) → GoesOn old new i (Step i ∷ []) → count_of new i ≡ count_of old i + 1
 stepped old new i g = ap (steps i) (newest old new i (Step i) g) ∙ steps_at i (Step i) (history old) (own_step i)
+
+-- after the last receive of its round it is due, and not over
+pub due_now : (start : ℕ → ℕ) (old new : Log) (i : ℕ) → count_of old i + 1 ≡ start (round_of old i + 1) → GoesOn old new i (Step i ∷ []) → row new.rows i ≡ row old.rows i → count_of new i ≡ start (round_of new i + 1)
+due_now start old new i last g same = stepped old new i g ∙ last ∙ ap (λ x. start (length x + 1)) (sym same)
 
 module _ (start receives : ℕ → ℕ) (nodes : ℕ) (laws : PlanLaws nodes receives start) where
   -- a round has a send for each node and a receive at least
@@ -86,8 +91,20 @@ module _ (start receives : ℕ → ℕ) (nodes : ℕ) (laws : PlanLaws nodes rec
     ]),
   )
 
+-- where no due round is open, the next step is one of the node's round
+pub in_round : (start : ℕ → ℕ) (v : Log) (i : ℕ) → IsFaithful start v → i < v.setup.nodes → round_of v i ≤ v.setup.rounds → IsSettled start v i → IsInRound start v i
+in_round start v i faithful node last settled = record {
+  first = faithful.began i node;
+  last = last;
+  begun = faithful.past i node;
+  within = elim (cases_lt (count_of v i) (start (round_of v i + 1))) [
+    | inl before ↦ before
+    | inr past ↦ absurd (settled (last, past))
+  ];
+}
+
 -- another node's steps are as many as before
-not_its_step : (i j : ℕ) → j ≢ i → is_step j (Step i) ≡ false
+pub not_its_step : (i j : ℕ) → j ≢ i → is_step j (Step i) ≡ false
 not_its_step i j apart = grind (arith, nat_tests, apart)
 
 others_steps : (old new : Log) (i j : ℕ) → GoesOn old new i (Step i ∷ []) → j ≢ i → count_of new j ≡ count_of old j
@@ -101,9 +118,10 @@ settled_step start old new i g settled here j node due =
       | inr apart ↦
           let ne : j ≢ i = apart in
           let nodes = ap (λ (s : Setup). s.nodes) g.setup in
+          let round : round_of new j ≡ round_of old j = ap length (g.others j ne) in
           settled j (omega (arith, node, nodes)) (
-            omega (arith, due.0, g.others j ne, ap (λ (s : Setup). s.rounds) g.setup),
-            omega (arith, due.1, others_steps old new i j g ne, ap (λ r. start (r + 1)) (g.others j ne)),
+            omega (arith, due.0, round, ap (λ (s : Setup). s.rounds) g.setup),
+            omega (arith, due.1, others_steps old new i j g ne, ap (λ r. start (r + 1)) round),
           )
     ]
 

@@ -1,6 +1,8 @@
 -- What holds while a schedule is run, and which events it may have.
 use Rattle.std.specs.Prelude.{◌≡◌, ◌≢◌, ◌↔◌, ℕ, ◌+◌, ◌<◌, ◌≤◌, List, ◌++◌, length, slice_index_or}
-use Rattle.step_journal.specs.Log.{Log, IsDue, IsName, count_of, round_of}
+use Rattle.step_journal.specs.Agreement.{row}
+use Rattle.step_journal.specs.Log.{Log, IsDue, IsName, count_of, history, round_of, state_before, world_of}
+use Rattle.step_journal.specs.Work.{AreCarried}
 use Rattle.round_meaning.specs.declared.setup.Setup.{Setup}
 use Rattle.step_machine.specs.declared.event.Event.{Event}
 use Rattle.step_machine.specs.declared.event.Event.TheVariants.{Step, Release}
@@ -8,12 +10,22 @@ use Rattle.step_machine.specs.Nodes.{NodeView}
 use Rattle.adversary.specs.declared.fault.RunFault.{RunFault}
 use Rattle.adversary.specs.declared.fault.RunFault.TheVariants as fault
 
--- the node is node i of the run, and in its round
-pub record IsNodeOf (v : Log) (i : ℕ) (n : NodeView) : Type 0 where
+-- the node is node i of the run: in its round, with the state recorded before it, and holding what was carried to it so far
+pub record IsNodeOf (start : ℕ → ℕ) (v : Log) (i : ℕ) (n : NodeView) : Type 0 where
   pub program : n.program ≡ v.program
   pub setup : n.setup ≡ v.setup
   pub me : n.me ≡ i
   pub round : n.round ≡ round_of v i
+  pub state : n.state ≡ state_before v i (round_of v i)
+  pub places : length n.held ≡ v.setup.nodes
+  pub held : (q : ℕ) → q + 1 ≡ round_of v i → q < v.setup.rounds → AreCarried (world_of start v) (history v) i q n.held
+
+-- the next step of node i is one of its round
+pub record IsInRound (start : ℕ → ℕ) (v : Log) (i : ℕ) : Type 0 where
+  pub first : 0 < round_of v i
+  pub last : round_of v i ≤ v.setup.rounds
+  pub begun : start (round_of v i) ≤ count_of v i
+  pub within : count_of v i < start (round_of v i + 1)
 
 -- the event names a node and a message of the run
 abbrev pub IsKnown : Setup → Event → Type 0
@@ -25,7 +37,7 @@ pub record GoesOn (old new : Log) (i : ℕ) (events : List Event) : Type 0 where
   pub program : new.program ≡ old.program
   pub setup : new.setup ≡ old.setup
   pub trace : new.trace ≡ old.trace ++ events
-  pub others : (j : ℕ) → j ≢ i → round_of new j ≡ round_of old j
+  pub others : (j : ℕ) → j ≢ i → row new.rows j ≡ row old.rows j
 
 -- no round of the node is due and open
 abbrev pub IsSettled : (ℕ → ℕ) → Log → ℕ → Type 0
@@ -40,10 +52,10 @@ abbrev pub ClosedAreDue : (ℕ → ℕ) → Log → Type 0
 ClosedAreDue start v =
     (i r : ℕ) → i < v.setup.nodes → 0 < r → r ≤ v.setup.rounds → (r < round_of v i) ↔ (start (r + 1) ≤ count_of v i)
 
--- the nodes are those of the run, each in its round
-pub record AreNodesOf (v : Log) (nodes : List NodeView) : Type 0 where
+-- the nodes are those of the run
+pub record AreNodesOf (start : ℕ → ℕ) (v : Log) (nodes : List NodeView) : Type 0 where
   pub sized : length nodes ≡ v.setup.nodes
-  pub each : (i : ℕ) (d : NodeView) → i < v.setup.nodes → IsNodeOf v i (slice_index_or nodes i d)
+  pub each : (i : ℕ) (d : NodeView) → i < v.setup.nodes → IsNodeOf start v i (slice_index_or nodes i d)
 
 abbrev pub IsStep : Event → Type 0
 IsStep (Step i) = Unit {0}

@@ -1,12 +1,13 @@
 //! Running a schedule on one thread.
-ghost use Rattle.std.specs.Prelude.{◌≡◌, ◌+◌, ◌<◌, ◌≤◌, ◌∷◌, ◌↔◌, [], All, Err, IfErr, IfOk, IfSome, IfNone, IsTrue, OnOk};
+ghost use Rattle.std.specs.Prelude.{◌≡◌, ℕ, ◌+◌, ◌<◌, ◌≤◌, ◌∷◌, ◌↔◌, [], All, Err, IfErr, IfOk, IfSome, IfNone, IsTrue, OnOk, length};
 ghost use Rattle.round_meaning.specs.Setups.{IsLawful, IsSized, max_rounds};
-ghost use Rattle.step_journal.specs.Log.{IsName, happened, opened, round_of};
+ghost use Rattle.step_journal.specs.Agreement.{row};
+ghost use Rattle.step_journal.specs.Log.{IsName, count_of, happened, opened, round_of};
 ghost use Rattle.step_journal.specs.Stock.{IsMail};
-ghost use Rattle.step_journal.specs.Taking.{IsSameBut};
+ghost use Rattle.step_journal.specs.Taking.{HasTaken};
 ghost use Rattle.step_machine.specs.Nodes.{algorithm_in};
 ghost use Rattle.step_machine.specs.declared.event.Event.TheVariants as event;
-ghost use Rattle.adversary.specs.Driving.{AreNodesOf, ClosedAreDue, GoesOn, IsFirstUnknown, IsKnown, IsNodeOf, IsSettled, IsUnknownAt};
+ghost use Rattle.adversary.specs.Driving.{AreNodesOf, ClosedAreDue, GoesOn, IsFirstUnknown, IsInRound, IsKnown, IsNodeOf, IsSettled, IsUnknownAt};
 
 use crate::fault::RunFault;
 use round_check::Checked;
@@ -14,7 +15,7 @@ use round_lang::NoMemory;
 use round_meaning::Setup;
 use slot_plans::Plan;
 use std::alloc::Global;
-use step_journal::Journal;
+use step_journal::{CloseFault, IdleFault, Journal, ReceiveFault, SendFault};
 use step_machine::{Event, Name, Node, Sealed};
 
 /// The journal of a schedule's events. A due round is closed at once, and steps past the last round
@@ -110,7 +111,7 @@ fn run<P: Plan>(
 /// The nodes before their first round.
 fn first_nodes(alloc: Global, program: &Checked, setup: &Setup) -> Result<Vec<Node>, NoMemory>
     requires { IsSized setup.now }
-    ensures { IfOk result (λ nodes. AreNodesOf (opened program.now setup.now) nodes.items) }
+    ensures { IfOk result (λ nodes. (start : ℕ → ℕ) → AreNodesOf start (opened program.now setup.now) nodes.items) }
 {
     let mut nodes = Vec::new(alloc);
     for me in 0..setup.nodes {
@@ -132,11 +133,11 @@ fn release<P: Plan>(journal: &mut Journal<P>, name: Name) -> Result<(), NoMemory
 fn step<P: Plan>(journal: &mut Journal<P>, node: &mut Node, me: u32) -> Result<(), NoMemory>
     requires rounds { journal.old.log.setup.rounds ≤ max_rounds }
     requires me { me < journal.old.log.setup.nodes }
-    requires node { IsNodeOf journal.old.log me node.old }
+    requires node { IsNodeOf (P.start journal.old.plan) journal.old.log me node.old }
     requires settled { IsSettled (P.start journal.old.plan) journal.old.log me }
     ensures plan { OnOk result (journal.new.plan ≡ journal.old.plan) }
     ensures log { OnOk result (GoesOn journal.old.log journal.new.log me (event.Step me ∷ [])) }
-    ensures node { OnOk result (IsNodeOf journal.new.log me node.new) }
+    ensures node { OnOk result (IsNodeOf (P.start journal.new.plan) journal.new.log me node.new) }
     ensures settled { OnOk result (IsSettled (P.start journal.new.plan) journal.new.log me) }
 {
     let book = journal.book();
@@ -160,61 +161,76 @@ fn step<P: Plan>(journal: &mut Journal<P>, node: &mut Node, me: u32) -> Result<(
 
 fn idle<P: Plan>(journal: &mut Journal<P>, me: u32) -> Result<(), NoMemory>
     requires me { me < journal.old.log.setup.nodes }
+    requires past { journal.old.log.setup.rounds < round_of journal.old.log me }
     ensures plan { OnOk result (journal.new.plan ≡ journal.old.plan) }
     ensures log { OnOk result (GoesOn journal.old.log journal.new.log me (event.Step me ∷ [])) }
-    ensures round { OnOk result (round_of journal.new.log me ≡ round_of journal.old.log me) }
+    ensures row { OnOk result (row journal.new.log.rows me ≡ row journal.old.log.rows me) }
 {
     match journal.idle_step(me) {
         Ok(()) => Ok(()),
-        Err(_) => Err(NoMemory),
+        Err(IdleFault::NoMemory) => Err(NoMemory),
+        Err(IdleFault::NotPast) => unreachable!(),
     }
 }
 
+/// A send step: what the node has for another.
 fn send<P: Plan>(
     journal: &mut Journal<P>,
     node: &mut Node,
     me: u32,
     dest: u32,
 ) -> Result<(), NoMemory>
+    requires nodes { P.nodes journal.old.plan ≡ journal.old.log.setup.nodes }
     requires me { me < journal.old.log.setup.nodes }
     requires dest { dest < journal.old.log.setup.nodes }
-    requires first { 0 < round_of journal.old.log me }
-    requires last { round_of journal.old.log me ≤ journal.old.log.setup.rounds }
-    requires node { IsNodeOf journal.old.log me node.old }
+    requires round { IsInRound (P.start journal.old.plan) journal.old.log me }
+    requires slot { count_of journal.old.log me ≡ P.start journal.old.plan (round_of journal.old.log me) + dest }
+    requires node { IsNodeOf (P.start journal.old.plan) journal.old.log me node.old }
     ensures plan { OnOk result (journal.new.plan ≡ journal.old.plan) }
     ensures log { OnOk result (GoesOn journal.old.log journal.new.log me (event.Step me ∷ [])) }
-    ensures round { OnOk result (round_of journal.new.log me ≡ round_of journal.old.log me) }
-    ensures node { OnOk result (IsNodeOf journal.new.log me node.new) }
+    ensures row { OnOk result (row journal.new.log.rows me ≡ row journal.old.log.rows me) }
+    ensures node { OnOk result (IsNodeOf (P.start journal.new.plan) journal.new.log me node.new) }
 {
     let prepared = node.prepare(dest)?;
     match journal.send(prepared) {
         Ok(()) => Ok(()),
-        Err(_) => Err(NoMemory),
+        Err(refused) => match refused.fault {
+            SendFault::NoMemory => Err(NoMemory),
+            SendFault::NotClosed => unreachable!(),
+            SendFault::NotItsSlot => unreachable!(),
+            SendFault::Stranger => unreachable!(),
+        },
     }
 }
 
 /// A receive step: the node takes what was handed out.
 fn receive<P: Plan>(journal: &mut Journal<P>, node: &mut Node, me: u32) -> Result<(), NoMemory>
+    requires nodes { P.nodes journal.old.plan ≡ journal.old.log.setup.nodes }
     requires me { me < journal.old.log.setup.nodes }
-    requires node { IsNodeOf journal.old.log me node.old }
+    requires round { IsInRound (P.start journal.old.plan) journal.old.log me }
+    requires sent { P.start journal.old.plan (round_of journal.old.log me) + journal.old.log.setup.nodes ≤ count_of journal.old.log me }
+    requires node { IsNodeOf (P.start journal.old.plan) journal.old.log me node.old }
     ensures plan { OnOk result (journal.new.plan ≡ journal.old.plan) }
     ensures log { OnOk result (GoesOn journal.old.log journal.new.log me (event.Step me ∷ [])) }
-    ensures round { OnOk result (round_of journal.new.log me ≡ round_of journal.old.log me) }
-    ensures node { OnOk result (IsNodeOf journal.new.log me node.new) }
+    ensures row { OnOk result (row journal.new.log.rows me ≡ row journal.old.log.rows me) }
+    ensures node { OnOk result (IsNodeOf (P.start journal.new.plan) journal.new.log me node.new) }
 {
     match journal.receive(me) {
         Ok(took) => {
             take_all(node, took.frames);
             Ok(())
         }
-        Err(_) => Err(NoMemory),
+        Err(ReceiveFault::NoMemory) => Err(NoMemory),
+        Err(ReceiveFault::NotClosed) => unreachable!(),
+        Err(ReceiveFault::NotItsSlot) => unreachable!(),
     }
 }
 
 /// The node takes frames that were sent to it, in their order.
 fn take_all(node: &mut Node, frames: Vec<Sealed>)
-    requires { All (IsMail (algorithm_in node.old) node.old.setup.nodes node.old.me) frames.items }
-    ensures { IsSameBut node.old node.new }
+    requires places { length node.old.held ≡ node.old.setup.nodes }
+    requires mail { All (IsMail (algorithm_in node.old) node.old.setup.nodes node.old.me) frames.items }
+    ensures { HasTaken node.old node.new frames.items }
 {
     for frame in frames {
         let _taken = node.take(frame);
@@ -226,11 +242,12 @@ fn close<P: Plan>(journal: &mut Journal<P>, node: &mut Node) -> Result<(), NoMem
     requires me { node.old.me < journal.old.log.setup.nodes }
     requires first { 0 < round_of journal.old.log node.old.me }
     requires last { node.old.round ≤ journal.old.log.setup.rounds }
-    requires node { IsNodeOf journal.old.log node.old.me node.old }
+    requires due { count_of journal.old.log node.old.me ≡ P.start journal.old.plan (round_of journal.old.log node.old.me + 1) }
+    requires node { IsNodeOf (P.start journal.old.plan) journal.old.log node.old.me node.old }
     ensures plan { OnOk result (journal.new.plan ≡ journal.old.plan) }
     ensures log { OnOk result (GoesOn journal.old.log journal.new.log node.old.me []) }
     ensures round { OnOk result (round_of journal.new.log node.old.me ≡ round_of journal.old.log node.old.me + 1) }
-    ensures node { OnOk result (IsNodeOf journal.new.log node.old.me node.new) }
+    ensures node { OnOk result (IsNodeOf (P.start journal.new.plan) journal.new.log node.old.me node.new) }
 {
     let finished = node.finish()?;
     match journal.close(&finished) {
@@ -238,6 +255,8 @@ fn close<P: Plan>(journal: &mut Journal<P>, node: &mut Node) -> Result<(), NoMem
             node.settle();
             Ok(())
         }
-        Err(_) => Err(NoMemory),
+        Err(CloseFault::NoMemory) => Err(NoMemory),
+        Err(CloseFault::NotDue) => unreachable!(),
+        Err(CloseFault::Stranger) => unreachable!(),
     }
 }

@@ -7,6 +7,7 @@ pub mod AccountsKept
 pub mod Buffers
 pub mod Keeps
 pub mod Heard
+pub mod Hearing
 pub mod Reading
 pub mod Tables
 pub mod Events

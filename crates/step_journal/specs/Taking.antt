@@ -1,6 +1,7 @@
 -- A node that takes frames.
-use Rattle.std.specs.Prelude.{◌≡◌}
-use Rattle.step_machine.specs.Nodes.{NodeView}
+use Rattle.std.specs.Prelude.{◌≡◌, ℕ, ◌&&◌, ◌==◌, if◌then◌else◌, List, [], ◌∷◌, Option, Some, None, length}
+use Rattle.step_machine.specs.Frames.{Frame}
+use Rattle.step_machine.specs.Nodes.{NodeView, held_at}
 
 -- all but the frames held and the next state is as it was
 pub record IsSameBut (old new : NodeView) : Type 0 where
@@ -8,3 +9,20 @@ pub record IsSameBut (old new : NodeView) : Type 0 where
   pub setup : new.setup ≡ old.setup
   pub me : new.me ≡ old.me
   pub round : new.round ≡ old.round
+  pub state : new.state ≡ old.state
+
+-- the first of the frames that is of this round and from this sender
+abbrev pub frame_from : ℕ → ℕ → List Frame → Option Frame
+frame_from r j [] = None
+frame_from r j (f ∷ fs) = if f.name.round == r && f.name.from == j then Some f else frame_from r j fs
+
+-- the frame that is held, else the one that comes
+abbrev pub held_or : Option Frame → Option Frame → Option Frame
+held_or None f = f
+held_or (Some h) f = Some h
+
+-- the node holds what it held, and of each other sender the first frame of its round
+pub record HasTaken (old new : NodeView) (frames : List Frame) : Type 0 where
+  pub same : IsSameBut old new
+  pub places : length new.held ≡ length old.held
+  pub held : (j : ℕ) → held_at new.held j ≡ held_or (held_at old.held j) (frame_from old.round j frames)

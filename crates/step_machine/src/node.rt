@@ -219,6 +219,7 @@ impl Node {
         requires within { self.old.round ≤ self.old.setup.rounds }
         ensures state { Some self.new.state ≡ self.old.next }
         ensures held { (j : ℕ) → held_at self.new.held j ≡ None }
+        ensures places { length self.new.held ≡ length self.old.held }
         ensures round { self.new.round ≡ self.old.round + 1 }
         ensures next { self.new.next ≡ None }
         ensures program { self.new.program ≡ self.old.program }

@@ -1,15 +1,18 @@
-use Rattle.std.proofs.Common.{◌≡◌, ◌∙◌, ◌+◌, sym, ap, subst}
-use Rattle.step_journal.specs.Log.{Log}
+use Rattle.std.proofs.Common.{subst, sym}
+use Rattle.std.proofs.lemmas.Result.{IfOk-at_ok}
+use Rattle.step_journal.specs.Log.{Recorded}
+use Rattle.step_machine.specs.Nodes.{IsEnd}
 use Rattle.adversary.specs.Driving.{IsNodeOf}
 use Rattle.adversary.proofs.Closed.{node_closed}
 use Rattle.adversary.proofs.running.close.Goals as goal
 
 pub returns-in-Ok-clause-node : goal.returns-in-Ok-clause-node
 returns-in-Ok-clause-node g c =
-    let me : c.in_ok-finished.finished.node.now.me ≡ c.args.node.now.me = c.in_ok-finished.ensures.ended.me in
-    let kept = c.finish.follows.holds-at-none.0 in
-    let P : Log → Type 0 = λ v. IsNodeOf v c.args.node.now.me c.settle.new.self in
-    subst P (sym (ap (λ z. z.log) c.in-Ok.ensures.ok))
-    (node_closed c.args.journal.now.log c.in_ok-finished.finished.node.now c.args.node.now c.settle.new.self me c.requires.node c.requires.first
-    (c.settle.ensures.program ∙ kept.program) (c.settle.ensures.setup ∙ kept.setup) (c.settle.ensures.me ∙ kept.me)
-    (c.settle.ensures.round ∙ ap (λ x. x + 1) kept.round))
+    let j = c.args.journal.now in
+    let start = g.P.Plan.start j.plan in
+    let e = c.settle.ensures in
+    let kept = c.finish.follows.holds-at-none in
+    subst (λ (z : Recorded _). IsNodeOf (g.P.Plan.start z.plan) z.log c.args.node.now.me c.settle.new.self) (sym c.in-Ok.ensures.ok)
+    (node_closed start j.log c.args.node.now c.in_ok-finished.finished.node.now c.in_ok-finished.ensures.ended c.requires.node c.requires.first c.requires.due
+    c.finish.follows.lender-at-none c.settle.new.self kept.0 (IfOk-at_ok (λ _. IsEnd c.finish.follows.lender-at-none) c.in_ok-finished.was kept.1)
+    (record { state = e.state; held = e.held; places = e.places; round = e.round; program = e.program; setup = e.setup; me = e.me }))
