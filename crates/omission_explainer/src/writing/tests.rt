@@ -1,6 +1,6 @@
 use super::write_report;
 use crate::{Listed, Report, ReportRow, omissions_give_inbox, sets_part_nodes};
-use round_lang::{Identifier, NoMemory, Row, Ty, Value, ValueSet, Vars};
+use round_lang::{Identifier, NoMemory, Row, Shape, Ty, Value, ValueSet, VarsBuilder};
 use round_meaning::NodeSet;
 use std::alloc::Global;
 use std::io;
@@ -60,10 +60,11 @@ fn value(alloc: Global, given: &Given) -> Result<Value, NoMemory> {
 
 impl GivenRow {
     fn row(&self, alloc: Global) -> Result<ReportRow, NoMemory> {
-        let mut state = Vars::new(alloc);
+        let mut values = VarsBuilder::new(alloc);
         for given in self.state {
-            state.push(value(alloc, given)?)?;
+            values.push(&value(alloc, given)?)?;
         }
+        let state = values.finish(&Shape::empty())?;
         Ok(ReportRow {
             round: self.round,
             node: self.node,
