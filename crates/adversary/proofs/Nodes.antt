@@ -67,10 +67,6 @@ module _ (start : ℕ → ℕ) (old new : Log) (i : ℕ) where
         held_moved e q n.held g (held_on (world_of start old) p e (history old) i q n.held (omega arith) (quiet (omega arith)) (h.held q same within));
   }
 
-  -- a step past the last round
-  pub node_idle : (n : NodeView) → IsPlan (world_of start old) → IsOneOn old new i (Step i) → old.setup.rounds < round_of old i → IsNodeOf start old i n → IsNodeOf start new i n
-  node_idle n p g past h = node_on (Step i) n p g (λ l. absurd (omega arith)) h
-
   -- a send
   pub node_sent : (dest : ℕ) (n : NodeView) → IsPlan (world_of start old) → IsOneOn old new i (Step i) → dest < old.setup.nodes → IsInRound start old i → count_of old i ≡ start (round_of old i) + dest → IsNodeOf start old i n → IsNodeOf start new i n
   node_sent dest n p g l r slot h =
