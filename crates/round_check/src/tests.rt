@@ -2,7 +2,7 @@
 mod sketch;
 
 use crate::check;
-use round_lang::{BinaryOperator, Constant, NoMemory, Program, Ty, UnaryOperator};
+use round_lang::{BinaryOperator, Constant, Kind, NoMemory, Program, Ty, UnaryOperator};
 use sketch::{
     Form, Line, Part, Round, Sketch, Step, assignments, block_of, fields, formula, formulas, names,
     program, program_of, variables,
@@ -719,6 +719,12 @@ fn what_a_checked_program_tells(rt: HostRuntime) -> Result<(), Fail> {
             assert_eq!(rt; copy.program().values(), 4);
             assert!(rt; copy.input().as_str() == "x");
             assert!(rt; checked.decided().as_str() == "seen");
+            assert!(rt; copy.state_shape().is(&[Kind::Num, Kind::Set, Kind::Num]));
+            assert!(rt;
+                copy.message_shape(0)
+                    .is_some_and(|shape| shape.is(&[Kind::Set]))
+            );
+            assert!(rt; copy.message_shape(1).is_none());
         }
         Err(fault) => assert!(rt; false, "{fault:?}"),
     }

@@ -1,15 +1,14 @@
 -- Values are what is read from the words that they are spelled with.
-use Rattle.std.proofs.Common.{◌≡◌, ◌∙◌, ℕ, zero, suc, ◌+◌, ◌-◌, ◌<◌, ◌≤◌, true, false, List, [], ◌∷◌, ◌++◌, length, take, drop, refl, sym, ap, subst, arith, append_assoc, length-append}
-use Rattle.std.specs.Prelude.{map, slice_set, slice_index_or}
-use Rattle.std.specs.List.{AllByRecursion, refill}
-use Rattle.std.proofs.lemmas.List.{take_at, drop_at, map-append, append-nil, length-map, length-drop}
+use Rattle.std.proofs.Common.{◌≡◌, ◌∙◌, ℕ, true, false, List, [], ◌∷◌, ◌++◌, length, drop, refl, sym, ap, subst}
+use Rattle.std.specs.Prelude.{map}
+use Rattle.std.specs.List.{AllByRecursion}
+use Rattle.std.proofs.lemmas.List.{drop_at, map-append, append-nil}
 use Rattle.std.proofs.lemmas.Grind.{flat_map-append}
-use Rattle.std.proofs.Math.Seq.{take-append-add, drop-append-add, take-append_seam}
+use Rattle.std.proofs.Math.Seq.{take-append_seam}
 use Rattle.round_lang.specs.declared.kind.Kind.{Kind}
 use Rattle.round_lang.specs.declared.value.Value.{Value}
 use Rattle.round_lang.specs.declared.value.Value.TheVariants.{Num, Flag, Set, Row}
-use Rattle.round_lang.specs.Values.{at}
-use Rattle.round_lang.specs.Words.{size, read, values_of, kind_of, words_of, all_words, words_before, written, IsSmall, IsSpelled}
+use Rattle.round_lang.specs.Words.{size, read, values_of, kind_of, words_of, all_words, IsSmall, IsSpelled}
 
 -- a value is as long as its kind says
 pub size-kind_of : (v : Value) → size (kind_of v) ≡ length (words_of v)
@@ -43,6 +42,10 @@ IsSpelled-of vs small =
       small = subst (AllByRecursion IsSmall) back small;
     }
 
+-- kinds and words that are those of small values spell them
+pub spelled_values : (vs : List Value) → AllByRecursion IsSmall vs → (kinds : List Kind) (words : List ℕ) → kinds ≡ map kind_of vs → words ≡ all_words vs → (values_of kinds words ≡ vs) × IsSpelled kinds words
+spelled_values vs small kinds words k w = rw (k, w) (values_of-all_words vs, IsSpelled-of vs small)
+
 AllByRecursion-push : (vs : List Value) (v : Value) → AllByRecursion IsSmall vs → IsSmall v → AllByRecursion IsSmall (vs ++ v ∷ [])
 AllByRecursion-push [] v h small = (small, tt)
 AllByRecursion-push (u ∷ us) v h small = (h.0, AllByRecursion-push us v h.1 small)
@@ -52,10 +55,6 @@ pub record IsPushed (kinds new_kinds : List Kind) (words new_words : List ℕ) (
   pub values : values_of new_kinds new_words ≡ values_of kinds words ++ v ∷ []
   pub spelled : IsSpelled new_kinds new_words
 
-pushed_values : (vs : List Value) (v : Value) → AllByRecursion IsSmall vs → IsSmall v → (kinds : List Kind) (words : List ℕ) → kinds ≡ map kind_of (vs ++ v ∷ []) → words ≡ all_words (vs ++ v ∷ []) → (values_of kinds words ≡ vs ++ v ∷ []) × IsSpelled kinds words
-pushed_values vs v h small kinds words k w =
-    rw (k, w) (values_of-all_words (vs ++ v ∷ []), IsSpelled-of (vs ++ v ∷ []) (AllByRecursion-push vs v h small))
-
 pub IsPushed-of : (kinds new_kinds : List Kind) (words new_words : List ℕ) (v : Value) → IsSpelled kinds words → IsSmall v → new_kinds ≡ kinds ++ kind_of v ∷ [] → new_words ≡ words ++ words_of v → IsPushed kinds new_kinds words new_words v
 IsPushed-of kinds new_kinds words new_words v s small kinds_are words_are =
     let vs = values_of kinds words in
@@ -63,127 +62,5 @@ IsPushed-of kinds new_kinds words new_words v s small kinds_are words_are =
     kinds_are ∙ ap (λ ks. ks ++ kind_of v ∷ []) s.kinds_are ∙ sym (map-append kind_of vs (v ∷ [])) in
     let w : new_words ≡ all_words (vs ++ v ∷ []) =
     words_are ∙ ap (λ ws. ws ++ words_of v) s.words_are ∙ ap (λ ws. all_words vs ++ ws) (sym (append-nil (words_of v))) ∙ sym (flat_map-append words_of vs (v ∷ [])) in
-    let h = pushed_values vs v s.small small new_kinds new_words k w in
+    let h = spelled_values (vs ++ v ∷ []) (AllByRecursion-push vs v s.small small) new_kinds new_words k w in
     record { values = h.0; spelled = h.1 }
-
--- what lies behind a front is written behind it
-written-append : (xs ys ws : List ℕ) (m : ℕ) → written (xs ++ ys) (length xs + m) ws ≡ xs ++ written ys m ws
-written-append xs ys ws m =
-    let n : length xs + m + length ws ≡ length xs + (m + length ws) = omega arith in
-    ap (λ front. front ++ (ws ++ drop (length xs + m + length ws) (xs ++ ys))) (take-append-add xs ys m)
-    ∙ ap (λ n. (xs ++ take m ys) ++ (ws ++ drop n (xs ++ ys))) n
-    ∙ ap (λ rest. (xs ++ take m ys) ++ (ws ++ rest)) (drop-append-add xs ys (m + length ws))
-    ∙ append_assoc xs (take m ys) (ws ++ drop (m + length ws) ys)
-
--- a value in place of one of its kind
-pub written-all_words : (vs : List Value) (i : ℕ) (v : Value) → i < length vs → kind_of v ≡ kind_of (at vs i) → written (all_words vs) (words_before (map kind_of vs) i) (words_of v) ≡ all_words (slice_set vs i v)
-written-all_words [] i v within same = absurd (omega (arith, within))
-written-all_words (u ∷ us) zero v within same =
-    let same_length : length (words_of u) ≡ length (words_of v) = sym (size-kind_of u) ∙ ap size (sym same) ∙ size-kind_of v in
-    ap (λ ws. words_of v ++ ws) (drop_at (words_of u) (all_words us) (0 + length (words_of v)) (omega (arith, same_length)))
-written-all_words (u ∷ us) (suc i) v within same =
-    ap (λ n. written (words_of u ++ all_words us) (n + words_before (map kind_of us) i) (words_of v)) (size-kind_of u)
-    ∙ written-append (words_of u) (all_words us) (words_of v) (words_before (map kind_of us) i)
-    ∙ ap (λ ws. words_of u ++ ws) (written-all_words us i v (omega (arith, within)) same)
-
--- there is room for it
-pub room_for : (vs : List Value) (i : ℕ) (v : Value) → i < length vs → kind_of v ≡ kind_of (at vs i) → words_before (map kind_of vs) i + length (words_of v) ≤ length (all_words vs)
-room_for [] i v within same = absurd (omega (arith, within))
-room_for (u ∷ us) zero v within same =
-    let n : length (words_of v) ≡ length (words_of u) = sym (size-kind_of v) ∙ ap size same ∙ size-kind_of u in
-    omega (arith, n, length-append (words_of u) (all_words us))
-room_for (u ∷ us) (suc i) v within same =
-    let rest : words_before (map kind_of us) i + length (words_of v) ≤ length (all_words us) = room_for us i v (omega (arith, within)) same in
-    omega (arith, rest, size-kind_of u, length-append (words_of u) (all_words us))
-
-kinds-set : (vs : List Value) (i : ℕ) (v : Value) → kind_of v ≡ kind_of (at vs i) → i < length vs → map kind_of (slice_set vs i v) ≡ map kind_of vs
-kinds-set [] i v same within = refl
-kinds-set (u ∷ us) zero v same within = ap (λ k. k ∷ map kind_of us) same
-kinds-set (u ∷ us) (suc i) v same within = ap (λ ks. kind_of u ∷ ks) (kinds-set us i v same (omega (arith, within)))
-
-small-set : (vs : List Value) (i : ℕ) (v : Value) → AllByRecursion IsSmall vs → IsSmall v → AllByRecursion IsSmall (slice_set vs i v)
-small-set [] i v h small = h
-small-set (u ∷ us) zero v h small = (small, h.1)
-small-set (u ∷ us) (suc i) v h small = (h.0, small-set us i v h.1 small)
-
--- the value at a place is small
-pub small-at : (vs : List Value) (i : ℕ) → AllByRecursion IsSmall vs → IsSmall (at vs i)
-small-at [] i h = omega arith
-small-at (u ∷ us) zero h = h.0
-small-at (u ∷ us) (suc i) h = small-at us i h.1
-
--- what is left once a value is written over one of its kind
-pub record IsPut (kinds : List Kind) (words new_words : List ℕ) (place : ℕ) (v : Value) : Type 0 where
-  pub values : values_of kinds new_words ≡ slice_set (values_of kinds words) place v
-  pub spelled : IsSpelled kinds new_words
-
-put_values : (us : List Value) → AllByRecursion IsSmall us → (kinds : List Kind) (words : List ℕ) → kinds ≡ map kind_of us → words ≡ all_words us → (values_of kinds words ≡ us) × IsSpelled kinds words
-put_values us small kinds words k w = rw (k, w) (values_of-all_words us, IsSpelled-of us small)
-
--- where a value of the kind of v is found, and the words from it on
-pub record IsAt (kinds : List Kind) (words rest : List ℕ) (place : ℕ) (v : Value) : Type 0 where
-  pub within : place < length kinds
-  pub kind : slice_index_or kinds place (kind_of v) ≡ kind_of v
-  pub from_it : rest ≡ drop (words_before kinds place) words
-
-pub IsAt-found : (found kinds : List Kind) (read words rest : List ℕ) (place : ℕ) (k : Kind) (v : Value) → found ≡ kinds → read ≡ words → place < length found → k ≡ slice_index_or found place k → rest ≡ drop (words_before found place) read → k ≡ kind_of v → IsAt kinds words rest place v
-IsAt-found found kinds read words rest place k v same_kinds same_words within kind from_it is_kind =
-    let at_kind : k ≡ slice_index_or kinds place k = kind ∙ ap (λ ks. slice_index_or ks place k) same_kinds in
-    record {
-      within = subst (λ ks. place < length ks) same_kinds within;
-      kind = sym (subst (λ k. k ≡ slice_index_or kinds place k) is_kind at_kind);
-      from_it = from_it ∙ ap (λ ks. drop (words_before ks place) read) same_kinds ∙ ap (λ ws. drop (words_before kinds place) ws) same_words;
-    }
-
--- the kind at a place is that of the value there
-kind-at : (vs : List Value) (i : ℕ) (k : Kind) → i < length vs → slice_index_or (map kind_of vs) i k ≡ kind_of (at vs i)
-kind-at [] i k within = absurd (omega (arith, within))
-kind-at (u ∷ us) zero k within = refl
-kind-at (u ∷ us) (suc i) k within = kind-at us i k (omega (arith, within))
-
--- the same, of the values that are spelled
-record IsAtValue (kinds : List Kind) (words : List ℕ) (place : ℕ) (v : Value) (vs : List Value) : Type 0 where
-  kinds_are : kinds ≡ map kind_of vs
-  words_are : words ≡ all_words vs
-  within : place < length vs
-  kind : kind_of v ≡ kind_of (at vs place)
-
-IsAtValue-of : (kinds : List Kind) (words rest : List ℕ) (place : ℕ) (v : Value) → IsSpelled kinds words → IsAt kinds words rest place v → IsAtValue kinds words place v (values_of kinds words)
-IsAtValue-of kinds words rest place v s h =
-    let vs = values_of kinds words in
-    let within : place < length vs = subst (λ n. place < n) (ap length s.kinds_are ∙ length-map vs kind_of) h.within in
-    record {
-      kinds_are = s.kinds_are;
-      words_are = s.words_are;
-      within = within;
-      kind = sym h.kind ∙ ap (λ ks. slice_index_or ks place (kind_of v)) s.kinds_are ∙ kind-at vs place (kind_of v) within;
-    }
-
-room-at : (vs : List Value) (kinds : List Kind) (words : List ℕ) (place : ℕ) (v : Value) → IsAtValue kinds words place v vs → words_before kinds place + length (words_of v) ≤ length words
-room-at vs kinds words place v h = rw (h.kinds_are, h.words_are) (room_for vs place v h.within h.kind)
-
--- the words before the rest are those before the place
-before-rest : (words rest : List ℕ) (n : ℕ) → rest ≡ drop n words → n ≤ length words → length words - length rest ≡ n
-before-rest words rest n e within =
-    let l : length rest ≡ length words - n = ap length e ∙ length-drop n words in
-    omega (arith, l, within)
-
-pub room : (kinds : List Kind) (words rest : List ℕ) (place : ℕ) (v : Value) → IsSpelled kinds words → IsAt kinds words rest place v → length words - length rest + length (words_of v) ≤ length words
-room kinds words rest place v s h =
-    let fits : words_before kinds place + length (words_of v) ≤ length words = room-at (values_of kinds words) kinds words place v (IsAtValue-of kinds words rest place v s h) in
-    omega (arith, fits, before-rest words rest (words_before kinds place) h.from_it (omega (arith, fits)))
-
-put-at : (vs : List Value) (kinds : List Kind) (words : List ℕ) (place : ℕ) (v : Value) → AllByRecursion IsSmall vs → IsSmall v → IsAtValue kinds words place v vs → (values_of kinds (written words (words_before kinds place) (words_of v)) ≡ slice_set vs place v) × IsSpelled kinds (written words (words_before kinds place) (words_of v))
-put-at vs kinds words place v all_small small h =
-    rw (h.kinds_are, h.words_are) (put_values (slice_set vs place v) (small-set vs place v all_small small) (map kind_of vs) (written (all_words vs) (words_before (map kind_of vs) place) (words_of v))
-    (sym (kinds-set vs place v h.kind h.within)) (written-all_words vs place v h.within h.kind))
-
-pub IsPut-of : (kinds : List Kind) (words rest lent new_words : List ℕ) (place count : ℕ) (v : Value) → IsSpelled kinds words → IsAt kinds words rest place v → IsSmall v → lent ≡ words → count ≡ length words → new_words ≡ written lent (count - length rest) (words_of v) → length new_words ≡ length lent → IsPut kinds words (refill (length words) words new_words) place v
-IsPut-of kinds words rest lent new_words place count v s h small lent_is count_is new_is same_length =
-    let fits : words_before kinds place + length (words_of v) ≤ length words = room-at (values_of kinds words) kinds words place v (IsAtValue-of kinds words rest place v s h) in
-    let first : length words - length rest ≡ words_before kinds place = before-rest words rest (words_before kinds place) h.from_it (omega (arith, fits)) in
-    let is : refill (length words) words new_words ≡ written words (words_before kinds place) (words_of v) =
-    take_at new_words (drop (length new_words) words) (length words) (same_length ∙ ap length lent_is)
-    ∙ new_is ∙ ap (λ ws. written ws (count - length rest) (words_of v)) lent_is ∙ ap (λ n. written words (n - length rest) (words_of v)) count_is ∙ ap (λ n. written words n (words_of v)) first in
-    let p = put-at (values_of kinds words) kinds words place v s.small small (IsAtValue-of kinds words rest place v s h) in
-    record { values = ap (values_of kinds) is ∙ p.0; spelled = subst (IsSpelled kinds) (sym is) p.1 }

@@ -3,7 +3,7 @@ use Rattle.std.specs.Prelude.{slice_set}
 use Rattle.std.specs.List.{refill}
 use Rattle.round_lang.specs.Words.{kind_of}
 use Rattle.round_lang.proofs.KindEquality.{kind_decides}
-use Rattle.round_lang.proofs.Spelling.{IsAt-found, IsPut, IsPut-of, room}
+use Rattle.round_lang.proofs.Overwriting.{IsAt-found, IsPut, IsPut-of, room}
 use Rattle.round_lang.proofs.vars.Vars.put.Goals as goal
 
 -- the kind that was found is that of the value
