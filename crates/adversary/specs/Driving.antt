@@ -10,7 +10,7 @@ use Rattle.step_machine.specs.Nodes.{NodeView}
 use Rattle.adversary.specs.declared.fault.RunFault.{RunFault}
 use Rattle.adversary.specs.declared.fault.RunFault.TheVariants as fault
 
--- the node is node i of the run: in its round, with the state recorded before it, and holding what was carried to it so far
+-- the node is node i of the run: in its round, with the state recorded before that, and, until the last round is over, holding what was carried to the round so far
 pub record IsNodeOf (start : ℕ → ℕ) (v : Log) (i : ℕ) (n : NodeView) : Type 0 where
   pub program : n.program ≡ v.program
   pub setup : n.setup ≡ v.setup

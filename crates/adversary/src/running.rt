@@ -19,7 +19,8 @@ use step_journal::{CloseFault, IdleFault, Journal, ReceiveFault, SendFault};
 use step_machine::{Event, Name, Node, Sealed};
 
 /// The journal of a schedule's events. A due round is closed at once, and steps past the last round
-/// are idle.
+/// are idle. `NoMemory` is for want of memory alone: each other refusal of its own journal is proved
+/// never to come.
 pub fn run_schedule<P: Plan>(
     alloc: Global,
     program: &Checked,
@@ -159,6 +160,7 @@ fn step<P: Plan>(journal: &mut Journal<P>, node: &mut Node, me: u32) -> Result<(
     Ok(())
 }
 
+/// A step past the last round.
 fn idle<P: Plan>(journal: &mut Journal<P>, me: u32) -> Result<(), NoMemory>
     requires me { me < journal.old.log.setup.nodes }
     requires past { journal.old.log.setup.rounds < round_of journal.old.log me }
