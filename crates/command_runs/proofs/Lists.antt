@@ -1,14 +1,12 @@
 -- A set of nodes from their list.
-use Rattle.std.proofs.Common.{◌≡◌, ℕ, ◌<◌, Bool, true, false, List, [], ◌∷◌, ◌++◌, get_or, length, refl, sym, subst, ap, ap₂, ◌∙◌, arith, inl, inr}
-use Rattle.std.specs.Prelude.{◌&&◌, ◌||◌, All, nat_eq, nat_lt}
+use Rattle.std.proofs.Common.{◌≡◌, ℕ, ◌+◌, ◌<◌, Bool, true, false, List, [], ◌∷◌, ◌++◌, get_or, length, refl, sym, subst, ap, ap₂, ◌∙◌, arith, inl, inr}
+use Rattle.std.specs.Prelude.{◌&&◌, ◌||◌, nat_eq, nat_lt}
 use Rattle.std.specs.List.{list_any}
 use Rattle.std.proofs.lemmas.Bool.{cases_lt}
 use Rattle.std.proofs.lemmas.Bool.Decides.{nat_tests}
 use Rattle.std.proofs.lemmas.List.{get_or_default}
 use Rattle.std.proofs.lemmas.List.Folds.{list_any-append}
 use Rattle.round_lang.specs.Sets.{is_in, only, union}
-use Rattle.round_meaning.specs.Setups.{IsLawful}
-use Rattle.round_meaning.specs.declared.setup.Setup.{Setup}
 use Rattle.omission_explainer.proofs.Parts.{is_in-set_of, nodes_none, nodes_with}
 use Rattle.command_runs.specs.Explained.{AreListed}
 
@@ -58,8 +56,3 @@ below_more nodes list i e inside one h k d within =
           let here : k ≡ i = omega (arith, within, past) in
           subst (λ j. get_or list j d < nodes) (sym here) (subst (λ n. n < nodes) (get_or_default list i e d inside) one)
     ]
-
--- no listed number is past a bound, or one is
-pub some_past : (values : ℕ) (s : Setup) (list : List ℕ) → (All (λ n. (n < s.nodes) × (n < 16)) list → ⊥) → IsLawful values s × All (λ n. n < s.nodes) list → ⊥
-some_past values s list none both =
-    none (λ k d within. let below = both.1 k d within in (below, omega (arith, below, both.0.sized.few_nodes)))

@@ -23,6 +23,3 @@ returns-clause-judged g c =
       clear = subst (λ p. IsClearRound (g.P.Plan.receives p) (g.P.Plan.start p) terms.delta terms.gst v.clear) ran.plan said.clear;
       hears = subst (λ p. IsTrue v.lockstep → IsTrue v.bound → IfSome v.clear (HearsFrom (g.P.Plan.start p) run correct)) ran.plan said.hears;
     }
-
-pub returns-else-correct-clause-bad_setup : goal.returns-else-correct-clause-bad_setup
-returns-else-correct-clause-bad_setup g c = (λ is. some_past c.args.program.now.values c.args.setup.now c.args.terms.correct.now c.in-None.ensures.none, λ no. refl)
