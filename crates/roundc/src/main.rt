@@ -2,13 +2,15 @@
 #![tactic(auto)]
 
 mod host_desk;
+mod unread;
 
 use command_runs::run_words;
 use host_desk::HostDesk;
 use std::alloc::{AllocError, Global};
 use std::env;
-use std::io::BufWriter;
+use std::io::{BufWriter, Write};
 use std::process::ExitCode;
+use unread::Unread;
 
 /// The words after the program's own name.
 fn texts<'a>(alloc: Global, words: &'a [String]) -> Result<Vec<&'a str>, AllocError> {
@@ -19,22 +21,24 @@ fn texts<'a>(alloc: Global, words: &'a [String]) -> Result<Vec<&'a str>, AllocEr
         .try_collect(alloc)
 }
 
-fn main(rt: HostRuntime) -> ExitCode {
-    let alloc = rt.alloc();
-    let Ok(words) = env::args(&rt) else {
-        return ExitCode::from(2);
-    };
-    let Ok(words) = words.collect::<Vec<String>>(alloc) else {
-        return ExitCode::from(3);
-    };
-    let Ok(words) = texts(alloc, words.as_slice()) else {
-        return ExitCode::from(3);
-    };
-    let mut desk = HostDesk::new(&rt);
-    let Ok(mut out) = BufWriter::new(alloc, rt.stdout()) else {
-        return ExitCode::from(3);
-    };
+/// Runs the command that the words name, and answers the exit status.
+fn run(rt: &HostRuntime, alloc: Global) -> Result<u8, Unread> {
+    let words = env::args(rt)?.collect::<Vec<String>>(alloc)?;
+    let words = texts(alloc, words.as_slice())?;
+    let mut desk = HostDesk::new(rt);
+    let mut out = BufWriter::new(alloc, rt.stdout())?;
     let mut err = rt.stderr();
     let status = run_words(alloc, words.as_slice(), &mut desk, &mut out, &mut err);
-    ExitCode::from(status)
+    Ok(status)
+}
+
+fn main(rt: HostRuntime) -> ExitCode {
+    match run(&rt, rt.alloc()) {
+        Ok(status) => ExitCode::from(status),
+        Err(unread) => {
+            // Where standard error fails too there is nobody left to tell.
+            let _ = write!(rt.stderr(), "{unread}");
+            ExitCode::from(unread.status())
+        }
+    }
 }
