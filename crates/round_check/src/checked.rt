@@ -1,5 +1,5 @@
 //! Checked programs.
-ghost use Rattle.std.specs.Prelude.{◌≡◌, true, IfOk, IfErr, OnOk, option_copied, slice_get};
+ghost use Rattle.std.specs.Prelude.{◌≡◌, ◌↔◌, true, IfOk, IfErr, IsTrue, OnOk, option_copied, slice_get};
 ghost use Rattle.std.specs.Arc.{arc_value};
 ghost use Rattle.round_check.specs.Causes.{is_typed, IsFault, input_name, decided_name};
 ghost use Rattle.round_check.specs.Shapes.{message_kinds, state_kinds};
@@ -88,6 +88,13 @@ impl Checked {
         Ok(Checked {
             shaped: Arc::try_clone(&self.shaped)?,
         })
+    }
+
+    /// Whether both are one program, wherever they lie.
+    pub fn same(&self, other: &Checked) -> bool
+        ensures { IsTrue result ↔ (self.now ≡ other.now) }
+    {
+        self.program().same(other.program())
     }
 
     /// Nothing at run time: what every checked program keeps.

@@ -1,7 +1,8 @@
 //! What a program does in one round of its period.
-ghost use Rattle.std.specs.Prelude.{◌≡◌, ◌≤◌, length, vec_len};
+ghost use Rattle.std.specs.Prelude.{◌≡◌, ◌≤◌, ◌↔◌, IsTrue, length, vec_len};
 ghost use Rattle.round_lang.specs.Limits.{max_fields};
 
+use crate::equal::{same_assignments, same_fields, same_formulas};
 use crate::expr::Ty;
 use crate::formula::Formula;
 use crate::identifier::Identifier;
@@ -128,5 +129,17 @@ impl Block {
         ensures { result.now ≡ self.now.end }
     {
         &self.end
+    }
+
+    /// Whether both are one block.
+    pub fn same(&self, other: &Block) -> bool
+        ensures { IsTrue result ↔ (self.now ≡ other.now) }
+    {
+        self.number == other.number
+            && same_fields(&self.fields, &other.fields)
+            && self.condition.same(&other.condition)
+            && same_formulas(&self.sent, &other.sent)
+            && same_assignments(&self.on_message, &other.on_message)
+            && same_assignments(&self.end, &other.end)
     }
 }

@@ -4,6 +4,7 @@
 mod block;
 mod builder;
 mod copies;
+mod equal;
 mod expr;
 mod fault;
 mod formula;

@@ -1,8 +1,9 @@
 //! Programs.
-ghost use Rattle.std.specs.Prelude.{◌≡◌, ◌≤◌, ◌<◌, length, vec_len};
+ghost use Rattle.std.specs.Prelude.{◌≡◌, ◌≤◌, ◌<◌, ◌↔◌, IsTrue, length, vec_len};
 ghost use Rattle.round_lang.specs.Limits.{IsSized, max_period, max_values, max_variables};
 
 use crate::block::Block;
+use crate::equal::{same_blocks, same_names, same_variables};
 use crate::expr::Ty;
 use crate::formula::Formula;
 use crate::identifier::Identifier;
@@ -120,5 +121,16 @@ impl Program {
         ensures { result.now ≡ self.now.blocks }
     {
         &self.blocks
+    }
+
+    /// Whether both are one program.
+    pub fn same(&self, other: &Program) -> bool
+        ensures { IsTrue result ↔ (self.now ≡ other.now) }
+    {
+        self.values == other.values
+            && self.period == other.period
+            && same_variables(&self.variables, &other.variables)
+            && same_names(&self.decides, &other.decides)
+            && same_blocks(&self.blocks, &other.blocks)
     }
 }

@@ -1,5 +1,6 @@
 //! Texts and what they parse to.
 
+mod equal;
 mod faults;
 mod limits;
 mod sources;
