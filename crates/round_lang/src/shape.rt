@@ -72,3 +72,14 @@ impl Shape {
         self.kinds() == kinds
     }
 }
+
+#[cfg(test)]
+impl Shape {
+    /// How many shapes share these kinds.
+    pub(crate) fn owners(&self) -> usize {
+        match &self.kinds {
+            Some(kinds) => Arc::strong_count(kinds),
+            None => 0,
+        }
+    }
+}

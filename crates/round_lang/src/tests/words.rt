@@ -30,12 +30,17 @@ fn shape(alloc: Global) -> Result<Shape, NoMemory> {
     Shape::new(alloc, &kinds)
 }
 
-fn vars(alloc: Global) -> Result<Vars, NoMemory> {
+/// Those values under a shape.
+fn vars_of(alloc: Global, shape: &Shape) -> Result<Vars, NoMemory> {
     let mut builder = VarsBuilder::new(alloc);
     for value in &values(alloc)? {
         builder.push(value)?;
     }
-    builder.finish(&shape(alloc)?)
+    builder.finish(shape)
+}
+
+fn vars(alloc: Global) -> Result<Vars, NoMemory> {
+    vars_of(alloc, &shape(alloc)?)
 }
 
 #[test]
@@ -117,5 +122,22 @@ fn equal_words_of_two_kinds_are_two_values(rt: HostRuntime) -> Result<(), Fail> 
     assert!(rt; !number.same(&alone(alloc, &Value::Num(2))?));
     assert!(rt; !number.same(&alone(alloc, &Value::Flag(true))?));
     assert!(rt; !number.same(&alone(alloc, &row(alloc, &[1])?)?));
+    Ok(())
+}
+
+#[test]
+fn lists_of_a_shape_share_it(rt: HostRuntime) -> Result<(), Fail> {
+    let alloc = rt.alloc();
+    let shape = shape(alloc)?;
+    let mut vars = vars_of(alloc, &shape)?;
+    assert_eq!(rt; shape.owners(), 2);
+    let copy = vars.copy(alloc)?;
+    assert_eq!(rt; shape.owners(), 3);
+    vars.put(1, &Value::Flag(false))?;
+    vars.put(2, &row(alloc, &[4, 5, 6])?)?;
+    assert_eq!(rt; shape.owners(), 3);
+    vars.put(1, &Value::Num(3))?;
+    assert_eq!(rt; shape.owners(), 2);
+    assert!(rt; copy.flag(1));
     Ok(())
 }
