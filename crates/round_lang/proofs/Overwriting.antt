@@ -1,14 +1,15 @@
 -- A value that is written over one of its kind.
-use Rattle.std.proofs.Common.{◌≡◌, ◌∙◌, ℕ, zero, suc, ◌+◌, ◌-◌, ◌<◌, ◌≤◌, List, [], ◌∷◌, ◌++◌, length, take, drop, refl, sym, ap, subst, arith, append_assoc, length-append}
+use Rattle.std.proofs.Common.{◌≡◌, ◌∙◌, ℕ, zero, suc, ◌+◌, ◌<◌, ◌≤◌, List, [], ◌∷◌, ◌++◌, length, take, drop, refl, sym, ap, subst, arith, append_assoc}
 use Rattle.std.specs.Prelude.{map, slice_set, slice_index_or}
 use Rattle.std.specs.List.{AllByRecursion, refill}
-use Rattle.std.proofs.lemmas.List.{take_at, drop_at, length-map, length-drop}
+use Rattle.std.proofs.lemmas.List.{take_at, drop_at, length-map}
 use Rattle.std.proofs.Math.Seq.{take-append-add, drop-append-add}
 use Rattle.round_lang.specs.declared.kind.Kind.{Kind}
 use Rattle.round_lang.specs.declared.value.Value.{Value}
 use Rattle.round_lang.specs.Values.{at}
-use Rattle.round_lang.specs.Words.{size, read, values_of, kind_of, words_of, all_words, words_before, written, IsSmall, IsSpelled}
+use Rattle.round_lang.specs.Words.{size, values_of, kind_of, words_of, all_words, words_before, written, IsSmall, IsSpelled, IsSpot}
 use Rattle.round_lang.proofs.Spelling.{size-kind_of, spelled_values}
+use Rattle.round_lang.proofs.Finding.{IsFound}
 
 -- what lies behind a front is written behind it
 written-append : (xs ys ws : List ℕ) (m : ℕ) → written (xs ++ ys) (length xs + m) ws ≡ xs ++ written ys m ws
@@ -30,16 +31,6 @@ written-all_words (u ∷ us) (suc i) v within same =
     ∙ written-append (words_of u) (all_words us) (words_of v) (words_before (map kind_of us) i)
     ∙ ap (λ ws. words_of u ++ ws) (written-all_words us i v (omega (arith, within)) same)
 
--- there is room for it
-pub room_for : (vs : List Value) (i : ℕ) (v : Value) → i < length vs → kind_of v ≡ kind_of (at vs i) → words_before (map kind_of vs) i + length (words_of v) ≤ length (all_words vs)
-room_for [] i v within same = absurd (omega (arith, within))
-room_for (u ∷ us) zero v within same =
-    let n : length (words_of v) ≡ length (words_of u) = sym (size-kind_of v) ∙ ap size same ∙ size-kind_of u in
-    omega (arith, n, length-append (words_of u) (all_words us))
-room_for (u ∷ us) (suc i) v within same =
-    let rest : words_before (map kind_of us) i + length (words_of v) ≤ length (all_words us) = room_for us i v (omega (arith, within)) same in
-    omega (arith, rest, size-kind_of u, length-append (words_of u) (all_words us))
-
 kinds-set : (vs : List Value) (i : ℕ) (v : Value) → kind_of v ≡ kind_of (at vs i) → i < length vs → map kind_of (slice_set vs i v) ≡ map kind_of vs
 kinds-set [] i v same within = refl
 kinds-set (u ∷ us) zero v same within = ap (λ k. k ∷ map kind_of us) same
@@ -55,20 +46,23 @@ pub record IsPut (kinds : List Kind) (words new_words : List ℕ) (place : ℕ) 
   pub values : values_of kinds new_words ≡ slice_set (values_of kinds words) place v
   pub spelled : IsSpelled kinds new_words
 
--- where a value of the kind of v is found, and the words from it on
-pub record IsAt (kinds : List Kind) (words rest : List ℕ) (place : ℕ) (v : Value) : Type 0 where
+-- where the words of a value of the kind of v begin
+pub record IsAt (kinds : List Kind) (place first : ℕ) (v : Value) : Type 0 where
   pub within : place < length kinds
   pub kind : slice_index_or kinds place (kind_of v) ≡ kind_of v
-  pub from_it : rest ≡ drop (words_before kinds place) words
+  pub begins : first ≡ words_before kinds place
 
-pub IsAt-found : (found kinds : List Kind) (read words rest : List ℕ) (place : ℕ) (k : Kind) (v : Value) → found ≡ kinds → read ≡ words → place < length found → k ≡ slice_index_or found place k → rest ≡ drop (words_before found place) read → k ≡ kind_of v → IsAt kinds words rest place v
-IsAt-found found kinds read words rest place k v same_kinds same_words within kind from_it is_kind =
-    let at_kind : k ≡ slice_index_or kinds place k = kind ∙ ap (λ ks. slice_index_or ks place k) same_kinds in
+pub IsAt-found : (kinds : List Kind) (words : List ℕ) (place first : ℕ) (k : Kind) (v : Value) → IsSpot kinds place k first → k ≡ kind_of v → IsFound kinds words place first k → IsAt kinds place first v
+IsAt-found kinds words place first k v spot is_kind found =
     record {
-      within = subst (λ ks. place < length ks) same_kinds within;
-      kind = sym (subst (λ k. k ≡ slice_index_or kinds place k) is_kind at_kind);
-      from_it = from_it ∙ ap (λ ks. drop (words_before ks place) read) same_kinds ∙ ap (λ ws. drop (words_before kinds place) ws) same_words;
+      within = spot.within;
+      kind = sym (subst (λ k. k ≡ slice_index_or kinds place k) is_kind spot.kind_is);
+      begins = found.begins;
     }
+
+-- there is room for it
+pub room : (kinds : List Kind) (words : List ℕ) (place first : ℕ) (k : Kind) (v : Value) → k ≡ kind_of v → IsFound kinds words place first k → first + length (words_of v) ≤ length words
+room kinds words place first k v is_kind found = omega (arith, found.whole, ap size is_kind, size-kind_of v)
 
 -- the kind at a place is that of the value there
 kind-at : (vs : List Value) (i : ℕ) (k : Kind) → i < length vs → slice_index_or (map kind_of vs) i k ≡ kind_of (at vs i)
@@ -83,8 +77,8 @@ record IsAtValue (kinds : List Kind) (words : List ℕ) (place : ℕ) (v : Value
   within : place < length vs
   kind : kind_of v ≡ kind_of (at vs place)
 
-IsAtValue-of : (kinds : List Kind) (words rest : List ℕ) (place : ℕ) (v : Value) → IsSpelled kinds words → IsAt kinds words rest place v → IsAtValue kinds words place v (values_of kinds words)
-IsAtValue-of kinds words rest place v s h =
+IsAtValue-of : (kinds : List Kind) (words : List ℕ) (place first : ℕ) (v : Value) → IsSpelled kinds words → IsAt kinds place first v → IsAtValue kinds words place v (values_of kinds words)
+IsAtValue-of kinds words place first v s h =
     let vs = values_of kinds words in
     let within : place < length vs = subst (λ n. place < n) (ap length s.kinds_are ∙ length-map vs kind_of) h.within in
     record {
@@ -94,31 +88,15 @@ IsAtValue-of kinds words rest place v s h =
       kind = sym h.kind ∙ ap (λ ks. slice_index_or ks place (kind_of v)) s.kinds_are ∙ kind-at vs place (kind_of v) within;
     }
 
-room-at : (vs : List Value) (kinds : List Kind) (words : List ℕ) (place : ℕ) (v : Value) → IsAtValue kinds words place v vs → words_before kinds place + length (words_of v) ≤ length words
-room-at vs kinds words place v h = rw (h.kinds_are, h.words_are) (room_for vs place v h.within h.kind)
-
--- the words before the rest are those before the place
-before-rest : (words rest : List ℕ) (n : ℕ) → rest ≡ drop n words → n ≤ length words → length words - length rest ≡ n
-before-rest words rest n e within =
-    let l : length rest ≡ length words - n = ap length e ∙ length-drop n words in
-    omega (arith, l, within)
-
-pub room : (kinds : List Kind) (words rest : List ℕ) (place : ℕ) (v : Value) → IsSpelled kinds words → IsAt kinds words rest place v → length words - length rest + length (words_of v) ≤ length words
-room kinds words rest place v s h =
-    let fits : words_before kinds place + length (words_of v) ≤ length words = room-at (values_of kinds words) kinds words place v (IsAtValue-of kinds words rest place v s h) in
-    omega (arith, fits, before-rest words rest (words_before kinds place) h.from_it (omega (arith, fits)))
-
 put-at : (vs : List Value) (kinds : List Kind) (words : List ℕ) (place : ℕ) (v : Value) → AllByRecursion IsSmall vs → IsSmall v → IsAtValue kinds words place v vs → (values_of kinds (written words (words_before kinds place) (words_of v)) ≡ slice_set vs place v) × IsSpelled kinds (written words (words_before kinds place) (words_of v))
 put-at vs kinds words place v all_small small h =
     rw (h.kinds_are, h.words_are) (spelled_values (slice_set vs place v) (small-set vs place v all_small small) (map kind_of vs) (written (all_words vs) (words_before (map kind_of vs) place) (words_of v))
     (sym (kinds-set vs place v h.kind h.within)) (written-all_words vs place v h.within h.kind))
 
-pub IsPut-of : (kinds : List Kind) (words rest lent new_words : List ℕ) (place count : ℕ) (v : Value) → IsSpelled kinds words → IsAt kinds words rest place v → IsSmall v → lent ≡ words → count ≡ length words → new_words ≡ written lent (count - length rest) (words_of v) → length new_words ≡ length lent → IsPut kinds words (refill (length words) words new_words) place v
-IsPut-of kinds words rest lent new_words place count v s h small lent_is count_is new_is same_length =
-    let fits : words_before kinds place + length (words_of v) ≤ length words = room-at (values_of kinds words) kinds words place v (IsAtValue-of kinds words rest place v s h) in
-    let first : length words - length rest ≡ words_before kinds place = before-rest words rest (words_before kinds place) h.from_it (omega (arith, fits)) in
+pub IsPut-of : (kinds : List Kind) (words lent new_words : List ℕ) (place first : ℕ) (v : Value) → IsSpelled kinds words → IsAt kinds place first v → IsSmall v → lent ≡ words → new_words ≡ written lent first (words_of v) → length new_words ≡ length lent → IsPut kinds words (refill (length words) words new_words) place v
+IsPut-of kinds words lent new_words place first v s h small lent_is new_is same_length =
     let is : refill (length words) words new_words ≡ written words (words_before kinds place) (words_of v) =
     take_at new_words (drop (length new_words) words) (length words) (same_length ∙ ap length lent_is)
-    ∙ new_is ∙ ap (λ ws. written ws (count - length rest) (words_of v)) lent_is ∙ ap (λ n. written words (n - length rest) (words_of v)) count_is ∙ ap (λ n. written words n (words_of v)) first in
-    let p = put-at (values_of kinds words) kinds words place v s.small small (IsAtValue-of kinds words rest place v s h) in
+    ∙ new_is ∙ ap (λ ws. written ws first (words_of v)) lent_is ∙ ap (λ n. written words n (words_of v)) h.begins in
+    let p = put-at (values_of kinds words) kinds words place v s.small small (IsAtValue-of kinds words place first v s h) in
     record { values = ap (values_of kinds) is ∙ p.0; spelled = subst (IsSpelled kinds) (sym is) p.1 }

@@ -204,3 +204,27 @@ inter-lt k a b h ha = subst (λ n. n < 2 ^ k) (is-inter a b (wide k a h ha)) (om
 pub minus-lt : (k a b : ℕ) → k ≤ 64 → a < 2 ^ k → b < 2 ^ k → minus a b < 2 ^ k
 minus-lt k a b h ha hb =
     subst (λ n. n < 2 ^ k) (is-minus a b (wide k a h ha) (wide k b h hb)) (omega (arith, and_le_l a (bit_not w64 b)))
+
+-- a bit that is 1 where a test passes
+bit_test : (b : Bool) → nat_eq (cond b 1 0) 1 ≡ b
+bit_test true = refl
+bit_test false = refl
+
+-- a set of the numbers below n has those that pass
+pub is_in-set_of : (n : ℕ) (p : ℕ → Bool) (i : ℕ) → is_in (set_of n p) i ≡ (nat_lt i n && p i)
+unfolding is_in
+is_in-set_of n p i = go (cases_lt i n)
+  where
+    go : (i < n) ⊎ (n ≤ i) → nat_eq (bit_at (set_of n p) i) 1 ≡ (nat_lt i n && p i)
+    go (inl h) =
+        let below : nat_lt i n ≡ true = grind (arith, nat_tests) in
+        ap (λ b. nat_eq b 1) (bit-set_of n p i h) ∙ bit_test (p i) ∙ ap (λ b. b && p i) (sym below)
+    go (inr h) =
+        let past : nat_lt i n ≡ false = grind (arith, nat_tests) in
+        ap (λ b. nat_eq b 1) (bit_at_above (set_of n p) n i (set_of-lt n p) h) ∙ ap (λ b. b && p i) (sym past)
+
+-- the same for all 64 places
+pub is_in-wide : (p : ℕ → Bool) (i : ℕ) → i < 64 → is_in (set_of 64 p) i ≡ p i
+is_in-wide p i h =
+    let below : nat_lt i 64 ≡ true = grind (arith, nat_tests) in
+    is_in-set_of 64 p i ∙ ap (λ b. b && p i) below

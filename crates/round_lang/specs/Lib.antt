@@ -16,3 +16,4 @@ pub mod Parts
 pub mod Outcome
 pub mod Words
 pub mod Shapes
+pub mod Equality

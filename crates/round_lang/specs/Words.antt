@@ -1,5 +1,5 @@
 -- How values are spelled as words of 64 bits, and read from them.
-use Rattle.std.specs.Prelude.{◌≡◌, ℕ, zero, suc, ◌+◌, Option, Some, None, ◌<◌, ◌^◌, Bool, true, false, List, [], ◌∷◌, ◌++◌, map, take, drop, length, nat_eq, All}
+use Rattle.std.specs.Prelude.{◌≡◌, ℕ, zero, suc, ◌+◌, ◌-◌, min, slice_index, slice_index_or, Option, Some, None, ◌<◌, ◌^◌, Bool, true, false, List, [], ◌∷◌, ◌++◌, map, take, drop, length, nat_eq, All}
 use Rattle.std.specs.Borrow.{Bor}
 use Rattle.std.specs.List.{AllByRecursion, flat_map}
 use Rattle.round_lang.specs.declared.expr.Ty.{Ty}
@@ -22,15 +22,11 @@ abbrev pub size : Kind → ℕ
 size (RowKind n) = n
 size kind = 1
 
-abbrev pub first_word : List ℕ → ℕ
-first_word [] = 0
-first_word (word ∷ words) = word
-
 -- the value of a kind that words begin with
 abbrev pub read : Kind → List ℕ → Value
-read NumKind words = Num (first_word words)
-read FlagKind words = Flag (nat_eq (first_word words) 1)
-read SetKind words = of_set (first_word words)
+read NumKind words = Num (slice_index words 0)
+read FlagKind words = Flag (nat_eq (slice_index words 0) 1)
+read SetKind words = of_set (slice_index words 0)
 read (RowKind n) words = Row (take n words)
 
 -- the values of these kinds, one after the other
@@ -48,6 +44,21 @@ abbrev pub words_before : List Kind → ℕ → ℕ
 words_before [] place = 0
 words_before (kind ∷ kinds) zero = 0
 words_before (kind ∷ kinds) (suc place) = size kind + words_before kinds place
+
+-- where the words of the value at a place begin, or the greatest number of 64 bits where that's further
+abbrev pub start_of : List Kind → ℕ → ℕ
+start_of kinds place = min (words_before kinds place) (2 ^ 64 - 1)
+
+-- these are the starts of all places
+pub record IsLaidOut (kinds : List Kind) (starts : List ℕ) : Type 0 where
+  pub one_each : length starts ≡ length kinds
+  pub begins : (place : ℕ) → place < length kinds → slice_index starts place ≡ start_of kinds place
+
+-- the kind at a place, and where its value's words begin
+pub record IsSpot (kinds : List Kind) (place : ℕ) (kind : Kind) (start : ℕ) : Type 0 where
+  pub within : place < length kinds
+  pub kind_is : kind ≡ slice_index_or kinds place kind
+  pub begins : start ≡ start_of kinds place
 
 abbrev pub kind_of : Value → Kind
 kind_of (Num n) = NumKind

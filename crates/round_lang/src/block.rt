@@ -9,14 +9,14 @@ use crate::identifier::Identifier;
 use std::marker::Model;
 
 /// A field of a message.
-#[derive(Drop, Debug)]
+#[derive(PartialEq, Eq, Drop, Debug)]
 pub struct Field {
     pub name: Identifier,
     pub ty: Ty,
 }
 
 /// `target := formula;`
-#[derive(Drop, Debug)]
+#[derive(PartialEq, Eq, Drop, Debug)]
 pub struct Assignment {
     pub target: Identifier,
     pub formula: Formula,
@@ -142,4 +142,25 @@ impl Block {
             && same_assignments(&self.on_message, &other.on_message)
             && same_assignments(&self.end, &other.end)
     }
+}
+
+/// Equal where both are one block, wherever they lie.
+impl PartialEq for Block {
+    ghost use Rattle.round_lang.specs.Equality.{is_same, is_same_per};
+    ghost use Rattle.round_lang.specs.contracts.block.Block as block;
+
+    ghost eq = { is_same block.the_row.coded };
+
+    ghost laws = { is_same_per block.the_row.coded };
+
+    fn eq(&self, other: &Block) -> bool {
+        self.same(other)
+    }
+}
+
+impl Eq for Block {
+    ghost use Rattle.round_lang.specs.Equality.{is_same_equiv};
+    ghost use Rattle.round_lang.specs.contracts.block.Block as block;
+
+    ghost laws = { is_same_equiv block.the_row.coded };
 }

@@ -97,3 +97,24 @@ fn nests_within(expr: &Expr, depth: usize) -> bool
         Expr::RowOf(_, body) => nests_within(body, inner),
     }
 }
+
+/// Equal where both are one tree, wherever they lie.
+impl PartialEq for Formula {
+    ghost use Rattle.round_lang.specs.Equality.{is_same, is_same_per};
+    ghost use Rattle.round_lang.specs.contracts.formula.Formula as formula;
+
+    ghost eq = { is_same formula.the_row.coded };
+
+    ghost laws = { is_same_per formula.the_row.coded };
+
+    fn eq(&self, other: &Formula) -> bool {
+        self.same(other)
+    }
+}
+
+impl Eq for Formula {
+    ghost use Rattle.round_lang.specs.Equality.{is_same_equiv};
+    ghost use Rattle.round_lang.specs.contracts.formula.Formula as formula;
+
+    ghost laws = { is_same_equiv formula.the_row.coded };
+}

@@ -74,3 +74,24 @@ impl Identifier {
         })
     }
 }
+
+/// Equal where both are one name, wherever they lie.
+impl PartialEq for Identifier {
+    ghost use Rattle.round_lang.specs.Equality.{is_same, is_same_per};
+    ghost use Rattle.round_lang.specs.contracts.identifier.Identifier as identifier;
+
+    ghost eq = { is_same identifier.the_row.coded };
+
+    ghost laws = { is_same_per identifier.the_row.coded };
+
+    fn eq(&self, other: &Identifier) -> bool {
+        self.same(other)
+    }
+}
+
+impl Eq for Identifier {
+    ghost use Rattle.round_lang.specs.Equality.{is_same_equiv};
+    ghost use Rattle.round_lang.specs.contracts.identifier.Identifier as identifier;
+
+    ghost laws = { is_same_equiv identifier.the_row.coded };
+}

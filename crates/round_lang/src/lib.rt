@@ -12,6 +12,7 @@ mod identifier;
 mod keywords;
 mod kind;
 mod laws;
+mod layout;
 mod lexing;
 mod limits;
 mod memory;

@@ -10,14 +10,14 @@ use crate::identifier::Identifier;
 use std::marker::Model;
 
 /// How a state variable begins: as the node's input, or with the value of a formula.
-#[derive(Drop, Debug)]
+#[derive(PartialEq, Eq, Drop, Debug)]
 pub enum VariableKind {
     Input,
     State { ty: Ty, start: Formula },
 }
 
 /// A state variable.
-#[derive(Drop, Debug)]
+#[derive(PartialEq, Eq, Drop, Debug)]
 pub struct Variable {
     pub name: Identifier,
     pub kind: VariableKind,
@@ -133,4 +133,25 @@ impl Program {
             && same_names(&self.decides, &other.decides)
             && same_blocks(&self.blocks, &other.blocks)
     }
+}
+
+/// Equal where both are one program, wherever they lie.
+impl PartialEq for Program {
+    ghost use Rattle.round_lang.specs.Equality.{is_same, is_same_per};
+    ghost use Rattle.round_lang.specs.contracts.program.Program as program;
+
+    ghost eq = { is_same program.the_row.coded };
+
+    ghost laws = { is_same_per program.the_row.coded };
+
+    fn eq(&self, other: &Program) -> bool {
+        self.same(other)
+    }
+}
+
+impl Eq for Program {
+    ghost use Rattle.round_lang.specs.Equality.{is_same_equiv};
+    ghost use Rattle.round_lang.specs.contracts.program.Program as program;
+
+    ghost laws = { is_same_equiv program.the_row.coded };
 }

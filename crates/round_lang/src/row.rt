@@ -56,3 +56,24 @@ impl Row {
         })
     }
 }
+
+/// Equal where both have the same entries, wherever they lie.
+impl PartialEq for Row {
+    ghost use Rattle.round_lang.specs.Equality.{is_same, is_same_per};
+    ghost use Rattle.round_lang.specs.contracts.row.Row as row;
+
+    ghost eq = { is_same row.the_row.coded };
+
+    ghost laws = { is_same_per row.the_row.coded };
+
+    fn eq(&self, other: &Row) -> bool {
+        self.as_slice() == other.as_slice()
+    }
+}
+
+impl Eq for Row {
+    ghost use Rattle.round_lang.specs.Equality.{is_same_equiv};
+    ghost use Rattle.round_lang.specs.contracts.row.Row as row;
+
+    ghost laws = { is_same_equiv row.the_row.coded };
+}

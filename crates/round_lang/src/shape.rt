@@ -1,7 +1,9 @@
 //! The kinds of a list of values, seen by contracts as a list.
-ghost use Rattle.std.specs.Prelude.{◌≡◌, ◌↔◌, [], IfOk, IsTrue};
+ghost use Rattle.std.specs.Prelude.{◌≡◌, ◌≤◌, ◌↔◌, [], IfOk, IfSome, IsNone, IsTrue, length};
+ghost use Rattle.round_lang.specs.Words.{IsSpot};
 
 use crate::kind::Kind;
+use crate::layout::Layout;
 use crate::memory::NoMemory;
 use std::alloc::Global;
 use std::marker::Model;
@@ -10,7 +12,7 @@ use std::sync::Arc;
 /// The kinds of values, in order. Copies share them, and the empty shape takes no memory.
 #[derive(Drop, Debug)]
 pub struct Shape {
-    kinds: Option<Arc<Vec<Kind>>>,
+    layout: Option<Arc<Layout>>,
 }
 
 impl Model for Shape {
@@ -20,7 +22,7 @@ impl Model for Shape {
 
     ghost Value = { List OneKind };
 
-    ghost view = { λ s. kinds_in s.kinds };
+    ghost view = { λ s. kinds_in s.layout };
 }
 
 impl Shape {
@@ -28,7 +30,7 @@ impl Shape {
     pub fn empty() -> Shape
         ensures { result ≡ [] }
     {
-        Shape { kinds: None }
+        Shape { layout: None }
     }
 
     pub fn new(alloc: Global, kinds: &[Kind]) -> Result<Shape, NoMemory>
@@ -37,9 +39,9 @@ impl Shape {
         if kinds.is_empty() {
             return Ok(Shape::empty());
         }
-        let kinds = Vec::from_slice(alloc, kinds)?;
+        let layout = Layout::new(alloc, kinds)?;
         Ok(Shape {
-            kinds: Some(Arc::new(alloc, kinds)?),
+            layout: Some(Arc::new(alloc, layout)?),
         })
     }
 
@@ -47,9 +49,20 @@ impl Shape {
     pub fn kinds(&self) -> &[Kind]
         ensures { result.now ≡ self.now }
     {
-        match &self.kinds {
-            Some(kinds) => kinds,
+        match &self.layout {
+            Some(layout) => layout.kinds(),
             None => &[],
+        }
+    }
+
+    /// The kind of the value at a place, and where its words begin.
+    pub(crate) fn spot(&self, place: usize) -> Option<(Kind, usize)>
+        ensures some { IfSome result (λ s. IsSpot self.now place s.0 s.1) }
+        ensures none { IsNone result → length self.now ≤ place }
+    {
+        match &self.layout {
+            Some(layout) => layout.spot(place),
+            None => None,
         }
     }
 
@@ -57,9 +70,9 @@ impl Shape {
     pub fn copy(&self) -> Result<Shape, NoMemory>
         ensures { IfOk result (λ s. s ≡ self.now) }
     {
-        match &self.kinds {
-            Some(kinds) => Ok(Shape {
-                kinds: Some(Arc::try_clone(kinds)?),
+        match &self.layout {
+            Some(layout) => Ok(Shape {
+                layout: Some(Arc::try_clone(layout)?),
             }),
             None => Ok(Shape::empty()),
         }
@@ -77,8 +90,8 @@ impl Shape {
 impl Shape {
     /// How many shapes share these kinds.
     pub(crate) fn owners(&self) -> usize {
-        match &self.kinds {
-            Some(kinds) => Arc::strong_count(kinds),
+        match &self.layout {
+            Some(layout) => Arc::strong_count(layout),
             None => 0,
         }
     }

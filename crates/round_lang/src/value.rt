@@ -10,7 +10,7 @@ use crate::row::Row;
 use crate::sets::ValueSet;
 
 /// A value.
-#[derive(Drop, Debug)]
+#[derive(PartialEq, Eq, Drop, Debug)]
 pub enum Value {
     Num(u32),
     Flag(bool),

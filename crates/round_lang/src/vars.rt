@@ -1,7 +1,7 @@
 //! A node's state and messages, seen by contracts as lists of values.
-ghost use Rattle.std.specs.Prelude.{◌≡◌, ◌<◌, ◌↔◌, [], IfOk, IfSome, IsTrue, OnErr, OnOk, length, slice_index, slice_set};
+ghost use Rattle.std.specs.Prelude.{◌≡◌, ◌<◌, ◌≤◌, ◌↔◌, [], IfOk, IfSome, IsTrue, OnErr, OnOk, length, slice_index, slice_set};
 ghost use Rattle.round_lang.specs.Values.{at, num, flag, set, row};
-ghost use Rattle.round_lang.specs.Words.{read, read_spot, values_of, IsSmall, IsSpelled};
+ghost use Rattle.round_lang.specs.Words.{read, read_spot, size, values_of, IsSmall, IsSpelled};
 
 use crate::builder::VarsBuilder;
 use crate::kind::Kind;
@@ -9,7 +9,7 @@ use crate::memory::NoMemory;
 use crate::sets::ValueSet;
 use crate::shape::Shape;
 use crate::value::Value;
-use crate::words::{first_word, front, row_of, spot, write};
+use crate::words::{row_of, write};
 use smallvec::SmallVec;
 use std::alloc::Global;
 use std::marker::Model;
@@ -77,11 +77,10 @@ impl Vars {
         ensures ok { OnOk result (self.new ≡ slice_set self.old place value.now) }
         ensures err { OnErr result (self.new ≡ self.old) }
     {
-        let Some((kind, rest)) = spot(self.shape.kinds(), self.words.as_slice(), place) else {
+        let Some((kind, first)) = self.shape.spot(place) else {
             return Ok(());
         };
         if kind == value.kind() {
-            let first = self.words.len() - rest.len();
             write(self.words.as_mut_slice(), first, value);
         } else {
             *self = self.with(place, value)?;
@@ -117,8 +116,10 @@ impl Vars {
     fn spot(&self, place: usize) -> Option<(Kind, &[u64])>
         ensures value { read_spot result ≡ at self.now place }
         ensures small { IfSome result (λ s. IsSmall (read s.0 s.1.now)) }
+        ensures whole { IfSome result (λ s. size s.0 ≤ length s.1.now) }
     {
-        spot(self.shape.kinds(), self.words.as_slice(), place)
+        let (kind, first) = self.shape.spot(place)?;
+        Some((kind, &self.words.as_slice()[first..]))
     }
 
     /// A copy of the value at a place, the number 0 where there is none.
@@ -129,12 +130,10 @@ impl Vars {
             return Ok(Value::Num(0));
         };
         Ok(match kind {
-            Kind::Num => Value::Num(first_word(words) as u32),
-            Kind::Flag => Value::Flag(first_word(words) == 1),
-            Kind::Set => Value::Set(ValueSet {
-                bits: first_word(words),
-            }),
-            Kind::Row(size) => { Value::Row(row_of(*self.words.allocator(), front(words, size))?) }
+            Kind::Num => Value::Num(words[0] as u32),
+            Kind::Flag => Value::Flag(words[0] == 1),
+            Kind::Set => Value::Set(ValueSet { bits: words[0] }),
+            Kind::Row(size) => Value::Row(row_of(*self.words.allocator(), &words[..size])?),
         })
     }
 
@@ -143,7 +142,7 @@ impl Vars {
         ensures { result ≡ num (at self.now place) }
     {
         match self.spot(place) {
-            Some((Kind::Num, words)) => first_word(words) as u32,
+            Some((Kind::Num, words)) => words[0] as u32,
             _ => 0,
         }
     }
@@ -153,7 +152,7 @@ impl Vars {
         ensures { result ≡ flag (at self.now place) }
     {
         match self.spot(place) {
-            Some((Kind::Flag, words)) => first_word(words) == 1,
+            Some((Kind::Flag, words)) => words[0] == 1,
             _ => false,
         }
     }
@@ -163,9 +162,7 @@ impl Vars {
         ensures { result.bits ≡ set (at self.now place) }
     {
         match self.spot(place) {
-            Some((Kind::Set, words)) => ValueSet {
-                bits: first_word(words),
-            },
+            Some((Kind::Set, words)) => ValueSet { bits: words[0] },
             _ => ValueSet::empty(),
         }
     }
@@ -175,7 +172,7 @@ impl Vars {
         ensures { result ≡ slice_index (row (at self.now place)) entry }
     {
         match self.spot(place) {
-            Some((Kind::Row(size), words)) => match front(words, size).get(entry as usize) {
+            Some((Kind::Row(size), words)) => match words[..size].get(entry as usize) {
                 Some(word) => *word as u32,
                 None => 0,
             },
@@ -198,4 +195,25 @@ impl Vars {
     {
         self.words.as_slice() == other.words.as_slice() && self.shape.is(other.shape.kinds())
     }
+}
+
+/// Equal where both hold the same values, wherever they lie.
+impl PartialEq for Vars {
+    ghost use Rattle.round_lang.specs.Equality.{is_same, is_same_per};
+    ghost use Rattle.round_lang.specs.contracts.vars.Vars as vars;
+
+    ghost eq = { is_same vars.the_row.coded };
+
+    ghost laws = { is_same_per vars.the_row.coded };
+
+    fn eq(&self, other: &Vars) -> bool {
+        self.same(other)
+    }
+}
+
+impl Eq for Vars {
+    ghost use Rattle.round_lang.specs.Equality.{is_same_equiv};
+    ghost use Rattle.round_lang.specs.contracts.vars.Vars as vars;
+
+    ghost laws = { is_same_equiv vars.the_row.coded };
 }
