@@ -124,3 +124,24 @@ impl Checked {
         }
     }
 }
+
+/// Equal where both are one program, wherever they lie.
+impl PartialEq for Checked {
+    ghost use Rattle.round_lang.specs.Equality.{is_same, is_same_per};
+    ghost use Rattle.round_check.specs.contracts.checked.Checked as checked;
+
+    ghost eq = { is_same checked.the_row.coded };
+
+    ghost laws = { is_same_per checked.the_row.coded };
+
+    fn eq(&self, other: &Checked) -> bool {
+        self.same(other)
+    }
+}
+
+impl Eq for Checked {
+    ghost use Rattle.round_lang.specs.Equality.{is_same_equiv};
+    ghost use Rattle.round_check.specs.contracts.checked.Checked as checked;
+
+    ghost laws = { is_same_equiv checked.the_row.coded };
+}

@@ -1,4 +1,5 @@
 //! Which programs are refused, and as what.
+mod equal;
 mod sketch;
 
 use crate::check;

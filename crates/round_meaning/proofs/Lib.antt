@@ -3,8 +3,9 @@ pub mod LookUps
 pub mod Decisions
 pub mod RoundLaws
 pub mod OmissionLaws
-mod Rows
+pub mod Rows
 pub mod Sound
 pub mod TypedTurns
 pub mod TypedStarts
 mod Broadcasts
+pub mod EqualityLaws

@@ -16,7 +16,8 @@ use Rattle.round_meaning.specs.declared.omissions.Omission.{Omission}
 use Rattle.round_meaning.specs.Omissions.{is_omitted}
 use Rattle.round_meaning.specs.Rounds.{algorithm, inbox, rounds}
 
-abbrev gather : ProgramTree
+-- each node tells all that it has seen
+abbrev pub gather : ProgramTree
 gather = record {
   values = 2;
   period = 1;

@@ -3,6 +3,11 @@ use Rattle.std.specs.Prelude.{ℕ, List, [], ◌∷◌}
 use Rattle.round_meaning.specs.declared.env.Env.{Env as CodeEnv}
 use Rattle.round_meaning.specs.declared.env.Scope.{Scope}
 use Rattle.round_meaning.specs.declared.env.Scope.TheVariants.{Outermost, Inner'}
+use Rattle.round_meaning.specs.declared.env.Place.{Place}
+use Rattle.round_meaning.specs.declared.env.Place.TheVariants.{Number, At}
+use Rattle.round_lang.specs.declared.value.Value.{Value}
+use Rattle.round_lang.specs.declared.value.Value.TheVariants.{Num}
+use Rattle.round_lang.specs.Values.{at}
 use Rattle.round_meaning.specs.Meaning.{Env}
 
 abbrev pub scope_of : Scope → List (List ℕ × ℕ)
@@ -25,3 +30,8 @@ env_of env = record {
   message = env.message.now;
   bound = scope_of env.bound.now;
 }
+
+-- the value that stands at a place
+abbrev pub found : Place → Value
+found (Number n) = Num n
+found (At values i) = at values.now i

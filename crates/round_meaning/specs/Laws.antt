@@ -1,15 +1,12 @@
 -- Laws of values and of runs.
 use Rattle.std.specs.Prelude.{◌≡◌, ℕ, suc, ◌+◌, ◌<◌, ◌≤◌, Bool, List, IsSome}
+use Rattle.round_lang.specs.Limits.{max_number}
 use Rattle.round_lang.specs.declared.expr.BinaryOperator.TheVariants.{Add, Sub}
 use Rattle.round_lang.specs.declared.value.Value.{Value}
 use Rattle.round_lang.specs.declared.value.Value.TheVariants.{Num}
 use Rattle.round_lang.specs.Tree.{TBinary, TNumber}
 use Rattle.round_meaning.specs.Meaning.{Env, value}
 use Rattle.round_meaning.specs.Rounds.{Algorithm, inbox, rounds}
-
--- the greatest number
-abbrev pub max_number : ℕ
-max_number = 4294967295
 
 -- a sum is the numbers' sum, where that isn't past the greatest number
 abbrev pub SumsAreExact : Type 0

@@ -1,14 +1,16 @@
 //! The plain evaluator.
-ghost use Rattle.std.specs.Prelude.{◌≡◌, ◌≤◌, IfOk, map};
+ghost use Rattle.std.specs.Prelude.{◌≡◌, ◌≤◌, IfOk, map, slice_index};
 ghost use Rattle.std.specs.List.{range_with_len};
 ghost use Rattle.round_lang.specs.Sets.{set_of};
 ghost use Rattle.round_lang.specs.Tree.{tree_of};
-ghost use Rattle.round_lang.specs.Values.{num, flag, of_set};
+ghost use Rattle.round_lang.specs.Values.{num, flag, of_set, row as row_in, set};
 ghost use Rattle.round_meaning.specs.Envs.{env_of};
 ghost use Rattle.round_meaning.specs.Meaning.{value, constant, bind};
 
 use crate::env::{Env, Scope};
-use round_lang::{Constant, Expr, Identifier, NoMemory, Row, Value, ValueSet, binary, unary};
+use round_lang::{
+    BinaryOperator, Constant, Expr, Identifier, NoMemory, Row, Value, ValueSet, binary, unary,
+};
 use std::alloc::Global;
 
 fn fixed(alloc: Global, word: Constant, env: &Env<'_>) -> Result<Value, NoMemory>
@@ -31,7 +33,8 @@ fn fixed(alloc: Global, word: Constant, env: &Env<'_>) -> Result<Value, NoMemory
     }
 }
 
-/// The value of an expression; K is at most 64.
+/// The value of an expression; K is at most 64. Sets that are joined, and rows that are asked for an entry, are
+/// read where they lie.
 #[cycle(eval)]
 pub fn eval(alloc: Global, expr: &Expr, env: &Env<'_>) -> Result<Value, NoMemory>
     requires { env.now.values ≤ 64 }
@@ -44,6 +47,22 @@ pub fn eval(alloc: Global, expr: &Expr, env: &Env<'_>) -> Result<Value, NoMemory
         Expr::Unary(operator, a) => {
             let a = eval(alloc, a, env)?;
             Ok(unary(env.values, *operator, &a))
+        }
+        Expr::Binary(BinaryOperator::Entry, row, place) => {
+            let place = eval(alloc, place, env)?.num();
+            Ok(Value::Num(eval_entry(alloc, row, place, env)?))
+        }
+        Expr::Binary(BinaryOperator::Union, a, b) => {
+            let a = eval_members(alloc, a, env)?;
+            Ok(Value::Set(a.union(eval_members(alloc, b, env)?)))
+        }
+        Expr::Binary(BinaryOperator::Inter, a, b) => {
+            let a = eval_members(alloc, a, env)?;
+            Ok(Value::Set(a.inter(eval_members(alloc, b, env)?)))
+        }
+        Expr::Binary(BinaryOperator::Minus, a, b) => {
+            let a = eval_members(alloc, a, env)?;
+            Ok(Value::Set(a.minus(eval_members(alloc, b, env)?)))
         }
         Expr::Binary(operator, a, b) => {
             let a = eval(alloc, a, env)?;
@@ -59,6 +78,30 @@ pub fn eval(alloc: Global, expr: &Expr, env: &Env<'_>) -> Result<Value, NoMemory
         }
         Expr::SetOf(name, body) => eval_set(alloc, name, body, env),
         Expr::RowOf(name, body) => eval_row(alloc, name, body, env),
+    }
+}
+
+/// The set that an expression is, empty where it's none; that of a name is read where it lies.
+#[cycle(eval)]
+fn eval_members(alloc: Global, expr: &Expr, env: &Env<'_>) -> Result<ValueSet, NoMemory>
+    requires { env.now.values ≤ 64 }
+    ensures { IfOk result (λ s. s.bits ≡ set (value (tree_of expr.now) (env_of env.now))) }
+{
+    match expr {
+        Expr::Named(name) => Ok(env.members(name)),
+        _ => Ok(eval(alloc, expr, env)?.set()),
+    }
+}
+
+/// An entry of a row; that of a name isn't copied for it.
+#[cycle(eval)]
+fn eval_entry(alloc: Global, row: &Expr, place: u32, env: &Env<'_>) -> Result<u32, NoMemory>
+    requires { env.now.values ≤ 64 }
+    ensures { IfOk result (λ n. n ≡ slice_index (row_in (value (tree_of row.now) (env_of env.now))) place) }
+{
+    match row {
+        Expr::Named(name) => Ok(env.entry(name, place)),
+        _ => Ok(eval(alloc, row, env)?.entry(place)),
     }
 }
 

@@ -24,7 +24,7 @@ pub use laws::{
 };
 pub use nodes::NodeSet;
 pub use omissions::{Omission, OmissionTable};
-pub use received::Received;
+pub use received::{Heard, Received};
 pub use rounds::run_rounds;
 pub use setup::{Inputs, MAX_FAULTS, MAX_NODES, MAX_ROUNDS, Setup};
 pub use states::StateTable;

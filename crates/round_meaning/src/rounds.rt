@@ -5,7 +5,7 @@ ghost use Rattle.round_meaning.specs.Rounds.{algorithm_of, heard, inbox};
 ghost use Rattle.round_meaning.specs.States.{HasRun, initial_states, next_state, state_in, states_after};
 
 use crate::omissions::OmissionTable;
-use crate::received::Received;
+use crate::received::{Heard, Received};
 use crate::setup::Setup;
 use crate::states::{Snapshot, StateTable};
 use crate::turn::{end_of, initial_of, send_of};
@@ -92,8 +92,20 @@ fn next_state(
         ≡ next_state (algorithm_of program.now setup.now) (is_omitted omissions.now) round
         (state_in before.now) me) }
 {
-    let inbox = inbox_of(alloc, program, setup, omissions, round, before, me)?;
+    let received = inbox_of(alloc, program, setup, omissions, round, before, me)?;
+    let inbox = lent(alloc, &received)?;
     end_of(alloc, program, setup, round, me, &inbox, before.state(me))
+}
+
+/// The same inbox, lent.
+fn lent<'a>(alloc: Global, inbox: &'a [Received]) -> Result<Vec<Heard<'a>>, NoMemory>
+    ensures { IfOk result (λ heard. heard.items ≡ inbox.now) }
+{
+    let mut heard = Vec::with_capacity(alloc, inbox.len())?;
+    for received in inbox {
+        heard.push(Heard::new(received.from, &received.message))?;
+    }
+    Ok(heard)
 }
 
 /// What a node gets in a round, in rising order of sender.

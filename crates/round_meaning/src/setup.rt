@@ -75,9 +75,30 @@ impl Inputs {
     }
 }
 
+/// Equal where both give each node the same input, wherever they lie.
+impl PartialEq for Inputs {
+    ghost use Rattle.round_lang.specs.Equality.{is_same, is_same_per};
+    ghost use Rattle.round_meaning.specs.contracts.setup.Inputs as inputs;
+
+    ghost eq = { is_same inputs.the_row.coded };
+
+    ghost laws = { is_same_per inputs.the_row.coded };
+
+    fn eq(&self, other: &Inputs) -> bool {
+        self.same(other)
+    }
+}
+
+impl Eq for Inputs {
+    ghost use Rattle.round_lang.specs.Equality.{is_same_equiv};
+    ghost use Rattle.round_meaning.specs.contracts.setup.Inputs as inputs;
+
+    ghost laws = { is_same_equiv inputs.the_row.coded };
+}
+
 /// N nodes of which up to t may fail, each node's input, and how many rounds are to be run. A lawful
 /// one has 1 to 16 nodes, 0 to 15 faults, 1 to 4,096 rounds and an input below K for each node.
-#[derive(Drop, Debug)]
+#[derive(PartialEq, Eq, Drop, Debug)]
 pub struct Setup {
     pub nodes: u32,
     pub faults: u32,

@@ -1,15 +1,17 @@
 //! Small programs, node by node and in rounds.
 
+mod dls1;
+mod equal;
 mod operators;
 mod programs;
 
 use crate::{
-    Inputs, NodeSet, OmissionTable, Received, Setup, decision_of, end_of, initial_of, is_broadcast,
+    Heard, Inputs, NodeSet, OmissionTable, Setup, decision_of, end_of, initial_of, is_broadcast,
     run_rounds, send_of,
 };
 use programs::{Maker, count_votes, gather, numbers};
 use round_check::Checked;
-use round_lang::{Constant, NoMemory, Shape, Value, ValueSet, Vars, VarsBuilder};
+use round_lang::{Constant, Message, NoMemory, Shape, Value, ValueSet, Vars, VarsBuilder};
 use std::alloc::Global;
 use std::test::Fail;
 
@@ -32,11 +34,10 @@ fn gathered(alloc: Global, input: u32, seen: u64) -> Result<Vars, NoMemory> {
 }
 
 /// A message of `gather`.
-fn told(alloc: Global, from: u32, seen: u64) -> Result<Received, NoMemory> {
+fn told(alloc: Global, seen: u64) -> Result<Message, NoMemory> {
     let mut values = VarsBuilder::new(alloc);
     values.push(&Value::Set(ValueSet { bits: seen }))?;
-    let message = values.finish(&Shape::empty())?;
-    Ok(Received { from, message })
+    values.finish(&Shape::empty())
 }
 
 #[test]
@@ -59,9 +60,11 @@ fn an_end_of_gather(rt: HostRuntime) -> Result<(), Fail> {
     let program = gather(Maker { alloc }, 3)?;
     let setup = setup_of(alloc, &[2, 1])?;
     let start = gathered(alloc, 2, 4)?;
+    let first = told(alloc, 4)?;
+    let second = told(alloc, 2)?;
     let mut inbox = Vec::new(alloc);
-    inbox.push(told(alloc, 0, 4)?)?;
-    inbox.push(told(alloc, 1, 2)?)?;
+    inbox.push(Heard::new(0, &first))?;
+    inbox.push(Heard::new(1, &second))?;
     let end = end_of(alloc, &program, &setup, 1, 0, &inbox, &start)?;
     assert!(rt; end.same(&gathered(alloc, 2, 6)?));
     assert_eq!(rt; decision_of(&program, &end), Some(1));

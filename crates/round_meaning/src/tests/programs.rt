@@ -8,7 +8,7 @@ use round_lang::{
 use std::alloc::Global;
 
 /// An expression of a program, none of which here nests too deep.
-fn nested(expr: Expr) -> Result<Formula, NoMemory> {
+pub fn nested(expr: Expr) -> Result<Formula, NoMemory> {
     Formula::new(expr).ok_or(NoMemory)
 }
 
@@ -57,21 +57,21 @@ impl Maker {
         self.binary(BinaryOperator::Entry, row, place)
     }
 
-    fn assignment(self, target: &str, formula: Expr) -> Result<Assignment, NoMemory> {
+    pub fn assignment(self, target: &str, formula: Expr) -> Result<Assignment, NoMemory> {
         Ok(Assignment {
             target: self.name(target)?,
             formula: nested(formula)?,
         })
     }
 
-    fn input(self, name: &str) -> Result<Variable, NoMemory> {
+    pub fn input(self, name: &str) -> Result<Variable, NoMemory> {
         Ok(Variable {
             name: self.name(name)?,
             kind: VariableKind::Input,
         })
     }
 
-    fn state(self, name: &str, ty: Ty, start: Expr) -> Result<Variable, NoMemory> {
+    pub fn state(self, name: &str, ty: Ty, start: Expr) -> Result<Variable, NoMemory> {
         Ok(Variable {
             name: self.name(name)?,
             kind: VariableKind::State {
@@ -81,7 +81,7 @@ impl Maker {
         })
     }
 
-    fn field(self, name: &str, ty: Ty) -> Result<Field, NoMemory> {
+    pub fn field(self, name: &str, ty: Ty) -> Result<Field, NoMemory> {
         Ok(Field {
             name: self.name(name)?,
             ty,
@@ -98,7 +98,8 @@ fn gather_variables(maker: Maker) -> Result<Vec<Variable>, NoMemory> {
     Ok(variables)
 }
 
-fn checked(
+/// The program of these parts, decided by one variable.
+pub fn checked(
     maker: Maker,
     values: u32,
     variables: Vec<Variable>,

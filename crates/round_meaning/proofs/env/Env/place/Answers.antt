@@ -1,16 +1,16 @@
 use Rattle.std.proofs.Common.{◌≡◌, None, sym, ◌∙◌, arith}
 use Rattle.round_meaning.specs.Envs.{env_of}
 use Rattle.round_meaning.specs.Meaning.{find_field}
-use Rattle.round_meaning.proofs.LookUps.{IfOk-same, find_field-absent, find_field-beyond, look_up-field, look_up-nothing, look_up-variable}
-use Rattle.round_meaning.proofs.env.Env.look_up.Goals as goal
-use Rattle.round_meaning.proofs.env.Env.look_up.Goals.{in-Some-place_of_field+else-place-len, in_default-place_of_field}
+use Rattle.round_meaning.proofs.LookUps.{find_field-absent, find_field-beyond, look_up-field, look_up-nothing, look_up-variable}
+use Rattle.round_meaning.proofs.env.Env.place.Goals as goal
+use Rattle.round_meaning.proofs.env.Env.place.Goals.{in-Some-place_of_field+else-place-len, in_default-place_of_field}
 
 pub returns-then-place-len : goal.returns-then-place-len
 returns-then-place-len c =
     let env = env_of c.args.self.now in
     let unbound = sym c.find.ensures ∙ c.in_default.is in
     let here = sym c.in-Some-place_of_field.is ∙ c.place_of_field.ensures in
-    IfOk-same c.value.result _ _ (sym (look_up-field env c.args.name.now c.in-Some-place_of_field.place unbound here (omega arith))) c.value.ensures
+    sym (look_up-field env c.args.name.now c.in-Some-place_of_field.place unbound here (omega arith))
 
 pub returns-in-Some-place_of_variable : goal.returns-in-Some-place_of_variable
 returns-in-Some-place_of_variable c =
@@ -19,7 +19,7 @@ returns-in-Some-place_of_variable c =
     let unbound = sym c.find.ensures ∙ c.in_default.is in
     let here = sym c.in-Some-place_of_variable.is ∙ c.place_of_variable.ensures in
     let no_field : find_field env.fields env.message x ≡ None = elim c.match-place_of_field.branch [ in-Some-place_of_field+else-place-len w ↦ find_field-beyond env.fields env.message x w.in-Some-place_of_field.place (sym w.in-Some-place_of_field.is ∙ c.place_of_field.ensures) (omega arith) | in_default-place_of_field w ↦ find_field-absent env.fields env.message x (sym w.in_default-place_of_field.is ∙ c.place_of_field.ensures) ] in
-    IfOk-same c.value-in-Some-place_of_variable.result _ _ (sym (look_up-variable env x c.in-Some-place_of_variable.place unbound no_field here)) c.value-in-Some-place_of_variable.ensures
+    sym (look_up-variable env x c.in-Some-place_of_variable.place unbound no_field here)
 
 pub returns-in-None : goal.returns-in-None
 returns-in-None c =
