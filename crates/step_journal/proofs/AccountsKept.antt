@@ -1,14 +1,13 @@
--- Each event keeps what was handed out and told.
+-- Each event keeps what was handed out and answers.
 use Rattle.std.proofs.Common.{◌≡◌, ◌≢◌, ℕ, ◌-◌, ◌<◌, Bool, true, false, ◌&&◌, List, [], ◌∷◌, ◌++◌, length, get_or, set, sym, refl, ap, ◌∙◌, arith, ◌⊎◌, inl, inr}
 use Rattle.std.proofs.lemmas.Bool.{and_left, and_right, cases_eq, eq-eqb, ne_eqb}
 use Rattle.std.proofs.lemmas.List.{get_or-set_same, get_or-set_other, length-set, append-nil}
 use Rattle.step_machine.specs.declared.event.Name.{Name}
 use Rattle.step_machine.specs.declared.event.Event.{Event}
-use Rattle.step_journal.specs.declared.mark.Told.{Told}
 use Rattle.step_machine.specs.declared.event.Event.TheVariants.{Step, Release}
 use Rattle.step_journal.specs.World.{World, nodes_of, is_receive}
 use Rattle.step_journal.specs.Trace.{is_step, steps}
-use Rattle.step_journal.specs.History.{mark_of, buffer_of, handed_of, told_of, is_flying}
+use Rattle.step_journal.specs.History.{mark_of, buffer_of, handed_of, answers_of, is_flying}
 use Rattle.step_journal.specs.Agreement.{Accounts}
 
 handed_kept : (w : World) (i : ℕ) (e : Event) (t : List Event) → (is_step i e && is_receive w (steps i t)) ≡ false → handed_of w i (e ∷ t) ≡ handed_of w i t
@@ -19,23 +18,23 @@ handed_more : (w : World) (i : ℕ) (e : Event) (t : List Event) → is_step i e
 unfolding handed_of
 handed_more w i e t h k = rw (h, k) refl
 
-told_step : (w : World) (k : ℕ) (t : List Event) → told_of w (Step k ∷ t) ≡ told_of w t
-unfolding told_of
-told_step w k t = append-nil (told_of w t)
+answers_step : (w : World) (k : ℕ) (t : List Event) → answers_of w (Step k ∷ t) ≡ answers_of w t
+unfolding answers_of
+answers_step w k t = append-nil (answers_of w t)
 
-told_more : (w : World) (n : Name) (t : List Event) → told_of w (Release n ∷ t) ≡ told_of w t ++ record { name = n; moved = is_flying (mark_of w t n.from n.to (n.round - 1)) } ∷ []
-unfolding told_of
-told_more w n t = refl
+answers_more : (w : World) (n : Name) (t : List Event) → answers_of w (Release n ∷ t) ≡ answers_of w t ++ is_flying (mark_of w t n.from n.to (n.round - 1)) ∷ []
+unfolding answers_of
+answers_more w n t = refl
 
 step_at : (w : World) (t : List Event) (k i : ℕ) → is_receive w (steps k t) ≡ false → (i ≡ k) ⊎ (i ≡ k → ⊥) → handed_of w i (Step k ∷ t) ≡ handed_of w i t
 step_at w t k i h (inl same) = handed_kept w i (Step k) t (and_right _ _ (ap (λ z. is_receive w (steps z t)) same ∙ h))
 step_at w t k i h (inr apart) = handed_kept w i (Step k) t (and_left _ _ (ne_eqb k i (λ e. apart (sym e))))
 
-pub accounts_step : (w : World) (t : List Event) (handed : List (List (List Name))) (told : List Told) (k : ℕ) → is_receive w (steps k t) ≡ false → Accounts w t handed told → Accounts w (Step k ∷ t) handed told
-accounts_step w t handed told k h a = record {
+pub accounts_step : (w : World) (t : List Event) (handed : List (List (List Name))) (answers : List Bool) (k : ℕ) → is_receive w (steps k t) ≡ false → Accounts w t handed answers → Accounts w (Step k ∷ t) handed answers
+accounts_step w t handed answers k h a = record {
   sized = a.sized;
   handed = λ i b. a.handed i b ∙ sym (step_at w t k i h (cases_eq i k));
-  told = a.told ∙ sym (told_step w k t);
+  answered = a.answered ∙ sym (answers_step w k t);
 }
 
 receive_at : (w : World) (t : List Event) (handed : List (List (List Name))) (k i : ℕ) (b : List Name) → k < length handed → is_receive w (steps k t) ≡ true → b ≡ buffer_of w k t → get_or handed k [] ≡ handed_of w k t → get_or handed i [] ≡ handed_of w i t → (i ≡ k) ⊎ (i ≡ k → ⊥) → get_or (set handed k (get_or handed k [] ++ b ∷ [])) i [] ≡ handed_of w i (Step k ∷ t)
@@ -45,16 +44,16 @@ receive_at w t handed k i b l h x own e (inr apart) =
     let ne : i ≢ k = apart in
     rw get_or-set_other (e ∙ sym (handed_kept w i (Step k) t (and_left _ _ (ne_eqb k i (λ f. apart (sym f))))))
 
-pub accounts_receive : (w : World) (t : List Event) (handed : List (List (List Name))) (told : List Told) (k : ℕ) (b : List Name) → k < nodes_of w → is_receive w (steps k t) ≡ true → b ≡ buffer_of w k t → Accounts w t handed told → Accounts w (Step k ∷ t) (set handed k (get_or handed k [] ++ b ∷ [])) told
-accounts_receive w t handed told k b l h x a = record {
+pub accounts_receive : (w : World) (t : List Event) (handed : List (List (List Name))) (answers : List Bool) (k : ℕ) (b : List Name) → k < nodes_of w → is_receive w (steps k t) ≡ true → b ≡ buffer_of w k t → Accounts w t handed answers → Accounts w (Step k ∷ t) (set handed k (get_or handed k [] ++ b ∷ [])) answers
+accounts_receive w t handed answers k b l h x a = record {
   sized = length-set handed k _ ∙ a.sized;
   handed = λ i z. receive_at w t handed k i b (let n = a.sized in omega arith) h x (a.handed k l) (a.handed i z) (cases_eq i k);
-  told = a.told ∙ sym (told_step w k t);
+  answered = a.answered ∙ sym (answers_step w k t);
 }
 
-pub accounts_release : (w : World) (t : List Event) (handed : List (List (List Name))) (told next : List Told) (n : Name) (b : Bool) → b ≡ is_flying (mark_of w t n.from n.to (n.round - 1)) → next ≡ told ++ record { name = n; moved = b } ∷ [] → Accounts w t handed told → Accounts w (Release n ∷ t) handed next
-accounts_release w t handed told next n b h e a = record {
+pub accounts_release : (w : World) (t : List Event) (handed : List (List (List Name))) (answers next : List Bool) (n : Name) (b : Bool) → b ≡ is_flying (mark_of w t n.from n.to (n.round - 1)) → next ≡ answers ++ b ∷ [] → Accounts w t handed answers → Accounts w (Release n ∷ t) handed next
+accounts_release w t handed answers next n b h e a = record {
   sized = a.sized;
   handed = λ i z. a.handed i z ∙ sym (handed_kept w i (Release n) t refl);
-  told = e ∙ ap (λ z. z ++ record { name = n; moved = b } ∷ []) a.told ∙ ap (λ z. told_of w t ++ record { name = n; moved = z } ∷ []) h ∙ sym (told_more w n t);
+  answered = e ∙ ap (λ z. z ++ b ∷ []) a.answered ∙ ap (λ z. answers_of w t ++ z ∷ []) h ∙ sym (answers_more w n t);
 }

@@ -10,7 +10,6 @@ use Rattle.step_machine.specs.declared.event.Name.{Name}
 use Rattle.step_machine.specs.Frames.{sent_under}
 use Rattle.step_journal.specs.declared.mark.Mark.{Mark}
 use Rattle.step_journal.specs.declared.mark.Mark.TheVariants.{Unsent, Flying}
-use Rattle.step_journal.specs.declared.mark.Told.{Told}
 use Rattle.step_journal.specs.Agreed.{IsDueRound, IsInBuffer, IsInFlight, IsSpoken, JournalAgrees, message_in}
 use Rattle.step_journal.specs.Agreement.{is_named}
 use Rattle.step_journal.specs.History.{is_buffered, mark_by, mark_of, state}
@@ -92,7 +91,7 @@ at_most_one false n h = omega arith
 
 -- ---- by places, over the reversed history
 
-module _ {start : ℕ → ℕ} {nodes : ℕ} {v : Log} {counts : List ℕ} {marks : List Mark} {waiting : List (List Name)} {handed : List (List (List Name))} {told : List Told} (h : Holds start nodes v counts marks waiting handed told) where
+module _ {start : ℕ → ℕ} {nodes : ℕ} {v : Log} {counts : List ℕ} {marks : List Mark} {waiting : List (List Name)} {handed : List (List (List Name))} {answers : List Bool} (h : Holds start nodes v counts marks waiting handed answers) where
   own_list : reverse (history v) ≡ v.trace
   own_list = reverse-reverse v.trace
 

@@ -8,7 +8,6 @@ use Rattle.step_machine.specs.Frames.{Frame}
 use Rattle.step_machine.specs.Nodes.{NodeView, IsHeld, IsFrom, algorithm_in, held_at, inbox_of}
 use Rattle.step_machine.specs.declared.event.Name.{Name}
 use Rattle.step_journal.specs.declared.mark.Mark.{Mark}
-use Rattle.step_journal.specs.declared.mark.Told.{Told}
 use Rattle.step_journal.specs.Trace.{steps}
 use Rattle.step_journal.specs.History.{state, mark_of}
 use Rattle.step_journal.specs.Agreement.{Row, row}
@@ -20,9 +19,9 @@ use Rattle.step_journal.proofs.Keeps.{keeps_close}
 use Rattle.step_journal.proofs.Reading.{nodes_are, one_of}
 
 -- what holds of the view with other rows holds of the fields with them
-pub to_rows : {P : Type 0} {s v : Recorded P} {counts : List ℕ} {marks : List Mark} {waiting : List (List Name)} {handed : List (List (List Name))} {told : List Told} {rows : List Row} (start : P → ℕ → ℕ) (nodes : P → ℕ) → s ≡ v → Holds (start v.plan) (nodes v.plan) (record v.log { rows = rows }) counts marks waiting handed told → Holds (start s.plan) (nodes s.plan) (record s.log { rows = rows }) counts marks waiting handed told
-to_rows {P} {s} {v} {counts} {marks} {waiting} {handed} {told} {rows} start nodes e h =
-    subst (λ (z : Recorded P). Holds (start z.plan) (nodes z.plan) (record z.log { rows = rows }) counts marks waiting handed told) (sym e) h
+pub to_rows : {P : Type 0} {s v : Recorded P} {counts : List ℕ} {marks : List Mark} {waiting : List (List Name)} {handed : List (List (List Name))} {answers : List Bool} {rows : List Row} (start : P → ℕ → ℕ) (nodes : P → ℕ) → s ≡ v → Holds (start v.plan) (nodes v.plan) (record v.log { rows = rows }) counts marks waiting handed answers → Holds (start s.plan) (nodes s.plan) (record s.log { rows = rows }) counts marks waiting handed answers
+to_rows {P} {s} {v} {counts} {marks} {waiting} {handed} {answers} {rows} start nodes e h =
+    subst (λ (z : Recorded P). Holds (start z.plan) (nodes z.plan) (record z.log { rows = rows }) counts marks waiting handed answers) (sym e) h
 
 -- the algorithm of a node of the run is the run's
 same_algorithm : (n : NodeView) (v : Log) → n.program ≡ v.program → n.setup ≡ v.setup → algorithm_in n ≡ algorithm_of v.program v.setup
@@ -89,16 +88,16 @@ pub err_given : {A E : Type 0} (r : Result A E) (x : E) (P : E → Type 0) → I
 err_given (Ok y) x P e h = tt
 err_given (Err y) x P e h = subst P (sym e) h
 
--- no frame, told by its tag
+-- no frame, answers by its tag
 pub none_iff : (o : Option Frame) (b : Bool) → is_some o ≡ not b → (b ≡ true → option_map tag_of o ≡ None) × (option_map tag_of o ≡ None → b ≡ true)
 none_iff None true e = (λ x. refl, λ x. refl)
 none_iff None false e = cc
 none_iff (Some f) true e = cc
 none_iff (Some f) false e = (λ x. cc, λ x. cc)
 
-module _ {start : ℕ → ℕ} {nodes : ℕ} {v : Log} {counts : List ℕ} {marks : List Mark} {waiting : List (List Name)} {handed : List (List (List Name))} {told : List Told} (h : Holds start nodes v counts marks waiting handed told) where
+module _ {start : ℕ → ℕ} {nodes : ℕ} {v : Log} {counts : List ℕ} {marks : List Mark} {waiting : List (List Name)} {handed : List (List (List Name))} {answers : List Bool} (h : Holds start nodes v counts marks waiting handed answers) where
   -- rows that stay
-  pub same_rows : (rows : List Row) → rows ≡ v.rows → Holds start nodes (record v { rows = rows }) counts marks waiting handed told
+  pub same_rows : (rows : List Row) → rows ≡ v.rows → Holds start nodes (record v { rows = rows }) counts marks waiting handed answers
   same_rows rows e = record {
     lawful = h.lawful;
     sized = h.sized;
@@ -178,7 +177,7 @@ module _ {start : ℕ → ℕ} {nodes : ℕ} {v : Log} {counts : List ℕ} {mark
       ends_with w t n.me q n.state (ended n) n.held own (size ∙ setup_nodes ∙ sym m) known.1 (λ j b. from j (omega arith)) end
       ∙ ap (λ x. state w t x n.me) (sym r ∙ sym round_is)
 
-  pub close : (n : NodeView) (rows : List Row) → n.me < v.setup.nodes → n.program ≡ v.program → n.setup ≡ v.setup → length n.held ≡ n.setup.nodes → IsHeld (algorithm_in n) n.setup.nodes n.me n.round n.held → IsDueIn start v n → IsKnown start v n → rows ≡ (closed v n).rows → Holds start nodes (record v { rows = rows }) counts marks waiting handed told
+  pub close : (n : NodeView) (rows : List Row) → n.me < v.setup.nodes → n.program ≡ v.program → n.setup ≡ v.setup → length n.held ≡ n.setup.nodes → IsHeld (algorithm_in n) n.setup.nodes n.me n.round n.held → IsDueIn start v n → IsKnown start v n → rows ≡ (closed v n).rows → Holds start nodes (record v { rows = rows }) counts marks waiting handed answers
   close n rows l p s size held due known e = record {
     lawful = h.lawful;
     sized = h.sized;

@@ -10,7 +10,6 @@ use Rattle.step_machine.specs.declared.event.Event.TheVariants.{Step, Release}
 use Rattle.step_machine.specs.declared.event.Name.{Name}
 use Rattle.step_journal.specs.declared.mark.Mark.{Mark}
 use Rattle.step_journal.specs.declared.mark.Mark.TheVariants.{Unsent, Silent, Flying, Released}
-use Rattle.step_journal.specs.declared.mark.Told.{Told}
 use Rattle.step_journal.specs.World.{World, nodes_of, is_receive}
 use Rattle.step_journal.specs.Trace.{steps}
 use Rattle.step_journal.specs.History.{message, state, spoken, let_go, arrival, is_flying}
@@ -26,9 +25,9 @@ use Rattle.step_journal.proofs.Tables.{puts_same}
 use Rattle.step_journal.proofs.Reading.{nodes_are, one_of}
 
 -- what holds of the view with other events holds of the fields with them
-pub to_fields : {P : Type 0} {s v : Recorded P} {counts : List ℕ} {marks : List Mark} {waiting : List (List Name)} {handed : List (List (List Name))} {told : List Told} {trace : List Event} (start : P → ℕ → ℕ) (nodes : P → ℕ) → s ≡ v → Holds (start v.plan) (nodes v.plan) (record v.log { trace = trace }) counts marks waiting handed told → Holds (start s.plan) (nodes s.plan) (record s.log { trace = trace }) counts marks waiting handed told
-to_fields {P} {s} {v} {counts} {marks} {waiting} {handed} {told} {trace} start nodes e h =
-    subst (λ (z : Recorded P). Holds (start z.plan) (nodes z.plan) (record z.log { trace = trace }) counts marks waiting handed told) (sym e) h
+pub to_fields : {P : Type 0} {s v : Recorded P} {counts : List ℕ} {marks : List Mark} {waiting : List (List Name)} {handed : List (List (List Name))} {answers : List Bool} {trace : List Event} (start : P → ℕ → ℕ) (nodes : P → ℕ) → s ≡ v → Holds (start v.plan) (nodes v.plan) (record v.log { trace = trace }) counts marks waiting handed answers → Holds (start s.plan) (nodes s.plan) (record s.log { trace = trace }) counts marks waiting handed answers
+to_fields {P} {s} {v} {counts} {marks} {waiting} {handed} {answers} {trace} start nodes e h =
+    subst (λ (z : Recorded P). Holds (start z.plan) (nodes z.plan) (record z.log { trace = trace }) counts marks waiting handed answers) (sym e) h
 
 -- one event more stands first in the history
 pub pushed : (xs : List Event) (x : Event) (ys : List Event) → ys ≡ xs ++ x ∷ [] → reverse ys ≡ x ∷ reverse xs
@@ -67,9 +66,9 @@ idle_flag Silent e = refl
 idle_flag Flying e = absurd (e refl)
 idle_flag (Released y) e = refl
 
-module _ {start : ℕ → ℕ} {nodes : ℕ} {v : Log} {counts : List ℕ} {marks : List Mark} {waiting : List (List Name)} {handed : List (List (List Name))} {told : List Told} (h : Holds start nodes v counts marks waiting handed told) where
+module _ {start : ℕ → ℕ} {nodes : ℕ} {v : Log} {counts : List ℕ} {marks : List Mark} {waiting : List (List Name)} {handed : List (List (List Name))} {answers : List Bool} (h : Holds start nodes v counts marks waiting handed answers) where
   -- nothing was recorded
-  pub kept : (trace : List Event) (st : List ℕ) (mk : List Mark) (wt : List (List Name)) (hd : List (List (List Name))) (tl : List Told) → trace ≡ v.trace → st ≡ counts → SameTable marks mk → wt ≡ waiting → hd ≡ handed → tl ≡ told → Holds start nodes (record v { trace = trace }) st mk wt hd tl
+  pub kept : (trace : List Event) (st : List ℕ) (mk : List Mark) (wt : List (List Name)) (hd : List (List (List Name))) (tl : List Bool) → trace ≡ v.trace → st ≡ counts → SameTable marks mk → wt ≡ waiting → hd ≡ handed → tl ≡ answers → Holds start nodes (record v { trace = trace }) st mk wt hd tl
   kept trace st mk wt hd tl a b c d e f = record {
     lawful = h.lawful;
     sized = h.sized;
@@ -80,7 +79,7 @@ module _ {start : ℕ → ℕ} {nodes : ℕ} {v : Log} {counts : List ℕ} {mark
   }
 
   -- an event was recorded
-  noted : (e : Event) (trace : List Event) (st : List ℕ) (mk : List Mark) (wt : List (List Name)) (hd : List (List (List Name))) (tl : List Told) → trace ≡ v.trace ++ e ∷ [] → Agrees (world_of start v) (e ∷ history v) st v.rows mk → Waits (world_of start v) (e ∷ history v) wt → Accounts (world_of start v) (e ∷ history v) hd tl → Holds start nodes (record v { trace = trace }) st mk wt hd tl
+  noted : (e : Event) (trace : List Event) (st : List ℕ) (mk : List Mark) (wt : List (List Name)) (hd : List (List (List Name))) (tl : List Bool) → trace ≡ v.trace ++ e ∷ [] → Agrees (world_of start v) (e ∷ history v) st v.rows mk → Waits (world_of start v) (e ∷ history v) wt → Accounts (world_of start v) (e ∷ history v) hd tl → Holds start nodes (record v { trace = trace }) st mk wt hd tl
   noted e trace st mk wt hd tl n a b c =
       let is : reverse trace ≡ e ∷ history v = pushed v.trace e trace n in
       record {
@@ -125,16 +124,16 @@ module _ {start : ℕ → ℕ} {nodes : ℕ} {v : Log} {counts : List ℕ} {mark
   pub idle_none : (k : ℕ) → k < v.setup.nodes → v.setup.rounds < round_of v k → is_receive (world_of start v) (count_of v k) ≡ false
   idle_none k l late = idle_is_no_receive (world_of start v) h.plan (count_of v k) (count_idle k l late)
 
-  pub idle : (k : ℕ) (trace : List Event) (st : List ℕ) → k < v.setup.nodes → v.setup.rounds < round_of v k → trace ≡ v.trace ++ Step k ∷ [] → st ≡ set counts k (get_or counts k 0 + 1) → Holds start nodes (record v { trace = trace }) st marks waiting handed told
+  pub idle : (k : ℕ) (trace : List Event) (st : List ℕ) → k < v.setup.nodes → v.setup.rounds < round_of v k → trace ≡ v.trace ++ Step k ∷ [] → st ≡ set counts k (get_or counts k 0 + 1) → Holds start nodes (record v { trace = trace }) st marks waiting handed answers
   idle k trace st l b e f =
       let w = world_of start v in
       let high = h.book.bounded k (one_of start v k l) in
       let n : round_of v k ≡ v.setup.rounds + 1 = omega arith in
       let none = idle_is_no_receive w h.plan (count_of v k) (count_idle k l b) in
-      noted (Step k) trace st marks waiting handed told e
+      noted (Step k) trace st marks waiting handed answers e
       (rw f (keeps_idle w h.plan (history v) counts v.rows marks k _ (one_of start v k l) (next_count k l) n h.book))
       (waits_step w (history v) waiting k none h.waits)
-      (accounts_step w (history v) handed told k none h.accounts)
+      (accounts_step w (history v) handed answers k none h.accounts)
 
   -- ---- a receive
 
@@ -155,17 +154,17 @@ module _ {start : ℕ → ℕ} {nodes : ℕ} {v : Log} {counts : List ℕ} {mark
           let low = leb-true (start (round_of v k) + nodes_of w) (count_of v k) (sym is ∙ fit.1) in
           (within, omega arith, soon)
 
-  pub received : (k : ℕ) (trace : List Event) (st : List ℕ) (wt : List (List Name)) (hd : List (List (List Name))) (b : List Name) → k < v.setup.nodes → IsReceiveFit start v k → b ≡ get_or waiting k [] → trace ≡ v.trace ++ Step k ∷ [] → st ≡ set counts k (get_or counts k 0 + 1) → wt ≡ set waiting k [] → hd ≡ set handed k (get_or handed k [] ++ b ∷ []) → Holds start nodes (record v { trace = trace }) st marks wt hd told
+  pub received : (k : ℕ) (trace : List Event) (st : List ℕ) (wt : List (List Name)) (hd : List (List (List Name))) (b : List Name) → k < v.setup.nodes → IsReceiveFit start v k → b ≡ get_or waiting k [] → trace ≡ v.trace ++ Step k ∷ [] → st ≡ set counts k (get_or counts k 0 + 1) → wt ≡ set waiting k [] → hd ≡ set handed k (get_or handed k [] ++ b ∷ []) → Holds start nodes (record v { trace = trace }) st marks wt hd answers
   received k trace st wt hd b l fit x e f g i =
       let w = world_of start v in
       let m = one_of start v k l in
       let at = receive_place k l fit in
       let n = nodes_are start v in
       let low : start (round_of v k) + nodes_of w ≤ count_of v k = let a = at.1 in omega arith in
-      noted (Step k) trace st marks wt hd told e
+      noted (Step k) trace st marks wt hd answers e
       (rw f (keeps_receive w h.plan (history v) counts v.rows marks k _ m (next_count k l) at.0 low at.2 h.book))
       (rw g (waits_receive w (history v) waiting k m fit.1 h.waits))
-      (rw i (accounts_receive w (history v) handed told k b m fit.1 (x ∙ h.waits.held k m) h.accounts))
+      (rw i (accounts_receive w (history v) handed answers k b m fit.1 (x ∙ h.waits.held k m) h.accounts))
 
   -- ---- a send
 
@@ -215,7 +214,7 @@ module _ {start : ℕ → ℕ} {nodes : ℕ} {v : Log} {counts : List ℕ} {mark
       sym fit.2 ∙ h.book.stated n.from (n.round - 1) (one_of start v n.from a.from) (omega arith) in
       sym work.says ∙ ap (λ r. w.algorithm.send r p.state n.from n.to) e ∙ ap (λ x. w.algorithm.send (suc (n.round - 1)) x n.from n.to) own
 
-  pub sent : (p : Ready) (trace : List Event) (st : List ℕ) (mk : List Mark) (place : ℕ) (x : Mark) → IsName v.setup p.name → IsPrepared (algorithm_of v.program v.setup) p → IsSendFit start v p → place ≡ ((p.name.round - 1) * v.setup.nodes + p.name.from) * v.setup.nodes + p.name.to → x ≡ spoken p.message → trace ≡ v.trace ++ Step p.name.from ∷ [] → st ≡ set counts p.name.from (get_or counts p.name.from 0 + 1) → Puts marks mk place x → Holds start nodes (record v { trace = trace }) st mk waiting handed told
+  pub sent : (p : Ready) (trace : List Event) (st : List ℕ) (mk : List Mark) (place : ℕ) (x : Mark) → IsName v.setup p.name → IsPrepared (algorithm_of v.program v.setup) p → IsSendFit start v p → place ≡ ((p.name.round - 1) * v.setup.nodes + p.name.from) * v.setup.nodes + p.name.to → x ≡ spoken p.message → trace ≡ v.trace ++ Step p.name.from ∷ [] → st ≡ set counts p.name.from (get_or counts p.name.from 0 + 1) → Puts marks mk place x → Holds start nodes (record v { trace = trace }) st mk waiting handed answers
   sent p trace st mk place x a work fit at is e f g =
       let w = world_of start v in
       let n = p.name in
@@ -225,18 +224,18 @@ module _ {start : ℕ → ℕ} {nodes : ℕ} {v : Log} {counts : List ℕ} {mark
       let there : place ≡ place_of w n.from n.to (n.round - 1) = at ∙ ap (λ m. ((n.round - 1) * m + n.from) * m + n.to) (sym (nodes_are start v)) in
       let slot : count_of v n.from ≡ start (suc (n.round - 1)) + n.to = fit.1 ∙ ap (λ y. start y + n.to) r in
       let none = slot_no_receive n a fit.1 in
-      noted (Step n.from) trace st mk waiting handed told e
+      noted (Step n.from) trace st mk waiting handed answers e
       (rw f (keeps_send w h.plan (history v) counts v.rows marks mk n.from n.to (n.round - 1) _ x (one_of start v n.from a.from) (one_of start v n.to a.to) (omega arith)
       (next_count n.from a.from) (send_round n a fit.0 fit.1 ∙ r) slot (is ∙ ap spoken (message_is p a work fit))
       (subst (λ (z : ℕ). Puts marks mk z x) there g) h.book))
       (waits_step w (history v) waiting n.from none h.waits)
-      (accounts_step w (history v) handed told n.from none h.accounts)
+      (accounts_step w (history v) handed answers n.from none h.accounts)
 
   -- ---- a release
 
   -- a message in flight goes to those that wait
-  pub moved : (n : Name) (trace : List Event) (mk : List Mark) (place : ℕ) (wt : List (List Name)) (tl : List Told) → IsName v.setup n → IsFlying start v n → place ≡ ((n.round - 1) * v.setup.nodes + n.from) * v.setup.nodes + n.to → trace ≡ v.trace ++ Release n ∷ [] → Puts marks mk place (Released (count_of v n.to)) → wt ≡ set waiting n.to (get_or waiting n.to [] ++ n ∷ []) → tl ≡ told ++ record { name = n; moved = true } ∷ [] → Holds start nodes (record v { trace = trace }) counts mk wt handed tl
-  moved n trace mk place wt tl a fly at e f g i =
+  pub moved : (n : Name) (trace : List Event) (mk : List Mark) (place : ℕ) (wt : List (List Name)) (hd : List (List (List Name))) (tl : List Bool) → IsName v.setup n → IsFlying start v n → place ≡ ((n.round - 1) * v.setup.nodes + n.from) * v.setup.nodes + n.to → trace ≡ v.trace ++ Release n ∷ [] → Puts marks mk place (Released (count_of v n.to)) → wt ≡ set waiting n.to (get_or waiting n.to [] ++ n ∷ []) → hd ≡ handed → tl ≡ answers ++ true ∷ [] → Holds start nodes (record v { trace = trace }) counts mk wt hd tl
+  moved n trace mk place wt hd tl a fly at e f g d i =
       let w = world_of start v in
       let first = a.first in
       let last = a.last in
@@ -246,15 +245,15 @@ module _ {start : ℕ → ℕ} {nodes : ℕ} {v : Log} {counts : List ℕ} {mark
       let there : place ≡ place_of w n.from n.to (n.round - 1) = at ∙ ap (λ m. ((n.round - 1) * m + n.from) * m + n.to) (sym (nodes_are start v)) in
       let read : get_or marks (place_of w n.from n.to (n.round - 1)) Unsent ≡ Flying = h.book.mark n.from n.to (n.round - 1) from to (omega arith) ∙ fly in
       let arrives : arrival n (mark_in start v n) ≡ n ∷ [] = ap (arrival n) fly in
-      noted (Release n) trace counts mk wt handed tl e
+      noted (Release n) trace counts mk wt hd tl e
       (keeps_release w h.plan (history v) counts v.rows marks mk n n.from n.to (n.round - 1) (Released (count_of v n.to)) from to (omega arith) refl refl r
       (ap Released (sym (h.book.count n.to to)) ∙ sym (ap (let_go (get_or counts n.to 0)) read))
       (subst (λ (z : ℕ). Puts marks mk z (Released (count_of v n.to))) there f) h.book)
       (rw g (subst (λ (x : List Name). Waits w (Release n ∷ history v) (set waiting n.to (get_or waiting n.to [] ++ x))) arrives (waits_release w (history v) waiting n to h.waits)))
-      (accounts_release w (history v) handed told tl n true (sym (ap is_flying fly)) i h.accounts)
+      (rw d (accounts_release w (history v) handed answers tl n true (sym (ap is_flying fly)) i h.accounts))
 
   -- what isn't in flight doesn't move
-  pub let_be : (n : Name) (trace : List Event) (tl : List Told) → IsName v.setup n → (IsFlying start v n → ⊥) → trace ≡ v.trace ++ Release n ∷ [] → tl ≡ told ++ record { name = n; moved = false } ∷ [] → Holds start nodes (record v { trace = trace }) counts marks waiting handed tl
+  pub let_be : (n : Name) (trace : List Event) (tl : List Bool) → IsName v.setup n → (IsFlying start v n → ⊥) → trace ≡ v.trace ++ Release n ∷ [] → tl ≡ answers ++ false ∷ [] → Holds start nodes (record v { trace = trace }) counts marks waiting handed tl
   let_be n trace tl a off e i =
       let w = world_of start v in
       let first = a.first in
@@ -269,7 +268,7 @@ module _ {start : ℕ → ℕ} {nodes : ℕ} {v : Log} {counts : List ℕ} {mark
       (sym (ap (let_go (get_or counts n.to 0)) read ∙ let_go_idle (get_or counts n.to 0) (mark_in start v n) off))
       (puts_same marks place (mark_in start v n) read) h.book)
       (waits_late w (history v) waiting n (arrival_idle n (mark_in start v n) off) h.waits)
-      (accounts_release w (history v) handed told tl n false (sym (idle_flag (mark_in start v n) off)) i h.accounts)
+      (accounts_release w (history v) handed answers tl n false (sym (idle_flag (mark_in start v n) off)) i h.accounts)
 
   -- ---- what the tests say
 

@@ -39,7 +39,7 @@ heard_pure w j i q s (Some a) (Some m) (Some b) h = refl
 unsent_unreleased : (w : World) (t : List Event) (j i r : ℕ) → sent w t j i r ≡ None → released w t j i r ≡ None
 unsent_unreleased w t j i r h = rw h refl
 
--- once the round is past, what was carried to it is told by the mark
+-- once the round is past, what was carried to it is answers by the mark
 pub heard_is : (w : World) → IsPlan w → (t : List Event) (i q j : ℕ) → suc q ≤ w.rounds → w.start (suc q + 1) ≤ steps i t → heard_from w t i q j ≡ (if is_within (mark_of w t j i q) (w.start (suc q)) (w.start (suc q + 1)) then Some (tagged j i q (state w t q j)) else None)
 unfolding mark_of
 heard_is w p t i q j l n =

@@ -237,9 +237,9 @@ or_none : (h : Option Frame) → held_or h None ≡ h
 or_none None = refl
 or_none (Some f) = refl
 
-module _ (w : World) (t : List Event) (i q j : ℕ) (fs : List Frame) (told : All (IsTold w t i) fs) (counted : count_by (is_named j i (suc q)) (names_in fs) ≡ (if is_buffered w t j i q then 1 else 0)) where
+module _ (w : World) (t : List Event) (i q j : ℕ) (fs : List Frame) (answers : All (IsTold w t i) fs) (counted : count_by (is_named j i (suc q)) (names_in fs) ≡ (if is_buffered w t j i q then 1 else 0)) where
   to : All (IsTo i) fs
-  to = λ k d l. (told k d l).to
+  to = λ k d l. (answers k d l).to
 
   -- where no message waits, no frame comes
   none_comes : is_buffered w t j i q ≡ false → (o : Option Frame) → frame_from (suc q) j fs ≡ o → o ≡ None
@@ -256,7 +256,7 @@ module _ (w : World) (t : List Event) (i q j : ℕ) (fs : List Frame) (told : Al
       let some : count_by (is_named j i (suc q)) (names_in fs) ≡ 1 = counted ∙ ap (λ (b : Bool). if b then 1 else 0) on in
       absurd (omega arith)
   one_comes m says on (Some f) e =
-      let is = frame_found (IsTold w t i) (suc q) j f fs told e in
+      let is = frame_found (IsTold w t i) (suc q) j f fs answers e in
       let round : f.name.round - 1 ≡ q = let r = is.1 in omega arith in
       let own : f.state ≡ state w t q j = is.0.state ∙ ap (λ r. state w t r f.name.from) round ∙ ap (state w t q) is.2 in
       ap (λ x. Some (record { name = record { from = x; to = f.name.to; round = f.name.round }; state = f.state })) is.2
@@ -283,6 +283,6 @@ module _ (w : World) (t : List Event) (i q j : ℕ) (fs : List Frame) (told : Al
 
 -- what a node holds of its round after a receive is what was carried
 pub held_received : (w : World) → IsPlan w → (t : List Event) (i q : ℕ) (old new : NodeView) (fs : List Frame) → suc q ≤ w.rounds → is_receive w (steps i t) ≡ true → lies_in w (suc q) (steps i t) ≡ true → IsBuffer w t i (names_in fs) → All (IsTold w t i) fs → old.round ≡ suc q → HasTaken old new fs → AreCarried w t i q old.held → AreCarried w (Step i ∷ t) i q new.held
-held_received w p t i q old new fs l receives within once told round took h = λ j k.
+held_received w p t i q old new fs l receives within once answers round took h = λ j k.
     ap (option_map tag_of) (took.held j ∙ ap (λ r. held_or (held_at old.held j) (frame_from r j fs)) round)
-    ∙ heard_by w t i q j fs told (once j q (omega arith)) p l (held_at old.held j) (h j k) (hears w t i q j receives within)
+    ∙ heard_by w t i q j fs answers (once j q (omega arith)) p l (held_at old.held j) (h j k) (hears w t i q j receives within)

@@ -1,12 +1,11 @@
 -- What a later event leaves of closed rounds.
-use Rattle.std.proofs.Common.{◌≡◌, ℕ, ◌+◌, ◌<◌, ◌≤◌, List, [], ◌∷◌, length, get_or, refl, sym, ap, ◌∙◌, arith}
+use Rattle.std.proofs.Common.{◌≡◌, ℕ, ◌+◌, ◌<◌, ◌≤◌, List, [], ◌∷◌, length, get_or, refl, sym, ap, ◌∙◌, arith, Bool}
 use Rattle.std.proofs.lemmas.List.{get_or_append_left, length_push}
 use Rattle.round_lang.specs.declared.value.Value.{Value}
 use Rattle.step_machine.specs.declared.event.Event.{Event}
 use Rattle.step_machine.specs.declared.event.Name.{Name}
 use Rattle.step_machine.specs.Nodes.{NodeView}
 use Rattle.step_journal.specs.declared.mark.Mark.{Mark}
-use Rattle.step_journal.specs.declared.mark.Told.{Told}
 use Rattle.step_journal.specs.Agreed.{KeepsClosed}
 use Rattle.step_journal.specs.Agreement.{Row, row}
 use Rattle.step_journal.specs.History.{state}
@@ -33,7 +32,7 @@ length_grown rows next k i x (Grown same e) =
     let s = ap length e ∙ length_push (row rows k) x in
     omega arith
 
-module _ {start : ℕ → ℕ} {nodes : ℕ} {v : Log} {counts : List ℕ} {marks : List Mark} {waiting : List (List Name)} {handed : List (List (List Name))} {told : List Told} (h : Holds start nodes v counts marks waiting handed told) where
+module _ {start : ℕ → ℕ} {nodes : ℕ} {v : Log} {counts : List ℕ} {marks : List Mark} {waiting : List (List Name)} {handed : List (List (List Name))} {answers : List Bool} (h : Holds start nodes v counts marks waiting handed answers) where
   -- a closed round is past
   over : (i r : ℕ) → i < v.setup.nodes → r < round_of v i → start (r + 1) ≤ count_of v i
   over i r l low =

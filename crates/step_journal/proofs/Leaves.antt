@@ -1,5 +1,5 @@
 -- What each event leaves of each message and each buffer.
-use Rattle.std.proofs.Common.{◌≡◌, ℕ, suc, ◌+◌, ◌-◌, ◌<◌, false, List, [], ◌∷◌, ◌++◌, sym, subst, refl, ap, ◌∙◌, arith}
+use Rattle.std.proofs.Common.{◌≡◌, ℕ, suc, ◌+◌, ◌-◌, ◌<◌, false, List, [], ◌∷◌, ◌++◌, sym, subst, refl, ap, ◌∙◌, arith, Bool}
 use Rattle.std.proofs.lemmas.Bool.{cases_eq, eq-eqb, ne_eqb, and_left}
 use Rattle.round_meaning.specs.Rounds.{algorithm_of}
 use Rattle.step_machine.specs.Frames.{Ready, IsPrepared}
@@ -8,7 +8,6 @@ use Rattle.step_machine.specs.declared.event.Event.TheVariants.{Step, Release}
 use Rattle.step_machine.specs.declared.event.Name.{Name}
 use Rattle.step_journal.specs.declared.mark.Mark.{Mark}
 use Rattle.step_journal.specs.declared.mark.Mark.TheVariants.{Unsent}
-use Rattle.step_journal.specs.declared.mark.Told.{Told}
 use Rattle.step_journal.specs.World.{is_receive}
 use Rattle.step_journal.specs.History.{mark_of, spoken, let_go, arrival, buffer_of}
 use Rattle.step_journal.specs.Log.{Log, Holds, IsName, IsDue, IsSlot, IsReceive, SameMarks, SameMarksBut, SameWaiting, SameWaitingBut, happened, world_of, history, round_of, count_of, mark_in, waiting_in}
@@ -29,7 +28,7 @@ name_same n m a b c =
 pub happened_first : (v : Log) (e : Event) → history (happened v e) ≡ e ∷ history v
 happened_first v e = pushed v.trace e (v.trace ++ e ∷ []) refl
 
-module _ {start : ℕ → ℕ} {nodes : ℕ} {v : Log} {counts : List ℕ} {marks : List Mark} {waiting : List (List Name)} {handed : List (List (List Name))} {told : List Told} (h : Holds start nodes v counts marks waiting handed told) where
+module _ {start : ℕ → ℕ} {nodes : ℕ} {v : Log} {counts : List ℕ} {marks : List Mark} {waiting : List (List Name)} {handed : List (List (List Name))} {answers : List Bool} (h : Holds start nodes v counts marks waiting handed answers) where
   -- a step that isn't its slot leaves a message as it was
   passed : (k : ℕ) (m : Name) → IsName v.setup m → (m.from ≡ k → IsSlot start v m → ⊥) → mark_in start (happened v (Step k)) m ≡ mark_in start v m
   passed k m a apart =

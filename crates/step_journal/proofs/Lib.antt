@@ -1,4 +1,5 @@
 pub mod Plans
+pub mod Mails
 pub mod Places
 pub mod Carried
 pub mod Kept

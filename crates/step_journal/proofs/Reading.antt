@@ -1,5 +1,5 @@
 -- What the reading calls of a record answer.
-use Rattle.std.proofs.Common.{◌≡◌, ℕ, ◌+◌, ◌-◌, ◌*◌, ◌<◌, ◌≤◌, List, [], ◌∷◌, ◌++◌, length, get_or, sym, subst, refl, ap, ◌∙◌, arith, ◌⊎◌, inl, inr}
+use Rattle.std.proofs.Common.{◌≡◌, ℕ, ◌+◌, ◌-◌, ◌*◌, ◌<◌, ◌≤◌, List, [], ◌∷◌, ◌++◌, length, get_or, sym, subst, refl, ap, ◌∙◌, arith, ◌⊎◌, inl, inr, Bool}
 use Rattle.std.proofs.lemmas.List.{get_or-map, length-map, get_or_default, get_or_past}
 use Rattle.std.proofs.lemmas.Bool.{cases_lt}
 use Rattle.std.specs.Prelude.{Vec}
@@ -11,17 +11,17 @@ use Rattle.step_machine.specs.declared.event.Event.{Event}
 use Rattle.step_machine.specs.declared.event.Name.{Name}
 use Rattle.step_journal.specs.declared.mark.Mark.{Mark}
 use Rattle.step_journal.specs.declared.mark.Mark.TheVariants.{Unsent}
-use Rattle.step_journal.specs.declared.mark.Told.{Told}
 use Rattle.step_journal.specs.World.{nodes_of}
 use Rattle.step_journal.specs.History.{handed_of}
 use Rattle.step_journal.specs.Agreement.{Row, row, place_of, IsBuffer}
-use Rattle.step_journal.specs.Log.{Log, Recorded, Holds, IsFaithful, IsFlying, IsName, happened, world_of, history, round_of, count_of, mark_in, waiting_in, states_of, rows_of, names_of, lists_of}
+use Rattle.step_journal.specs.Log.{Log, Recorded, Holds, IsFaithful, IsFlying, IsName, happened, world_of, history, round_of, count_of, mark_in, waiting_in, states_of, rows_of, handed_in, waits_in}
+use Rattle.step_journal.specs.Mailing.{Mailed}
 use Rattle.step_journal.proofs.Buffers.{buffer_counts}
 
 -- what holds of the fields holds of the view
-pub of_view : {P : Type 0} {s v : Recorded P} {counts : List ℕ} {marks : List Mark} {waiting : List (List Name)} {handed : List (List (List Name))} {told : List Told} (start : P → ℕ → ℕ) (nodes : P → ℕ) → s ≡ v → Holds (start s.plan) (nodes s.plan) s.log counts marks waiting handed told → Holds (start v.plan) (nodes v.plan) v.log counts marks waiting handed told
-of_view {P} {s} {v} {counts} {marks} {waiting} {handed} {told} start nodes e h =
-    subst (λ (z : Recorded P). Holds (start z.plan) (nodes z.plan) z.log counts marks waiting handed told) e h
+pub of_view : {P : Type 0} {s v : Recorded P} {counts : List ℕ} {marks : List Mark} {waiting : List (List Name)} {handed : List (List (List Name))} {answers : List Bool} (start : P → ℕ → ℕ) (nodes : P → ℕ) → s ≡ v → Holds (start s.plan) (nodes s.plan) s.log counts marks waiting handed answers → Holds (start v.plan) (nodes v.plan) v.log counts marks waiting handed answers
+of_view {P} {s} {v} {counts} {marks} {waiting} {handed} {answers} start nodes e h =
+    subst (λ (z : Recorded P). Holds (start z.plan) (nodes z.plan) z.log counts marks waiting handed answers) e h
 
 -- the nodes of a run are its setup's
 pub nodes_are : (start : ℕ → ℕ) (v : Log) → nodes_of (world_of start v) ≡ v.setup.nodes
@@ -31,7 +31,7 @@ nodes_are start v = refl
 pub one_of : (start : ℕ → ℕ) (v : Log) (k : ℕ) → k < v.setup.nodes → k < nodes_of (world_of start v)
 one_of start v k l = let n = nodes_are start v in omega (arith, n)
 
-module _ {start : ℕ → ℕ} {nodes : ℕ} {v : Log} {counts : List ℕ} {marks : List Mark} {waiting : List (List Name)} {handed : List (List (List Name))} {told : List Told} (h : Holds start nodes v counts marks waiting handed told) where
+module _ {start : ℕ → ℕ} {nodes : ℕ} {v : Log} {counts : List ℕ} {marks : List Mark} {waiting : List (List Name)} {handed : List (List (List Name))} {answers : List Bool} (h : Holds start nodes v counts marks waiting handed answers) where
   pub counts_len : length counts ≡ v.setup.nodes
   counts_len = h.book.counted ∙ nodes_are start v
 
@@ -118,19 +118,19 @@ row_read {A} {B} rows states k x e l y =
 pub row_size : {A B : Type 0} (rows : List Row) (states : List (Vec (Arc (List Value) A) B)) (k : ℕ) (x : Vec (Arc (List Value) A) B) → rows_of states ≡ rows → k < length rows → x ≡ get_or states k x → length (row rows k) ≡ length x.items
 row_size rows states k x e l y = ap length (row_read rows states k x e l y) ∙ length-map x.items (λ a. arc_value a)
 
--- a read of a node's list of names
-pub names_read : {A : Type 0} (lists : List (Vec Name A)) (k : ℕ) (x : Vec Name A) → k < length lists → x ≡ get_or lists k x → get_or (names_of lists) k [] ≡ x.items
-names_read {A} lists k x l y = get_or-map (λ (z : Vec Name A). z.items) lists k x [] l ∙ ap (λ (z : Vec Name A). z.items) (sym y)
+-- a read of the names that wait for a node
+pub waits_read : (mails : List Mailed) (k : ℕ) (x : Mailed) → k < length mails → x ≡ get_or mails k x → get_or (waits_in mails) k [] ≡ x.waiting
+waits_read mails k x l y = get_or-map (λ (z : Mailed). z.waiting) mails k x [] l ∙ ap (λ (z : Mailed). z.waiting) (sym y)
 
-pub names_len : {A : Type 0} (lists : List (Vec Name A)) → length (names_of lists) ≡ length lists
-names_len {A} lists = length-map lists (λ (z : Vec Name A). z.items)
+pub waits_len : (mails : List Mailed) → length (waits_in mails) ≡ length mails
+waits_len mails = length-map mails (λ (z : Mailed). z.waiting)
 
--- a read of a node's lists of names
-pub lists_read : {A B : Type 0} (lists : List (Vec (Vec Name A) B)) (k : ℕ) (x : Vec (Vec Name A) B) → k < length lists → x ≡ get_or lists k x → get_or (lists_of lists) k [] ≡ names_of x.items
-lists_read {A} {B} lists k x l y = get_or-map (λ (z : Vec (Vec Name A) B). names_of z.items) lists k x [] l ∙ ap (λ (z : Vec (Vec Name A) B). names_of z.items) (sym y)
+-- a read of the names that a node's receives handed out
+pub lists_read : (mails : List Mailed) (k : ℕ) (x : Mailed) → k < length mails → x ≡ get_or mails k x → get_or (handed_in mails) k [] ≡ x.handed
+lists_read mails k x l y = get_or-map (λ (z : Mailed). z.handed) mails k x [] l ∙ ap (λ (z : Mailed). z.handed) (sym y)
 
-pub lists_len : {A B : Type 0} (lists : List (Vec (Vec Name A) B)) → length (lists_of lists) ≡ length lists
-lists_len {A} {B} lists = length-map lists (λ (z : Vec (Vec Name A) B). names_of z.items)
+pub lists_len : (mails : List Mailed) → length (handed_in mails) ≡ length mails
+lists_len mails = length-map mails (λ (z : Mailed). z.handed)
 
 pub rows_of_len : {A B : Type 0} (states : List (Vec (Arc (List Value) A) B)) → length (rows_of states) ≡ length states
 rows_of_len {A} {B} states = length-map states (λ (z : Vec (Arc (List Value) A) B). states_of z.items)

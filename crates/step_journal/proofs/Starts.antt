@@ -1,5 +1,5 @@
 -- What a record begins with holds.
-use Rattle.std.proofs.Common.{◌≡◌, ℕ, ◌+◌, List, [], ◌∷◌, ◌++◌, sym, refl, ap, ◌∙◌, arith, map, replicate}
+use Rattle.std.proofs.Common.{◌≡◌, ℕ, zero, suc, ◌+◌, List, [], ◌∷◌, ◌++◌, sym, refl, ap, ◌∙◌, arith, map, replicate, Bool}
 use Rattle.std.specs.Prelude.{Vec}
 use Rattle.std.specs.List.{range_with_len}
 use Rattle.std.specs.declared.sync.Arc.{Arc}
@@ -12,11 +12,11 @@ use Rattle.round_meaning.specs.Setups.{IsLawful}
 use Rattle.slot_plans.specs.Plan.{PlanLaws}
 use Rattle.step_machine.specs.declared.event.Name.{Name}
 use Rattle.step_journal.specs.declared.mark.Mark.{Mark}
-use Rattle.step_journal.specs.declared.mark.Told.{Told}
 use Rattle.step_journal.specs.World.{World, IsPlan}
-use Rattle.step_journal.specs.History.{buffer_of, handed_of, told_of}
+use Rattle.step_journal.specs.History.{buffer_of, handed_of, answers_of}
 use Rattle.step_journal.specs.Agreement.{Row}
-use Rattle.step_journal.specs.Log.{Log, Holds, opened, world_of, states_of, rows_of}
+use Rattle.step_journal.specs.Log.{Log, Holds, handed_in, opened, world_of, states_of, rows_of, waits_in}
+use Rattle.step_journal.specs.Mailing.{Mailed, mailed}
 use Rattle.step_journal.proofs.Keeps.{agrees_empty}
 use Rattle.step_journal.proofs.Reading.{nodes_are}
 
@@ -41,13 +41,24 @@ handed_empty : (w : World) (i : ℕ) → handed_of w i [] ≡ []
 unfolding handed_of
 handed_empty w i = refl
 
-told_empty : (w : World) → told_of w [] ≡ []
-unfolding told_of
-told_empty w = refl
+answers_empty : (w : World) → answers_of w [] ≡ []
+unfolding answers_of
+answers_empty w = refl
+
+map_all : {A B : Type 0} (f : A → B) (n : ℕ) (x : A) → map f (replicate n x) ≡ replicate n (f x)
+map_all f zero x = refl
+map_all f (suc n) x = ap (λ xs. f x ∷ xs) (map_all f n x)
+
+-- no names wait, and none were handed out
+pub none_wait : (n : ℕ) (mails : List Mailed) → mails ≡ replicate n (mailed [] [] 0) → waits_in mails ≡ replicate n []
+none_wait n mails e = ap waits_in e ∙ map_all (λ (m : Mailed). m.waiting) n (mailed [] [] 0)
+
+pub none_handed : (n : ℕ) (mails : List Mailed) → mails ≡ replicate n (mailed [] [] 0) → handed_in mails ≡ replicate n []
+none_handed n mails e = ap handed_in e ∙ map_all (λ (m : Mailed). m.handed) n (mailed [] [] 0)
 
 -- a run that begins holds with nothing beside it
-pub begins : (start receives : ℕ → ℕ) (nodes : ℕ) (v : Log) (p : ProgramTree) (s : Setup) (counts : List ℕ) (marks : List Mark) (waiting : List (List Name)) (handed : List (List (List Name))) (told : List Told) → PlanLaws nodes receives start → IsLawful p.values s → nodes ≡ s.nodes → v ≡ opened p s → counts ≡ replicate s.nodes 0 → marks ≡ [] → waiting ≡ replicate s.nodes [] → handed ≡ replicate s.nodes [] → told ≡ [] → Holds start nodes v counts marks waiting handed told
-begins start receives nodes v p s counts marks waiting handed told laws lawful n is a b c d e =
+pub begins : (start receives : ℕ → ℕ) (nodes : ℕ) (v : Log) (p : ProgramTree) (s : Setup) (counts : List ℕ) (marks : List Mark) (waiting : List (List Name)) (handed : List (List (List Name))) (answers : List Bool) → PlanLaws nodes receives start → IsLawful p.values s → nodes ≡ s.nodes → v ≡ opened p s → counts ≡ replicate s.nodes 0 → marks ≡ [] → waiting ≡ replicate s.nodes [] → handed ≡ replicate s.nodes [] → answers ≡ [] → Holds start nodes v counts marks waiting handed answers
+begins start receives nodes v p s counts marks waiting handed answers laws lawful n is a b c d e =
     let o = opened p s in
     let w = world_of start o in
     let m = nodes_are start o in
@@ -64,7 +75,7 @@ begins start receives nodes v p s counts marks waiting handed told laws lawful n
       accounts = rw (d, e) (record {
         sized = length-replicate s.nodes [] ∙ sym m;
         handed = λ i l. get_or-replicate s.nodes i [] [] (omega arith) ∙ sym (handed_empty w i);
-        told = sym (told_empty w);
+        answered = sym (answers_empty w);
       });
     })
 

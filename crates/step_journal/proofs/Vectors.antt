@@ -1,4 +1,4 @@
--- The lists that vectors of vectors show, as one of them is written.
+-- The lists that vectors of mails and of states show, as one of them is written.
 use Rattle.std.proofs.Common.{◌≡◌, ℕ, ◌<◌, List, [], ◌∷◌, ◌++◌, length, get_or, set, sym, refl, ap, ◌∙◌, arith}
 use Rattle.std.specs.Prelude.{Vec}
 use Rattle.std.specs.Arc.{arc_value}
@@ -7,33 +7,33 @@ use Rattle.std.proofs.lemmas.List.{get_or-map, map-set, set-get_or}
 use Rattle.round_lang.specs.declared.value.Value.{Value}
 use Rattle.step_machine.specs.declared.event.Name.{Name}
 use Rattle.step_journal.specs.Agreement.{Row, row}
-use Rattle.step_journal.specs.Log.{states_of, rows_of, names_of, lists_of}
-use Rattle.step_journal.proofs.Reading.{names_read, lists_read, row_read, rows_of_len}
+use Rattle.step_journal.specs.Log.{states_of, rows_of, handed_in, waits_in}
+use Rattle.step_journal.specs.Mailing.{Mailed}
+use Rattle.step_journal.proofs.Reading.{waits_read, lists_read, row_read, rows_of_len}
 
-module _ {A : Type 0} (lists : List (Vec Name A)) (k : ℕ) where
-  -- one list is replaced
-  pub names_set : (new : Vec Name A) (b : List Name) → new.items ≡ b → names_of (set lists k new) ≡ set (names_of lists) k b
-  names_set new b e = map-set (λ (z : Vec Name A). z.items) lists k new ∙ ap (λ z. set (names_of lists) k z) e
+module _ (mails : List Mailed) (k : ℕ) where
+  -- the names that wait for one node are replaced
+  pub waits_set : (new : Mailed) (b : List Name) → new.waiting ≡ b → waits_in (set mails k new) ≡ set (waits_in mails) k b
+  waits_set new b e = map-set (λ (z : Mailed). z.waiting) mails k new ∙ ap (λ z. set (waits_in mails) k z) e
 
-  -- one list stays
-  pub names_same : (old new : Vec Name A) → k < length lists → old ≡ get_or lists k old → new.items ≡ old.items → names_of (set lists k new) ≡ names_of lists
-  names_same old new l h e = names_set new _ (e ∙ sym (names_read lists k old l h)) ∙ set-get_or (names_of lists) k []
+  -- they stay
+  pub waits_same : (old new : Mailed) → k < length mails → old ≡ get_or mails k old → new.waiting ≡ old.waiting → waits_in (set mails k new) ≡ waits_in mails
+  waits_same old new l h e = waits_set new _ (e ∙ sym (waits_read mails k old l h)) ∙ set-get_or (waits_in mails) k []
 
-  -- one list grows by a name
-  pub names_push : (old new : Vec Name A) (n : Name) → k < length lists → old ≡ get_or lists k old → new.items ≡ old.items ++ n ∷ [] → names_of (set lists k new) ≡ set (names_of lists) k (get_or (names_of lists) k [] ++ n ∷ [])
-  names_push old new n l h e = names_set new _ (e ∙ ap (λ z. z ++ n ∷ []) (sym (names_read lists k old l h)))
+  -- they grow by a name
+  pub waits_push : (old new : Mailed) (n : Name) → k < length mails → old ≡ get_or mails k old → new.waiting ≡ old.waiting ++ n ∷ [] → waits_in (set mails k new) ≡ set (waits_in mails) k (get_or (waits_in mails) k [] ++ n ∷ [])
+  waits_push old new n l h e = waits_set new _ (e ∙ ap (λ z. z ++ n ∷ []) (sym (waits_read mails k old l h)))
 
-module _ {A B : Type 0} (lists : List (Vec (Vec Name A) B)) (k : ℕ) where
-  lists_set : (new : Vec (Vec Name A) B) (b : List (List Name)) → names_of new.items ≡ b → lists_of (set lists k new) ≡ set (lists_of lists) k b
-  lists_set new b e = map-set (λ (z : Vec (Vec Name A) B). names_of z.items) lists k new ∙ ap (λ z. set (lists_of lists) k z) e
+  lists_set : (new : Mailed) (b : List (List Name)) → new.handed ≡ b → handed_in (set mails k new) ≡ set (handed_in mails) k b
+  lists_set new b e = map-set (λ (z : Mailed). z.handed) mails k new ∙ ap (λ z. set (handed_in mails) k z) e
 
-  -- the lists of one node stay
-  pub lists_same : (old new : Vec (Vec Name A) B) → k < length lists → old ≡ get_or lists k old → new.items ≡ old.items → lists_of (set lists k new) ≡ lists_of lists
-  lists_same old new l h e = lists_set new _ (ap names_of e ∙ sym (lists_read lists k old l h)) ∙ set-get_or (lists_of lists) k []
+  -- what the receives of one node handed out stays
+  pub lists_same : (old new : Mailed) → k < length mails → old ≡ get_or mails k old → new.handed ≡ old.handed → handed_in (set mails k new) ≡ handed_in mails
+  lists_same old new l h e = lists_set new _ (e ∙ sym (lists_read mails k old l h)) ∙ set-get_or (handed_in mails) k []
 
-  -- the lists of one node grow by a list
-  pub lists_push : (old new : Vec (Vec Name A) B) (b : List Name) → k < length lists → old ≡ get_or lists k old → names_of new.items ≡ names_of old.items ++ b ∷ [] → lists_of (set lists k new) ≡ set (lists_of lists) k (get_or (lists_of lists) k [] ++ b ∷ [])
-  lists_push old new b l h e = lists_set new _ (e ∙ ap (λ z. z ++ b ∷ []) (sym (lists_read lists k old l h)))
+  -- it grows by a list
+  pub lists_push : (old new : Mailed) (b : List Name) → k < length mails → old ≡ get_or mails k old → new.handed ≡ old.handed ++ b ∷ [] → handed_in (set mails k new) ≡ set (handed_in mails) k (get_or (handed_in mails) k [] ++ b ∷ [])
+  lists_push old new b l h e = lists_set new _ (e ∙ ap (λ z. z ++ b ∷ []) (sym (lists_read mails k old l h)))
 
 module _ {A B : Type 0} (states : List (Vec (Arc (List Value) A) B)) (k : ℕ) where
   rows_set : (new : Vec (Arc (List Value) A) B) (b : Row) → states_of new.items ≡ b → rows_of (set states k new) ≡ set (rows_of states) k b

@@ -4,8 +4,7 @@ use Rattle.std.specs.List.{count_by, range_with_len}
 use Rattle.round_lang.specs.declared.value.Value.{Value}
 use Rattle.step_journal.specs.declared.mark.Mark.{Mark}
 use Rattle.step_journal.specs.declared.mark.Mark.TheVariants.{Unsent}
-use Rattle.step_journal.specs.declared.mark.Told.{Told}
-use Rattle.step_journal.specs.History.{state, mark_of, buffer_of, handed_of, told_of, is_buffered}
+use Rattle.step_journal.specs.History.{state, mark_of, buffer_of, handed_of, answers_of, is_buffered}
 use Rattle.step_journal.specs.Trace.{steps}
 use Rattle.step_journal.specs.World.{World, nodes_of}
 use Rattle.step_machine.specs.declared.event.Event.{Event}
@@ -56,11 +55,11 @@ pub record Waits (w : World) (t : List Event) (buffers : List (List Name)) : Typ
   pub sized : length buffers ≡ nodes_of w
   pub held : (i : ℕ) → i < nodes_of w → slice_index_or buffers i [] ≡ buffer_of w i t
 
--- what was handed out and told is what the history says
-pub record Accounts (w : World) (t : List Event) (lists : List (List (List Name))) (answers : List Told) : Type 0 where
+-- what was handed out and answered is what the history says
+pub record Accounts (w : World) (t : List Event) (lists : List (List (List Name))) (answers : List Bool) : Type 0 where
   pub sized : length lists ≡ nodes_of w
   pub handed : (i : ℕ) → i < nodes_of w → slice_index_or lists i [] ≡ handed_of w i t
-  pub told : answers ≡ told_of w t
+  pub answered : answers ≡ answers_of w t
 
 abbrev pub is_named : ℕ → ℕ → ℕ → Name → Bool
 is_named j i r n = n.from == j && n.to == i && n.round == r

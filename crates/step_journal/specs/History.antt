@@ -4,7 +4,6 @@ use Rattle.round_lang.specs.declared.value.Value.{Value}
 use Rattle.round_meaning.specs.Rounds.{rounds}
 use Rattle.step_journal.specs.declared.mark.Mark.{Mark}
 use Rattle.step_journal.specs.declared.mark.Mark.TheVariants.{Unsent, Silent, Flying, Released}
-use Rattle.step_journal.specs.declared.mark.Told.{Told}
 use Rattle.step_journal.specs.Trace.{is_step, steps, sent, released, taken, carried}
 use Rattle.step_journal.specs.World.{World, is_receive}
 use Rattle.step_machine.specs.declared.event.Event.{Event}
@@ -77,11 +76,11 @@ is_flying Silent = false
 is_flying Flying = true
 is_flying (Released s) = false
 
-abbrev pub told_by : World → Event → List Event → List Told
-told_by w (Step k) past = []
-told_by w (Release n) past = record { name = n; moved = is_flying (mark_of w past n.from n.to (n.round - 1)) } ∷ []
+abbrev pub answer_to : World → Event → List Event → List Bool
+answer_to w (Step k) past = []
+answer_to w (Release n) past = is_flying (mark_of w past n.from n.to (n.round - 1)) ∷ []
 
--- the releases, each with its answer
-unfoldable pub told_of : World → List Event → List Told
-told_of w [] = []
-told_of w (e ∷ past) = told_of w past ++ told_by w e past
+-- the answers that the releases got: whether the message was in flight
+unfoldable pub answers_of : World → List Event → List Bool
+answers_of w [] = []
+answers_of w (e ∷ past) = answers_of w past ++ answer_to w e past

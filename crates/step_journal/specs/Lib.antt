@@ -8,6 +8,7 @@ pub mod Trace
 pub mod History
 pub mod Agreement
 pub mod Work
+pub mod Mailing
 pub mod Log
 pub mod Causes
 pub mod Stock

@@ -1,5 +1,5 @@
 -- What contracts see of the record of a run.
-use Rattle.std.specs.Prelude.{◌≡◌, ℕ, ◌+◌, ◌-◌, ◌<◌, ◌≤◌, ◌≢◌, true, List, [], ◌∷◌, ◌++◌, length, map, reverse, slice_index_or, slice_set, Vec}
+use Rattle.std.specs.Prelude.{◌≡◌, ℕ, ◌+◌, ◌-◌, ◌<◌, ◌≤◌, ◌≢◌, Bool, true, List, [], ◌∷◌, ◌++◌, length, map, reverse, slice_index_or, slice_set, Vec}
 use Rattle.std.specs.Arc.{arc_value}
 use Rattle.std.specs.List.{range_with_len}
 use Rattle.std.specs.declared.sync.Arc.{Arc}
@@ -10,9 +10,9 @@ use Rattle.round_meaning.specs.Rounds.{algorithm_of}
 use Rattle.round_meaning.specs.Setups.{IsLawful}
 use Rattle.step_journal.specs.declared.mark.Mark.{Mark}
 use Rattle.step_journal.specs.declared.mark.Mark.TheVariants.{Flying}
-use Rattle.step_journal.specs.declared.mark.Told.{Told}
 use Rattle.step_journal.specs.Agreement.{Row, row, Agrees, Waits, Accounts}
 use Rattle.step_journal.specs.History.{state, mark_of, buffer_of}
+use Rattle.step_journal.specs.Mailing.{Mailed}
 use Rattle.step_journal.specs.Trace.{steps}
 use Rattle.step_journal.specs.World.{World, IsPlan, is_receive}
 use Rattle.step_machine.specs.declared.event.Event.{Event}
@@ -129,13 +129,13 @@ pub record IsFaithful (start : ℕ → ℕ) (v : Log) : Type 0 where
   pub stated : (i r : ℕ) → i < v.setup.nodes → r < round_of v i → slice_index_or (row v.rows i) r [] ≡ state (world_of start v) (history v) r i
 
 -- what is kept beside the run is what its history says
-pub record Holds (start : ℕ → ℕ) (nodes : ℕ) (v : Log) (counts : List ℕ) (marks : List Mark) (waiting : List (List Name)) (handed : List (List (List Name))) (told : List Told) : Type 0 where
+pub record Holds (start : ℕ → ℕ) (nodes : ℕ) (v : Log) (counts : List ℕ) (marks : List Mark) (waiting : List (List Name)) (handed : List (List (List Name))) (answers : List Bool) : Type 0 where
   pub lawful : IsLawful v.program.values v.setup
   pub sized : nodes ≡ v.setup.nodes
   pub plan : IsPlan (world_of start v)
   pub book : Agrees (world_of start v) (history v) counts v.rows marks
   pub waits : Waits (world_of start v) (history v) waiting
-  pub accounts : Accounts (world_of start v) (history v) handed told
+  pub accounts : Accounts (world_of start v) (history v) handed answers
 
 -- the states that a row shares
 abbrev pub states_of : {A : Type 0} → List (Arc (List Value) A) → Row
@@ -144,8 +144,10 @@ states_of xs = map (λ a. arc_value a) xs
 abbrev pub rows_of : {A B : Type 0} → List (Vec (Arc (List Value) A) B) → List Row
 rows_of xs = map (λ v. states_of v.items) xs
 
-abbrev pub names_of : {A : Type 0} → List (Vec Name A) → List (List Name)
-names_of xs = map (λ v. v.items) xs
+-- the names that wait for each node
+abbrev pub waits_in : List Mailed → List (List Name)
+waits_in ms = map (λ m. m.waiting) ms
 
-abbrev pub lists_of : {A B : Type 0} → List (Vec (Vec Name A) B) → List (List (List Name))
-lists_of xs = map (λ v. names_of v.items) xs
+-- the names that the receives of each node handed out
+abbrev pub handed_in : List Mailed → List (List (List Name))
+handed_in ms = map (λ m. m.handed) ms

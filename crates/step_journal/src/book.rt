@@ -6,16 +6,17 @@ ghost use Rattle.step_machine.specs.Frames.{IsPrepared};
 ghost use Rattle.step_journal.specs.Agreed.{JournalAgrees, KeepsClosed};
 ghost use Rattle.step_journal.specs.Agreement.{IsBuffer, row};
 ghost use Rattle.step_journal.specs.Causes.{CloseCause, IdleCause, IsDueIn, IsKnown, IsReceiveFit, IsSendFit, ReceiveCause, SendCause};
-ghost use Rattle.step_journal.specs.History.{arrival, handed_of, let_go, spoken, told_of};
-ghost use Rattle.step_journal.specs.Log.{IsDue, IsFaithful, IsFlying, IsName, IsReceive, SameMarks, SameMarksBut, SameWaiting, SameWaitingBut, closed, count_of, happened, history, mark_in, names_of, opened, round_of, state_before, states_of, waiting_in, world_of};
+ghost use Rattle.step_journal.specs.History.{answers_of, arrival, handed_of, let_go, spoken};
+ghost use Rattle.step_journal.specs.Log.{IsDue, IsFaithful, IsFlying, IsName, IsReceive, SameMarks, SameMarksBut, SameWaiting, SameWaitingBut, closed, count_of, happened, history, mark_in, opened, round_of, state_before, states_of, waiting_in, world_of};
 ghost use Rattle.step_journal.specs.Work.{AreCarried, heard_from, tag_of};
 
 use crate::fault::{CloseFault, IdleFault, ReceiveFault, SendFault};
-use crate::mark::{Mark, Told};
+use crate::mail::Mail;
+use crate::mark::Mark;
 use crate::notes::{
     note_close, note_idle_release, note_receive, note_release, note_send, note_step,
 };
-use crate::opening::{first_rows, no_lists, no_names, no_steps};
+use crate::opening::{first_rows, no_mail, no_steps};
 use crate::tags::{is_tagged, is_within};
 use round_check::Checked;
 use round_lang::{NoMemory, Vars};
@@ -27,10 +28,9 @@ use std::sync::Arc;
 use step_machine::{Event, Finished, Name, Prepared, Sealed};
 
 /// The record of a run: its events, the steps of each node, the states of its closed rounds, what
-/// became of each message, what each receive handed out, and the releases with their answers.
+/// became of each message, what each receive handed out, and how each release was answered.
 #[derive(Drop)]
 pub struct Book<P: Plan> {
-    alloc: Global,
     program: Checked,
     setup: Setup,
     plan: P,
@@ -38,13 +38,12 @@ pub struct Book<P: Plan> {
     steps: Vec<u64>,
     states: Vec<Vec<Arc<Vars>>>,
     marks: Vec<Mark>,
-    waiting: Vec<Vec<Name>>,
-    handed: Vec<Vec<Vec<Name>>>,
-    told: Vec<Told>,
+    mails: Vec<Mail>,
+    answers: Vec<bool>,
 }
 
 impl<P: Plan> Model for Book<P> {
-    ghost use Rattle.step_journal.specs.Log.{Recorded, Holds, rows_of, names_of, lists_of};
+    ghost use Rattle.step_journal.specs.Log.{Recorded, Holds, rows_of, handed_in, waits_in};
     ghost use Rattle.round_lang.specs.contracts.formula.Formula as formula;
     ghost use Rattle.std.specs.Coded.{codes};
 
@@ -69,7 +68,7 @@ impl<P: Plan> Model for Book<P> {
           trace = s.trace.items;
           rows = rows_of s.states.items;
         })
-        s.steps.items s.marks.items (names_of s.waiting.items) (lists_of s.handed.items) s.told.items };
+        s.steps.items s.marks.items (waits_in s.mails.items) (handed_in s.mails.items) s.answers.items };
 }
 
 impl<P: Plan> Book<P> {
@@ -86,10 +85,8 @@ impl<P: Plan> Book<P> {
     {
         let states = first_rows(alloc, program, setup)?;
         let steps = no_steps(alloc, setup.nodes)?;
-        let waiting = no_names(alloc, setup.nodes)?;
-        let handed = no_lists(alloc, setup.nodes)?;
+        let mails = no_mail(alloc, setup.nodes)?;
         Ok(Book {
-            alloc,
             program: program.copy()?,
             setup: setup.copy()?,
             plan,
@@ -97,10 +94,17 @@ impl<P: Plan> Book<P> {
             steps,
             states,
             marks: Vec::new(alloc),
-            waiting,
-            handed,
-            told: Vec::new(alloc),
+            mails,
+            answers: Vec::new(alloc),
         })
+    }
+
+    /// Makes room for so many events more, so that recording them moves none of those before.
+    pub fn reserve(&mut self, events: usize) -> Result<(), NoMemory>
+        ensures { self.new ≡ self.old }
+    {
+        self.trace.reserve(events)?;
+        Ok(())
     }
 
     pub fn program(&self) -> &Checked
@@ -195,22 +199,25 @@ impl<P: Plan> Book<P> {
         ensures value { result.now ≡ waiting_in (P.start self.now.plan) self.now.log node }
         ensures once { IsBuffer (world_of (P.start self.now.plan) self.now.log) (history self.now.log) node result.now }
     {
-        &self.waiting[node as usize]
+        let mail = self.mail(node);
+        mail.waiting()
     }
 
-    /// The names that each receive of a node handed out.
-    pub fn handed(&self, node: u32) -> &[Vec<Name>]
+    /// The names released to a node: those that each of its receives handed out, and those that wait.
+    pub fn mail(&self, node: u32) -> &Mail
         requires { node < self.now.log.setup.nodes }
-        ensures { names_of result.now ≡ handed_of (world_of (P.start self.now.plan) self.now.log) node (history self.now.log) }
+        ensures handed { result.now.handed ≡ handed_of (world_of (P.start self.now.plan) self.now.log) node (history self.now.log) }
+        ensures waiting { result.now.waiting ≡ waiting_in (P.start self.now.plan) self.now.log node }
+        ensures once { IsBuffer (world_of (P.start self.now.plan) self.now.log) (history self.now.log) node result.now.waiting }
     {
-        &self.handed[node as usize]
+        &self.mails[node as usize]
     }
 
-    /// The releases, each with its answer.
-    pub fn told(&self) -> &[Told]
-        ensures { result.now ≡ told_of (world_of (P.start self.now.plan) self.now.log) (history self.now.log) }
+    /// The answers that the releases got, in their order: whether a message moved.
+    pub fn answers(&self) -> &[bool]
+        ensures { result.now ≡ answers_of (world_of (P.start self.now.plan) self.now.log) (history self.now.log) }
     {
-        &self.told
+        &self.answers
     }
 
     /// The place of a message in the table of all.
@@ -325,13 +332,10 @@ impl<P: Plan> Book<P> {
         if !self.is_receive(node) {
             return Err(ReceiveFault::NotItsSlot);
         }
-        let alloc = self.alloc;
         note_receive(
-            alloc,
             &mut self.trace,
             &mut self.steps,
-            &mut self.handed[node as usize],
-            &mut self.waiting[node as usize],
+            &mut self.mails[node as usize],
             node,
         )?;
         Ok(())
@@ -356,14 +360,14 @@ impl<P: Plan> Book<P> {
         if self.is_flying(name) {
             note_release(
                 &mut self.trace,
-                &mut self.told,
-                &mut self.waiting[name.to as usize],
+                &mut self.answers,
+                &mut self.mails[name.to as usize],
                 name,
             )?;
             self.marks[place] = Mark::Released(count);
             return Ok(true);
         }
-        note_idle_release(&mut self.trace, &mut self.told, name)?;
+        note_idle_release(&mut self.trace, &mut self.answers, name)?;
         Ok(false)
     }
 

@@ -3,10 +3,14 @@ ghost use Rattle.std.specs.Prelude.{◌≡◌, ◌<◌, ◌++◌, [], MatchOptio
 ghost use Rattle.step_journal.specs.Stock.{SameFlying, flying_at};
 
 use round_lang::NoMemory;
+use round_meaning::MAX_NODES;
 use std::alloc::Global;
 use std::marker::Model;
 use std::mem;
 use step_machine::Sealed;
+
+/// For how many frames there is room at first: a run has no more nodes.
+const FIRST_ROOM: usize = MAX_NODES as usize;
 
 /// The frames in flight to a node, by their places in a table that grows with the rounds, and those
 /// that were released to it and not yet taken.
@@ -72,13 +76,18 @@ impl Buffer {
         Ok(())
     }
 
-    /// Makes room for one more frame that waits.
+    /// Makes room for one more frame that waits; the first time, for one of each node.
     pub fn reserve_waiting(&mut self) -> Result<(), NoMemory>
         ensures room { OnOk result (0 < self.new.spare) }
         ensures flying { self.new.flying ≡ self.old.flying }
         ensures waiting { self.new.waiting ≡ self.old.waiting }
     {
-        self.waiting.reserve(1)?;
+        let wanted = if self.waiting.is_empty() {
+            FIRST_ROOM
+        } else {
+            1
+        };
+        self.waiting.reserve(wanted)?;
         Ok(())
     }
 

@@ -78,6 +78,13 @@ impl<P: Plan> Journal<P> {
         Ok(Journal { book, buffers })
     }
 
+    /// Makes room for so many events more, so that recording them moves none of those before.
+    pub fn reserve(&mut self, events: usize) -> Result<(), NoMemory>
+        ensures { self.new ≡ self.old }
+    {
+        self.book.reserve(events)
+    }
+
     /// What is recorded.
     pub fn book(&self) -> &Book<P>
         ensures { result.now ≡ self.now }

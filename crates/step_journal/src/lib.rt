@@ -5,6 +5,7 @@ mod book;
 mod buffer;
 mod fault;
 mod journal;
+mod mail;
 mod mark;
 mod notes;
 mod opening;
@@ -14,7 +15,8 @@ pub use book::Book;
 pub use buffer::Buffer;
 pub use fault::{CloseFault, IdleFault, ReceiveFault, Refused, SendFault};
 pub use journal::{Journal, Took};
-pub use mark::{Mark, Told};
+pub use mail::Mail;
+pub use mark::Mark;
 
 #[cfg(test)]
 mod tests;

@@ -2,12 +2,11 @@
 //! leaves each field as it was.
 ghost use Rattle.std.specs.Prelude.{◌≡◌, ◌+◌, ◌<◌, ◌≤◌, [], ◌∷◌, ◌++◌, OnOk, OnErr, false, slice_index, slice_set, true, vec_len};
 ghost use Rattle.step_journal.specs.Agreement.{Puts, SameTable};
-ghost use Rattle.step_journal.specs.Log.{ended, names_of, states_of};
+ghost use Rattle.step_journal.specs.Log.{ended, states_of};
 
-use crate::mark::{Mark, Told};
+use crate::mail::Mail;
+use crate::mark::Mark;
 use round_lang::{NoMemory, Vars};
-use std::alloc::Global;
-use std::mem;
 use std::sync::Arc;
 use step_machine::{Event, Finished, Name};
 
@@ -66,56 +65,47 @@ pub(crate) fn note_send(
 
 /// A receive: what waits is handed out.
 pub(crate) fn note_receive(
-    alloc: Global,
     trace: &mut Vec<Event>,
     steps: &mut Vec<u64>,
-    handed: &mut Vec<Vec<Name>>,
-    waiting: &mut Vec<Name>,
+    mail: &mut Mail,
     node: u32,
 ) -> Result<(), NoMemory>
     requires node_in { node < vec_len steps.old }
     requires counted { slice_index steps.old.items node ≤ vec_len trace.old }
     ensures trace { OnOk result (trace.new.items ≡ trace.old.items ++ Event.Step node ∷ []) }
     ensures steps { OnOk result (steps.new.items ≡ slice_set steps.old.items node (slice_index steps.old.items node + 1)) }
-    ensures handed { OnOk result (names_of handed.new.items ≡ names_of handed.old.items ++ waiting.old.items ∷ []) }
-    ensures waiting { OnOk result (waiting.new.items ≡ []) }
+    ensures handed { OnOk result (mail.new.handed ≡ mail.old.handed ++ mail.old.waiting ∷ []) }
+    ensures waiting { OnOk result (mail.new.waiting ≡ []) }
     ensures trace_kept { OnErr result (trace.new.items ≡ trace.old.items) }
     ensures steps_kept { OnErr result (steps.new.items ≡ steps.old.items) }
-    ensures handed_kept { OnErr result (handed.new.items ≡ handed.old.items) }
-    ensures waiting_kept { OnErr result (waiting.new.items ≡ waiting.old.items) }
+    ensures mail_kept { OnErr result (mail.new ≡ mail.old) }
 {
-    handed.reserve(1)?;
-    note_step(trace, steps, node)?;
-    handed.push_reserved(take_all(alloc, waiting));
+    trace.reserve(1)?;
+    mail.hand_out()?;
+    trace.push_reserved(Event::Step(node));
+    steps[node as usize] += 1;
     Ok(())
-}
-
-/// Takes what waits.
-fn take_all(alloc: Global, waiting: &mut Vec<Name>) -> Vec<Name>
-    ensures all { result.items ≡ waiting.old.items }
-    ensures none { waiting.new.items ≡ [] }
-{
-    mem::replace(waiting, Vec::new(alloc))
 }
 
 /// A release of a message to those that wait.
 pub(crate) fn note_release(
     trace: &mut Vec<Event>,
-    told: &mut Vec<Told>,
-    waiting: &mut Vec<Name>,
+    answers: &mut Vec<bool>,
+    mail: &mut Mail,
     name: Name,
 ) -> Result<(), NoMemory>
     ensures trace { OnOk result (trace.new.items ≡ trace.old.items ++ Event.Release name ∷ []) }
-    ensures told { OnOk result (told.new.items ≡ told.old.items ++ record { name = name; moved = true } ∷ []) }
-    ensures waiting { OnOk result (waiting.new.items ≡ waiting.old.items ++ name ∷ []) }
+    ensures answers { OnOk result (answers.new.items ≡ answers.old.items ++ true ∷ []) }
+    ensures handed { OnOk result (mail.new.handed ≡ mail.old.handed) }
+    ensures waiting { OnOk result (mail.new.waiting ≡ mail.old.waiting ++ name ∷ []) }
     ensures trace_kept { OnErr result (trace.new.items ≡ trace.old.items) }
-    ensures told_kept { OnErr result (told.new.items ≡ told.old.items) }
-    ensures waiting_kept { OnErr result (waiting.new.items ≡ waiting.old.items) }
+    ensures answers_kept { OnErr result (answers.new.items ≡ answers.old.items) }
+    ensures mail_kept { OnErr result (mail.new ≡ mail.old) }
 {
     trace.reserve(1)?;
-    told.reserve(1)?;
-    waiting.push(name)?;
-    told.push_reserved(Told { name, moved: true });
+    answers.reserve(1)?;
+    mail.push(name)?;
+    answers.push_reserved(true);
     trace.push_reserved(Event::Release(name));
     Ok(())
 }
@@ -123,16 +113,16 @@ pub(crate) fn note_release(
 /// A release that moves nothing.
 pub(crate) fn note_idle_release(
     trace: &mut Vec<Event>,
-    told: &mut Vec<Told>,
+    answers: &mut Vec<bool>,
     name: Name,
 ) -> Result<(), NoMemory>
     ensures trace { OnOk result (trace.new.items ≡ trace.old.items ++ Event.Release name ∷ []) }
-    ensures told { OnOk result (told.new.items ≡ told.old.items ++ record { name = name; moved = false } ∷ []) }
+    ensures answers { OnOk result (answers.new.items ≡ answers.old.items ++ false ∷ []) }
     ensures trace_kept { OnErr result (trace.new.items ≡ trace.old.items) }
-    ensures told_kept { OnErr result (told.new.items ≡ told.old.items) }
+    ensures answers_kept { OnErr result (answers.new.items ≡ answers.old.items) }
 {
     trace.reserve(1)?;
-    told.push(Told { name, moved: false })?;
+    answers.push(false)?;
     trace.push_reserved(Event::Release(name));
     Ok(())
 }

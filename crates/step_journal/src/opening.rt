@@ -1,13 +1,14 @@
 //! What a record begins with.
 ghost use Rattle.std.specs.Prelude.{◌≡◌, [], IfOk, replicate};
-ghost use Rattle.step_journal.specs.Log.{lists_of, names_of, opened, rows_of};
+ghost use Rattle.step_journal.specs.Log.{opened, rows_of};
+ghost use Rattle.step_journal.specs.Mailing.{mailed};
 
+use crate::mail::Mail;
 use round_check::Checked;
 use round_lang::{NoMemory, Vars};
 use round_meaning::{Setup, initial_of};
 use std::alloc::Global;
 use std::sync::Arc;
-use step_machine::Name;
 
 /// A row with its initial state for each node.
 pub(crate) fn first_rows(
@@ -27,26 +28,15 @@ pub(crate) fn first_rows(
     Ok(rows)
 }
 
-/// As many empty lists of names.
-pub(crate) fn no_names(alloc: Global, count: u32) -> Result<Vec<Vec<Name>>, NoMemory>
-    ensures { IfOk result (λ names. names_of names.items ≡ replicate count []) }
+/// No names for each node.
+pub(crate) fn no_mail(alloc: Global, count: u32) -> Result<Vec<Mail>, NoMemory>
+    ensures { IfOk result (λ mails. mails.items ≡ replicate count (mailed [] [] 0)) }
 {
-    let mut names = Vec::new(alloc);
+    let mut mails = Vec::new(alloc);
     for _node in 0..count {
-        names.push(Vec::new(alloc))?;
+        mails.push(Mail::new(alloc))?;
     }
-    Ok(names)
-}
-
-/// As many empty lists of lists of names.
-pub(crate) fn no_lists(alloc: Global, count: u32) -> Result<Vec<Vec<Vec<Name>>>, NoMemory>
-    ensures { IfOk result (λ lists. lists_of lists.items ≡ replicate count []) }
-{
-    let mut lists = Vec::new(alloc);
-    for _node in 0..count {
-        lists.push(Vec::new(alloc))?;
-    }
-    Ok(lists)
+    Ok(mails)
 }
 
 /// A step count of 0 for each node.

@@ -158,7 +158,7 @@ fn releases_count_after_the_send(rt: HostRuntime) -> Result<(), Fail> {
     let (journal, answers) = play(&rt, alloc, &program, &[0, 1], 1, acts)?;
     let expected = "false, sent, true, false, sent, sent, false, took 1>0:1 Kept, closed, false";
     told(&rt, &answers, expected);
-    let answered = journal.book().told().iter().filter(|release| release.moved);
+    let answered = journal.book().answers().iter().filter(|moved| **moved);
     assert_eq!(rt; answered.count(), 1);
     assert_eq!(rt; gathered(&journal, 0)?, 0b11);
     Ok(())
@@ -270,7 +270,9 @@ fn what_a_journal_tells(rt: HostRuntime) -> Result<(), Fail> {
     assert_eq!(rt; (book.count_of(1), book.is_due(1)), (2, false));
     assert_eq!(rt; book.mark(to_0), Mark::Released(1));
     assert_eq!(rt; book.mark(to_1), Mark::Silent);
-    assert_eq!(rt; book.handed(0).len(), 1);
+    assert_eq!(rt; book.mail(0).receives(), 1);
+    assert_eq!(rt; book.mail(0).handed(0).first().copied(), Some(to_0));
+    assert!(rt; book.mail(0).handed(1).is_empty());
     assert_eq!(rt; book.waiting(1).get(0).copied(), Some(own));
     let waits = journal.waiting(1);
     assert_eq!(rt; waits.len(), 1);
@@ -284,7 +286,9 @@ fn a_message_in_flight(rt: HostRuntime) -> Result<(), Fail> {
     let alloc = rt.alloc();
     let program = gather(alloc, 2)?;
     let acts: &[Act] = &[send(1, 0)];
-    let (journal, _) = play(&rt, alloc, &program, &[0, 1], 1, acts)?;
+    let (mut journal, _) = play(&rt, alloc, &program, &[0, 1], 1, acts)?;
+    journal.reserve(8)?;
+    assert_eq!(rt; journal.book().trace().len(), 1);
     let name = name(&journal, 1, 0)?;
     assert!(rt; journal.book().is_flying(name));
     let frame = journal.in_flight(name).ok_or("in flight")?;

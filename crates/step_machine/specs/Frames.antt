@@ -1,8 +1,18 @@
 -- Messages on their way, and what a node has ready for a send slot.
-use Rattle.std.specs.Prelude.{◌≡◌, List, Option, Some, option_map}
+use Rattle.std.specs.Prelude.{◌≡◌, List, [], Option, Some, option_map}
+use Rattle.std.specs.Option.{unwrap_or}
 use Rattle.round_lang.specs.declared.value.Value.{Value}
 use Rattle.round_meaning.specs.Rounds.{Algorithm}
 use Rattle.step_machine.specs.declared.event.Name.{Name}
+
+-- what is said in a state: a message, or silence
+pub record Saying : Type 0 where
+  pub state : List Value
+  pub message : Option (List Value)
+
+-- the message, where there is one
+abbrev pub message_in : Saying → List Value
+message_in s = unwrap_or s.message []
 
 -- a message under its name, with its sender's state
 pub record Frame : Type 0 where

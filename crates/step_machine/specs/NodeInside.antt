@@ -4,7 +4,7 @@ use Rattle.std.specs.Arc.{arc_value}
 use Rattle.std.specs.Option.{ForSome}
 use Rattle.round_meaning.specs.Setups.{IsSized}
 use Rattle.step_machine.specs.declared.node.Node.TheInside.{Inside}
-use Rattle.step_machine.specs.Nodes.{NodeView, IsHeld, IsSaidToAll, algorithm_in}
+use Rattle.step_machine.specs.Nodes.{NodeView, IsHeld, IsToldToAll, algorithm_in}
 
 abbrev pub node_seen : Inside → NodeView
 node_seen s = record {
@@ -23,4 +23,4 @@ pub record IsKept (s : Inside) : Type 0 where
   pub me : s.me < s.setup.nodes
   pub sized : length s.held.items ≡ s.setup.nodes
   pub held : IsHeld (algorithm_in (node_seen s)) s.setup.nodes s.me s.round s.held.items
-  pub spoken : ForSome s.spoken (IsSaidToAll (node_seen s))
+  pub spoken : ForSome s.spoken (λ a. IsToldToAll (node_seen s) (arc_value a))

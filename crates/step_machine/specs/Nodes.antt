@@ -7,7 +7,7 @@ use Rattle.round_lang.specs.Syntax.{ProgramTree}
 use Rattle.round_meaning.specs.declared.received.Received.{Received}
 use Rattle.round_meaning.specs.declared.setup.Setup.{Setup}
 use Rattle.round_meaning.specs.Rounds.{Algorithm, algorithm_of}
-use Rattle.step_machine.specs.Frames.{Frame, Spells}
+use Rattle.step_machine.specs.Frames.{Frame, Saying, Spells}
 
 -- how many rounds ahead of its round a node keeps frames
 abbrev pub ahead : ℕ
@@ -26,9 +26,13 @@ pub record NodeView : Type 0 where
 abbrev pub algorithm_in : NodeView → Algorithm
 algorithm_in n = algorithm_of n.program n.setup
 
--- in its round the node sends this, a message or silence, to every node
-abbrev pub IsSaidToAll : NodeView → Option (List Value) → Type 0
-IsSaidToAll n m = (dest : ℕ) → (algorithm_in n).send n.round n.state n.me dest ≡ m
+-- what the node says to another in its round
+abbrev pub said_to : NodeView → ℕ → Saying
+said_to n dest = record { state = n.state; message = (algorithm_in n).send n.round n.state n.me dest }
+
+-- in its round the node says this to every node
+abbrev pub IsToldToAll : NodeView → Saying → Type 0
+IsToldToAll n s = (dest : ℕ) → said_to n dest ≡ s
 
 -- the frame of a sender, none where none is held
 abbrev pub held_at : List (Option Frame) → ℕ → Option Frame

@@ -4,8 +4,8 @@
 mod event;
 mod node;
 mod prepared;
+mod said;
 mod sealed;
-mod spoken;
 
 pub use event::{Event, InFlight, Name};
 pub use node::{Finished, Node, Taken};

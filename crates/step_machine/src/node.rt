@@ -5,18 +5,18 @@ ghost use Rattle.std.specs.Prelude.{◌≡◌, ◌≢◌, ℕ, ◌+◌, ◌<◌,
 ghost use Rattle.round_meaning.specs.Rounds.{algorithm_of};
 ghost use Rattle.round_meaning.specs.Setups.{IsSized};
 ghost use Rattle.step_machine.specs.Frames.{Spells};
-ghost use Rattle.step_machine.specs.Nodes.{IsDoubled, IsEnd, IsHeld, IsSameTurn, ahead, algorithm_in, held_at, inbox_of};
+ghost use Rattle.step_machine.specs.Nodes.{IsDoubled, IsEnd, IsHeld, IsSameTurn, ahead, algorithm_in, held_at, inbox_of, said_to};
 
 mod finished;
 
 use crate::event::Name;
 use crate::prepared::Prepared;
+use crate::said::Said;
 use crate::sealed::Sealed;
-use crate::spoken::Spoken;
 pub use finished::Finished;
 use round_check::Checked;
-use round_lang::{Message, NoMemory, Vars};
-use round_meaning::{Received, Setup, end_of, initial_of, is_broadcast, send_of};
+use round_lang::{NoMemory, Vars};
+use round_meaning::{Heard, Setup, end_of, initial_of, is_broadcast, send_of};
 use std::alloc::Global;
 use std::marker::Model;
 use std::sync::Arc;
@@ -46,7 +46,7 @@ pub struct Node {
     state: Arc<Vars>,
     held: Vec<Option<Sealed>>,
     next: Option<Arc<Vars>>,
-    spoken: Option<Spoken>,
+    spoken: Option<Arc<Said>>,
 }
 
 impl Model for Node {
@@ -120,38 +120,32 @@ impl Node {
         }) }
         ensures same { self.new ≡ self.old }
     {
-        let message = self.message_to(dest)?;
+        let said = self.said_to(dest)?;
         let name = Name {
             from: self.me,
             to: dest,
             round: self.round,
         };
-        let state = Arc::try_clone(&self.state)?;
-        Ok(Prepared::new(name, state, message))
+        Ok(Prepared::new(name, said))
     }
 
-    /// The message to `dest`, or silence.
-    fn message_to(&mut self, dest: u32) -> Result<Option<Arc<Message>>, NoMemory>
-        ensures says { IfOk result (λ m. option_map (λ a. arc_value a) m
-            ≡ (algorithm_in self.old).send self.old.round self.old.state self.old.me dest) }
+    /// What it says to `dest`.
+    fn said_to(&mut self, dest: u32) -> Result<Arc<Said>, NoMemory>
+        ensures says { IfOk result (λ said. arc_value said ≡ said_to self.old dest) }
         ensures same { self.new ≡ self.old }
     {
-        if let Some(spoken) = &self.spoken {
-            return spoken.message();
+        if let Some(said) = &self.spoken {
+            return Ok(Arc::try_clone(said)?);
         }
-        let message = self.computed(dest)?;
+        let said = self.computed(dest)?;
         if is_broadcast(&self.program, self.round) {
-            let spoken = Spoken::new(message);
-            let message = spoken.message()?;
-            self.spoken = Some(spoken);
-            return Ok(message);
+            self.spoken = Some(Arc::try_clone(&said)?);
         }
-        Ok(message)
+        Ok(said)
     }
 
-    fn computed(&self, dest: u32) -> Result<Option<Arc<Message>>, NoMemory>
-        ensures { IfOk result (λ m. option_map (λ a. arc_value a) m
-            ≡ (algorithm_in self.now).send self.now.round self.now.state self.now.me dest) }
+    fn computed(&self, dest: u32) -> Result<Arc<Said>, NoMemory>
+        ensures { IfOk result (λ said. arc_value said ≡ said_to self.now dest) }
     {
         let message = send_of(
             self.alloc,
@@ -162,10 +156,8 @@ impl Node {
             self.me,
             dest,
         )?;
-        match message {
-            Some(message) => Ok(Some(Arc::new(self.alloc, message)?)),
-            None => Ok(None),
-        }
+        let state = Arc::try_clone(&self.state)?;
+        Ok(Arc::new(self.alloc, Said::new(state, message))?)
     }
 
     /// Takes a frame that was sent to it. What isn't kept is dropped.
@@ -199,6 +191,16 @@ impl Node {
         ensures* leaves { sem 𝓛 (LeavesEnded self.entry result) }
         ensures ended { IfOk result (λ f. IsSameTurn self.old f.node.now) }
     {
+        let next = self.next_state()?;
+        self.next = Some(next);
+        Ok(Finished { node: self })
+    }
+
+    /// The state after the round.
+    fn next_state(&self) -> Result<Arc<Vars>, NoMemory>
+        ensures { IfOk result (λ s. arc_value s
+            ≡ (algorithm_in self.now).end self.now.round self.now.me (inbox_of self.now.held) self.now.state) }
+    {
         let inbox = inbox_of(self.alloc, &self.held)?;
         let next = end_of(
             self.alloc,
@@ -209,8 +211,7 @@ impl Node {
             &inbox,
             &self.state,
         )?;
-        self.next = Some(Arc::new(self.alloc, next)?);
-        Ok(Finished { node: self })
+        Ok(Arc::new(self.alloc, next)?)
     }
 
     /// Adopts the state of the last `finish`, drops the frames, and goes on to the next round.
@@ -246,16 +247,13 @@ fn let_go_of_all(held: &mut [Option<Sealed>])
 }
 
 /// The frames as an inbox, in rising order of sender.
-fn inbox_of(alloc: Global, held: &[Option<Sealed>]) -> Result<Vec<Received>, NoMemory>
+fn inbox_of<'a>(alloc: Global, held: &'a [Option<Sealed>]) -> Result<Vec<Heard<'a>>, NoMemory>
     ensures { IfOk result (λ inbox. inbox.items ≡ inbox_of held.now) }
 {
-    let mut inbox = Vec::new(alloc);
+    let mut inbox = Vec::with_capacity(alloc, held.len())?;
     for frame in held {
         if let Some(frame) = frame {
-            inbox.push(Received {
-                from: frame.name().from,
-                message: frame.message().copy(alloc)?,
-            })?;
+            inbox.push(Heard::new(frame.name().from, frame.message()))?;
         }
     }
     Ok(inbox)

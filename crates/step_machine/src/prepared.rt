@@ -1,9 +1,10 @@
 //! What a node has ready for a send slot.
-ghost use Rattle.std.specs.Prelude.{◌≡◌, ◌↔◌, IsTrue, None, option_map};
+ghost use Rattle.std.specs.Prelude.{◌≡◌, ◌↔◌, IsTrue, None};
 
 use crate::event::Name;
+use crate::said::Said;
 use crate::sealed::Sealed;
-use round_lang::{Message, Vars};
+use round_lang::Vars;
 use std::marker::Model;
 use std::sync::Arc;
 
@@ -11,32 +12,26 @@ use std::sync::Arc;
 #[derive(Drop)]
 pub struct Prepared {
     name: Name,
-    state: Arc<Vars>,
-    message: Option<Arc<Message>>,
+    said: Arc<Said>,
 }
 
 impl Model for Prepared {
     ghost use Rattle.std.specs.Arc.{arc_value};
-    ghost use Rattle.std.specs.Prelude.{option_map};
     ghost use Rattle.step_machine.specs.Frames.{Ready};
 
     ghost Value = { Ready };
 
-    ghost view = { λ s. record { name = s.name; state = arc_value s.state; message = option_map (λ m. arc_value m) s.message } };
+    ghost view = { λ s. record { name = s.name; state = (arc_value s.said).state; message = (arc_value s.said).message } };
 }
 
 impl Prepared {
     ghost use Rattle.std.specs.Arc.{arc_value};
-    ghost use Rattle.step_machine.specs.Frames.{Ready, frame_of};
+    ghost use Rattle.step_machine.specs.Frames.{frame_of};
 
-    pub(crate) fn new(name: Name, state: Arc<Vars>, message: Option<Arc<Message>>) -> Prepared
-        ensures { result ≡ record { name = name; state = arc_value state; message = option_map (λ m. arc_value m) message } }
+    pub(crate) fn new(name: Name, said: Arc<Said>) -> Prepared
+        ensures { result ≡ record { name = name; state = (arc_value said).state; message = (arc_value said).message } }
     {
-        Prepared {
-            name,
-            state,
-            message,
-        }
+        Prepared { name, said }
     }
 
     /// The name that the message has, or would have.
@@ -50,28 +45,24 @@ impl Prepared {
     pub fn state(&self) -> &Vars
         ensures { result.now ≡ self.now.state }
     {
-        &self.state
+        self.said.state()
     }
 
     /// Whether there is no message.
     pub fn is_silent(&self) -> bool
         ensures { IsTrue result ↔ (self.now.message ≡ None) }
     {
-        self.message.is_none()
+        self.said.message().is_none()
     }
 
     /// The message under its name, where there is one.
     pub fn into_sealed(self) -> Option<Sealed>
         ensures { result ≡ frame_of self }
     {
-        let Prepared {
-            name,
-            state,
-            message,
-        } = self;
-        match message {
-            Some(message) => Some(Sealed::new(name, state, message)),
-            None => None,
+        if self.is_silent() {
+            return None;
         }
+        let Prepared { name, said } = self;
+        Some(Sealed::new(name, said))
     }
 }

@@ -1,7 +1,9 @@
 //! Messages on their way.
-ghost use Rattle.std.specs.Prelude.{◌≡◌};
+ghost use Rattle.std.specs.Arc.{arc_value};
+ghost use Rattle.std.specs.Prelude.{◌≡◌, Some};
 
 use crate::event::Name;
+use crate::said::Said;
 use round_lang::{Message, Vars};
 use std::marker::Model;
 use std::sync::Arc;
@@ -11,30 +13,31 @@ use std::sync::Arc;
 #[derive(Drop)]
 pub struct Sealed {
     name: Name,
-    state: Arc<Vars>,
-    message: Arc<Message>,
+    said: Arc<Said>,
 }
 
 impl Model for Sealed {
     ghost use Rattle.std.specs.Arc.{arc_value};
-    ghost use Rattle.step_machine.specs.Frames.{Frame};
+    ghost use Rattle.std.specs.Prelude.{IsSome};
+    ghost use Rattle.step_machine.specs.Frames.{Frame, message_in};
 
     ghost Value = { Frame };
 
-    ghost view = { λ s. record { name = s.name; state = arc_value s.state; message = arc_value s.message } };
+    ghost view = { λ s. record { name = s.name; state = (arc_value s.said).state; message = message_in (arc_value s.said) } };
+
+    ghost invariant = { λ s. IsSome (arc_value s.said).message };
 }
 
 impl Sealed {
     ghost use Rattle.std.specs.Arc.{arc_value};
+    ghost use Rattle.std.specs.Prelude.{IsSome};
+    ghost use Rattle.step_machine.specs.Frames.{message_in};
 
-    pub(crate) fn new(name: Name, state: Arc<Vars>, message: Arc<Message>) -> Sealed
-        ensures { result ≡ record { name = name; state = arc_value state; message = arc_value message } }
+    pub(crate) fn new(name: Name, said: Arc<Said>) -> Sealed
+        requires { IsSome (arc_value said).message }
+        ensures { result ≡ record { name = name; state = (arc_value said).state; message = message_in (arc_value said) } }
     {
-        Sealed {
-            name,
-            state,
-            message,
-        }
+        Sealed { name, said }
     }
 
     pub fn name(&self) -> Name
@@ -47,12 +50,15 @@ impl Sealed {
     pub fn state(&self) -> &Vars
         ensures { result.now ≡ self.now.state }
     {
-        &self.state
+        self.said.state()
     }
 
     pub fn message(&self) -> &Message
         ensures { result.now ≡ self.now.message }
     {
-        &self.message
+        match self.said.message() {
+            Some(message) => message,
+            None => unreachable!(),
+        }
     }
 }

@@ -72,7 +72,7 @@ struct Seen {
     round: u32,
     waiting: usize,
     handed: usize,
-    told: usize,
+    answers: usize,
 }
 
 fn seen_of(journal: &Journal<Known>, node: u32) -> Seen
@@ -84,8 +84,8 @@ fn seen_of(journal: &Journal<Known>, node: u32) -> Seen
         steps: book.count_of(node),
         round: book.round_of(node),
         waiting: journal.waiting(node).len(),
-        handed: book.handed(node).len(),
-        told: book.told().len(),
+        handed: book.mail(node).receives(),
+        answers: book.answers().len(),
     }
 }
 

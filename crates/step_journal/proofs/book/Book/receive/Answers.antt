@@ -3,23 +3,18 @@ use Rattle.step_journal.proofs.Later.{kept_happened}
 use Rattle.std.proofs.Common.{arith, sym, subst, ap, ◌∙◌, refl}
 use Rattle.step_machine.specs.declared.event.Event.TheVariants.{Step}
 use Rattle.step_journal.specs.Causes.{IsReceiveFit}
+use Rattle.step_journal.specs.Mailing.{Mailed}
 use Rattle.step_journal.specs.Log.{Log, SameMarks, SameWaitingBut, waiting_in}
 use Rattle.step_journal.proofs.Events.{count_le, kept, received, to_fields}
 use Rattle.step_journal.proofs.Leaves.{received_marks, received_own, received_others}
-use Rattle.step_journal.proofs.Reading.{buffer_once, of_view, nodes_view, trace_view, log_view, counts_len, handed_len, waiting_len, lists_len, names_len, names_read}
-use Rattle.step_journal.proofs.Vectors.{names_set, names_same, lists_push, lists_same}
+use Rattle.step_journal.proofs.Reading.{buffer_once, of_view, nodes_view, trace_view, log_view, counts_len, handed_len, waiting_len, lists_len, waits_len, waits_read}
+use Rattle.step_journal.proofs.Vectors.{waits_set, waits_same, lists_push, lists_same}
 use Rattle.step_journal.proofs.book.Book.receive.Goals as goal
 
 pub index_mut-requires : goal.index_mut-requires
 index_mut-requires g c =
     let n = handed_len (of_view g.P.Plan.start g.P.Plan.nodes c.self.view_is c.self.invariant) in
-    let m = lists_len c.self.inside.handed.items in
-    omega (arith, c.requires)
-
-pub index_mut-requires-2 : goal.index_mut-requires-2
-index_mut-requires-2 g c =
-    let n = waiting_len (of_view g.P.Plan.start g.P.Plan.nodes c.self.view_is c.self.invariant) in
-    let m = names_len c.self.inside.waiting.items in
+    let m = lists_len c.self.inside.mails.items in
     omega (arith, c.requires)
 
 pub note_receive-requires-clause-node_in : goal.note_receive-requires-clause-node_in
@@ -39,12 +34,13 @@ invariant_of-self g c =
     let k = c.args.node in
     let nodes = nodes_view c.self.view_is in
     let a = waiting_len c.self.invariant in
-    let b = names_len s.waiting.items in
+    let b = waits_len s.mails.items in
     let d = handed_len c.self.invariant in
-    let e = lists_len s.handed.items in
+    let e = lists_len s.mails.items in
+    let same = c.in_err-note_receive.ensures.mail_kept in
     kept c.self.invariant _ _ _ _ _ _ c.in_err-note_receive.ensures.trace_kept c.in_err-note_receive.ensures.steps_kept (λ q. refl)
-    (names_same s.waiting.items k c.index_mut-2.result.now c.note_receive.new.waiting (omega (arith, c.requires)) c.index_mut-2.ensures.value c.in_err-note_receive.ensures.waiting_kept)
-    (lists_same s.handed.items k c.index_mut.result.now c.note_receive.new.handed (omega (arith, c.requires)) c.index_mut.ensures.value c.in_err-note_receive.ensures.handed_kept)
+    (waits_same s.mails.items k c.index_mut.result.now c.note_receive.new.mail (omega (arith, c.requires)) c.index_mut.ensures.value (ap (λ (m : Mailed). m.waiting) same))
+    (lists_same s.mails.items k c.index_mut.result.now c.note_receive.new.mail (omega (arith, c.requires)) c.index_mut.ensures.value (ap (λ (m : Mailed). m.handed) same))
     refl
 
 pub invariant_of-self-2 : goal.invariant_of-self-2
@@ -54,15 +50,15 @@ invariant_of-self-2 g c =
     let k = c.args.node in
     let h = (of_view g.P.Plan.start g.P.Plan.nodes c.self.view_is c.self.invariant) in
     let a = waiting_len h in
-    let b = names_len s.waiting.items in
+    let b = waits_len s.mails.items in
     let d = handed_len h in
-    let e = lists_len s.handed.items in
+    let e = lists_len s.mails.items in
     let fit : IsReceiveFit (g.P.Plan.start v.plan) v.log k = (λ due. (let on = c.is_due.ensures.1 due in cc), c.is_receive.ensures.0 cc) in
     to_fields g.P.Plan.start g.P.Plan.nodes c.self.view_is
-    (received h k _ _ _ _ _ c.requires fit (sym (names_read s.waiting.items k c.index_mut-2.result.now (omega (arith, c.requires)) c.index_mut-2.ensures.value))
+    (received h k _ _ _ _ _ c.requires fit (sym (waits_read s.mails.items k c.index_mut.result.now (omega (arith, c.requires)) c.index_mut.ensures.value))
     (trace_view (Step k) _ c.self.view_is c.in_ok-note_receive.ensures.trace) c.in_ok-note_receive.ensures.steps
-    (names_set s.waiting.items k c.note_receive.new.waiting _ c.in_ok-note_receive.ensures.waiting)
-    (lists_push s.handed.items k c.index_mut.result.now c.note_receive.new.handed _ (omega (arith, c.requires)) c.index_mut.ensures.value c.in_ok-note_receive.ensures.handed))
+    (waits_set s.mails.items k c.note_receive.new.mail _ c.in_ok-note_receive.ensures.waiting)
+    (lists_push s.mails.items k c.index_mut.result.now c.note_receive.new.mail _ (omega (arith, c.requires)) c.index_mut.ensures.value c.in_ok-note_receive.ensures.handed))
 
 pub returns-clause-marks : goal.returns-clause-marks
 returns-clause-marks g c =

@@ -4,28 +4,33 @@ use Rattle.std.proofs.Common.{set, arith, sym, subst, ap, ◌∙◌, refl}
 use Rattle.step_machine.specs.declared.event.Event.TheVariants.{Release}
 use Rattle.step_journal.specs.declared.mark.Mark.TheVariants.{Released}
 use Rattle.step_journal.specs.Agreement.{Puts}
+use Rattle.step_journal.specs.Mailing.{Mailed}
 use Rattle.step_journal.specs.Log.{Log, IsFlying, SameMarksBut, SameWaitingBut, mark_in, waiting_in}
 use Rattle.step_journal.proofs.Events.{kept, moved, let_be, to_fields}
 use Rattle.step_journal.proofs.Leaves.{released_mark, released_others, released_waiting, released_waiting_others}
-use Rattle.step_journal.proofs.Reading.{of_view, trace_view, log_view, flying_in, waiting_len, names_len}
+use Rattle.step_journal.proofs.Reading.{of_view, trace_view, log_view, flying_in, handed_len, lists_len, waiting_len, waits_len}
 use Rattle.step_journal.proofs.Tables.{puts_set}
-use Rattle.step_journal.proofs.Vectors.{names_push, names_same}
+use Rattle.step_journal.proofs.Vectors.{lists_same, waits_push, waits_same}
 use Rattle.step_journal.proofs.book.Book.release.Goals as goal
 
 pub index_mut-requires : goal.index_mut-requires
 index_mut-requires g c =
     let n = waiting_len (of_view g.P.Plan.start g.P.Plan.nodes c.self.view_is c.self.invariant) in
-    let m = names_len c.self.inside.waiting.items in
+    let m = waits_len c.self.inside.mails.items in
     omega (arith, c.requires.to)
 
 pub invariant_of-self : goal.invariant_of-self
 invariant_of-self g c =
     let s = c.self.inside in
     let a = waiting_len (of_view g.P.Plan.start g.P.Plan.nodes c.self.view_is c.self.invariant) in
-    let b = names_len s.waiting.items in
+    let b = waits_len s.mails.items in
+    let d = handed_len (of_view g.P.Plan.start g.P.Plan.nodes c.self.view_is c.self.invariant) in
+    let e = lists_len s.mails.items in
+    let same = c.in_err-note_release.ensures.mail_kept in
     kept c.self.invariant _ _ _ _ _ _ c.in_err-note_release.ensures.trace_kept refl (λ q. refl)
-    (names_same s.waiting.items c.args.name.to c.index_mut.result.now c.note_release.new.waiting (omega (arith, c.requires.to)) c.index_mut.ensures.value c.in_err-note_release.ensures.waiting_kept)
-    refl c.in_err-note_release.ensures.told_kept
+    (waits_same s.mails.items c.args.name.to c.index_mut.result.now c.note_release.new.mail (omega (arith, c.requires.to)) c.index_mut.ensures.value (ap (λ (m : Mailed). m.waiting) same))
+    (lists_same s.mails.items c.args.name.to c.index_mut.result.now c.note_release.new.mail (omega (arith, c.requires.to)) c.index_mut.ensures.value (ap (λ (m : Mailed). m.handed) same))
+    c.in_err-note_release.ensures.answers_kept
 
 pub index_mut-requires-then-is_flying : goal.index_mut-requires-then-is_flying
 index_mut-requires-then-is_flying g c =
@@ -39,15 +44,18 @@ invariant_of-self-then-is_flying g c =
     let n = c.args.name in
     let h = (of_view g.P.Plan.start g.P.Plan.nodes c.self.view_is c.self.invariant) in
     let a = waiting_len h in
-    let b = names_len s.waiting.items in
+    let b = waits_len s.mails.items in
+    let d = handed_len h in
+    let o = lists_len s.mails.items in
     let fly : IsFlying (g.P.Plan.start v.plan) v.log n = c.is_flying.ensures.0 cc in
     to_fields g.P.Plan.start g.P.Plan.nodes c.self.view_is
-    (moved h n _ _ c.place-place.result _ _ c.requires fly c.place-place.ensures
+    (moved h n _ _ c.place-place.result _ _ _ c.requires fly c.place-place.ensures
     (trace_view (Release n) _ c.self.view_is c.in_ok-note_release.ensures.trace)
     (subst (λ x. Puts s.marks.items (set s.marks.items c.place-place.result (Released c.count_of-count.result)) c.place-place.result (Released x)) c.count_of-count.ensures
     (puts_set s.marks.items s.marks.items c.place-place.result (Released c.count_of-count.result) (flying_in h n c.place-place.result c.requires fly c.place-place.ensures) (λ q. refl)))
-    (names_push s.waiting.items n.to c.index_mut.result.now c.note_release.new.waiting n (omega (arith, c.requires.to)) c.index_mut.ensures.value c.in_ok-note_release.ensures.waiting)
-    c.in_ok-note_release.ensures.told)
+    (waits_push s.mails.items n.to c.index_mut.result.now c.note_release.new.mail n (omega (arith, c.requires.to)) c.index_mut.ensures.value c.in_ok-note_release.ensures.waiting)
+    (lists_same s.mails.items n.to c.index_mut.result.now c.note_release.new.mail (omega (arith, c.requires.to)) c.index_mut.ensures.value c.in_ok-note_release.ensures.handed)
+    c.in_ok-note_release.ensures.answers)
 
 pub returns-then-is_flying-clause-released : goal.returns-then-is_flying-clause-released
 returns-then-is_flying-clause-released g c =
@@ -103,7 +111,7 @@ invariant_of-self-2 g c =
     let n = c.args.name in
     to_fields g.P.Plan.start g.P.Plan.nodes c.self.view_is
     (let_be (of_view g.P.Plan.start g.P.Plan.nodes c.self.view_is c.self.invariant) n _ _ c.requires (λ fly. (let on = c.is_flying.ensures.1 fly in cc))
-    (trace_view (Release n) _ c.self.view_is c.in_ok-note_idle_release.ensures.trace) c.in_ok-note_idle_release.ensures.told)
+    (trace_view (Release n) _ c.self.view_is c.in_ok-note_idle_release.ensures.trace) c.in_ok-note_idle_release.ensures.answers)
 
 pub returns-then-is_flying-clause-kept : goal.returns-then-is_flying-clause-kept
 returns-then-is_flying-clause-kept g c =
