@@ -4,6 +4,7 @@ pub mod Inputs
 pub mod Lines
 pub mod Digits
 pub mod Split
+pub mod FirstLines
 pub mod Written
 pub mod Closed
 pub mod Starting

@@ -1,40 +1,52 @@
 -- The loop over the lines of a text.
-use Rattle.std.proofs.Common.{◌≡◌, ℕ, ◌+◌, ◌<◌, ◌≤◌, List, length, drop, get_or, Result, Ok, Err, refl, sym, ap, subst, ◌∙◌, arith, false, ltb, le-ltb}
+use Rattle.std.proofs.Common.{◌≡◌, ℕ, ◌+◌, ◌≤◌, List, [], ◌∷◌, ◌++◌, length, Result, Ok, Err, refl, sym, ap, ◌∙◌, false, true, eqb, ltb, le-ltb}
+use Rattle.std.proofs.lemmas.Bool.{eqb-true}
+use Rattle.std.proofs.lemmas.List.{nil_from_length}
 use Rattle.std.specs.Str.Lines.{lines}
-use Rattle.std.proofs.lemmas.List.{drop_more, drop_all}
+use Rattle.slot_plans.specs.declared.kind.PlanKind.{PlanKind}
+use Rattle.step_machine.specs.declared.event.Event.{Event}
+use Rattle.adversary.specs.declared.draft.Stage.TheVariants.{Whole}
 use Rattle.adversary.specs.declared.draft.Draft.{Draft}
 use Rattle.adversary.specs.declared.fault.LineFault.{LineFault}
 use Rattle.adversary.specs.declared.fault.LineFault.TheVariants as line
-use Rattle.adversary.specs.declared.fault.ScheduleFault.{ScheduleFault}
-use Rattle.adversary.specs.Reading.{Read, State, start, at_line, line_step, go_on, ended, from_line, schedule_of}
-use Rattle.adversary.specs.Outcome.{Gives, GivesState}
+use Rattle.adversary.specs.Reading.{State, start, at_line, line_step, go_on, ended, from_line, schedule_of}
+use Rattle.adversary.specs.Outcome.{GivesFront, GivesState}
+use Rattle.adversary.specs.Fronts.{IsFrontEvent}
+use Rattle.adversary.proofs.FirstLines.{event_taken}
 
--- What is left, read from this state, gives what all of it gives.
-pub record Comes (ls : List (List ℕ)) (i k : ℕ) (s : State) : Type 0 where
-  pub number : k ≡ i + 1
-  pub same : from_line k s (drop i ls) ≡ from_line 1 start ls
+-- What is left, read from this state, gives what all of it gives; each line before it has taken a byte at least.
+pub record Comes (text rest : List ℕ) (k : ℕ) (s : State) : Type 0 where
+  pub number : k + length rest ≤ length text + 1
+  pub same : from_line k s (lines rest) ≡ from_line 1 start (lines text)
 
-module _ (ls : List (List ℕ)) (i k : ℕ) (s : State) (c : Comes ls i k s) where
-  at_this : (l : List ℕ) → i < length ls → l ≡ get_or ls i l → go_on k (line_step s l) (λ s. from_line (k + 1) s (drop (i + 1) ls)) ≡ from_line 1 start ls
+module _ (text l rest : List ℕ) (s : State) (first : lines text ≡ l ∷ lines rest) where
+  -- the first line, and then the others
+  step_and_rest : (k : ℕ) (r : Result State LineFault) → line_step s l ≡ r → from_line k s (lines text) ≡ go_on k r (λ s. from_line (k + 1) s (lines rest))
   unfolding from_line
-  at_this l lt e = let d = drop_more ls i l lt in let d' = rw (← e) at d in sym (ap (from_line k s) d') ∙ c.same
+  step_and_rest k r is = ap (from_line k s) first ∙ ap (λ r. go_on k r (λ s. from_line (k + 1) s (lines rest))) is
 
-  pub comes_next : (l : List ℕ) (after : State) → i < length ls → l ≡ get_or ls i l → line_step s l ≡ Ok after → Comes ls (i + 1) (k + 1) after
-  comes_next l after lt e is = record { number = omega (arith, c.number); same = sym (ap (λ r. go_on k r (λ s. from_line (k + 1) s (drop (i + 1) ls))) is) ∙ at_this l lt e }
+  pub line_taken : (after : State) → line_step s l ≡ Ok after → (k : ℕ) → from_line k s (lines text) ≡ from_line (k + 1) after (lines rest)
+  line_taken after is k = step_and_rest k (Ok after) is
 
-  pub comes_last : length ls ≤ i → from_line 1 start ls ≡ ended k s.stage s
-  unfolding from_line
-  comes_last le = sym c.same ∙ ap (from_line k s) (drop_all i ls le)
+  line_refused : (f : LineFault) → line_step s l ≡ Err f → (k : ℕ) → from_line k s (lines text) ≡ Err (at_line k f)
+  line_refused f is k = step_and_rest k (Err f) is
 
-  pub comes_fault : (l : List ℕ) (f : LineFault) → i < length ls → l ≡ get_or ls i l → line_step s l ≡ Err f → from_line 1 start ls ≡ Err (at_line k f)
-  comes_fault l f lt e is = sym (at_this l lt e) ∙ ap (λ r. go_on k r (λ s. from_line (k + 1) s (drop (i + 1) ls))) is
+  -- the fault of the line, but for want of memory
+  pub front_refused : (f : LineFault) (d : Draft) → GivesState {A = Unit {0}} (Err f) d (line_step s l) → GivesFront (Err f) s d text
+  front_refused line.Bad d is = line_refused line.Bad is
+  front_refused line.Large d is = line_refused line.Large is
+  front_refused line.NoMemory d is = tt
+
+-- a first line that is an event
+pub event_front : (text rest : List ℕ) (s after : State) (n t r : ℕ) (p : PlanKind) (e : Event) → s.stage ≡ Whole n t r p → IsFrontEvent text e rest → after ≡ record s { events = s.events ++ e ∷ [] } → (k : ℕ) → from_line k s (lines text) ≡ from_line (k + 1) after (lines rest)
+event_front text rest s after n t r p e stage front after-is = line_taken text front.line rest s front.first after (event_taken s n t r p front.line e stage front.event ∙ ap (λ (x : State). Ok x) (sym after-is))
+
+-- at the end nothing is left
+pub comes_last : (text rest : List ℕ) (k : ℕ) (s : State) → Comes text rest k s → eqb (length rest) 0 ≡ true → from_line 1 start (lines text) ≡ ended k s.stage s
+unfolding from_line
+comes_last text rest k s comes none =
+    sym comes.same ∙ ap (λ t. from_line k s (lines t)) (nil_from_length rest (eqb-true (length rest) 0 none))
 
 pub schedule_is : (text : List ℕ) → length text ≤ 16777216 → schedule_of text ≡ from_line 1 start (lines text)
 unfolding schedule_of
 schedule_is text le = let e : ltb 16777216 (length text) ≡ false = le-ltb 16777216 (length text) le in rw e refl
-
--- the fault of a line is that of the text, but for want of memory
-pub gives_at : (f : LineFault) (k : ℕ) (x : ScheduleFault) (d : Draft) (step : Result State LineFault) (said : Result Read ScheduleFault) → x ≡ at_line k f → GivesState {A = Unit {0}} (Err f) d step → (step ≡ Err f → said ≡ Err (at_line k f)) → Gives (Err x) said
-gives_at line.Bad k x d step said e h to = let P : ScheduleFault → Type 0 = λ x. Gives (Err x) said in subst P (sym e) (to h)
-gives_at line.Large k x d step said e h to = let P : ScheduleFault → Type 0 = λ x. Gives (Err x) said in subst P (sym e) (to h)
-gives_at line.NoMemory k x d step said e h to = let P : ScheduleFault → Type 0 = λ x. Gives (Err x) said in subst P (sym e) tt

@@ -1,26 +1,17 @@
 -- The number at the front of a text.
-use Rattle.std.proofs.Common.{◌≡◌, ◌≢◌, ℕ, ◌+◌, ◌-◌, ◌*◌, ◌<◌, ◌≤◌, min, Bool, true, false, cond, eqb, ◌&&◌, List, [], ◌∷◌, ◌++◌, length, take, drop, get_or, map, Option, Some, None, option_map, Result, Ok, Err, leb, le-leb, append_assoc, refl, sym, ap, subst, ◌∙◌, arith}
+use Rattle.std.proofs.Common.{◌≡◌, ◌≢◌, ℕ, ◌+◌, ◌<◌, ◌≤◌, Bool, true, false, cond, eqb, ◌&&◌, List, [], ◌∷◌, ◌++◌, length, take, drop, get_or, map, Option, Some, None, option_map, Result, Ok, Err, leb, le-leb, append_assoc, refl, sym, ap, subst, ◌∙◌, arith}
 use Rattle.std.specs.Char.{is_ascii_digit}
-use Rattle.std.specs.List.{list_all, onto_first, prefix_len, take_while, fold}
+use Rattle.std.specs.List.{list_all, onto_first, prefix_len, take_while}
 use Rattle.std.proofs.lemmas.Bool.{and_parts, and_from, and_left, and_right, ne_eqb, cond_both}
 use Rattle.std.proofs.lemmas.List.{take_all, take-append-drop, drop_more}
-use Rattle.std.proofs.lemmas.List.Sums.{take_while-cons, prefix_len_stops}
+use Rattle.std.proofs.lemmas.List.Sums.{take_while-cons, prefix_len_is, prefix_len_stops}
 use Rattle.std.proofs.lemmas.List.Folds.{length-prefix_len}
 use Rattle.std.proofs.lemmas.List.Splits.{length-slice_split}
 use Rattle.adversary.specs.declared.fault.LineFault.{LineFault}
 use Rattle.adversary.specs.declared.fault.LineFault.TheVariants as line
 use Rattle.adversary.specs.Fronts.{three_of}
 use Rattle.adversary.specs.Reading.{one_of, all_of, mapped}
-use Rattle.adversary.specs.Numbers.{is_number, value_of, words_of, numbers_in, capped, capped_value, front_value}
-
--- counting with the cap gives the value, capped
-capped_from : (n m : ℕ) (ds : List ℕ) → m ≡ min n 4294967296 → fold (λ n b. min (10 * n + (b - 48)) 4294967296) m ds ≡ min (fold (λ n b. 10 * n + (b - 48)) n ds) 4294967296
-capped_from n m [] e = e
-capped_from n m (b ∷ bs) e = capped_from (10 * n + (b - 48)) (min (10 * m + (b - 48)) 4294967296) bs (omega (arith, e))
-
-pub capped_value_is : (ds : List ℕ) → capped_value ds ≡ capped (value_of ds)
-unfolding capped_value
-capped_value_is ds = capped_from 0 0 ds refl
+use Rattle.adversary.specs.Numbers.{is_number, value_of, words_of, numbers_in, capped, front_value}
 
 digit_no_space : (d : ℕ) → is_ascii_digit d ≡ true → eqb d 32 ≡ false
 digit_no_space d h = ne_eqb d 32 (λ e. let h' = rw e at h in cc)
@@ -102,17 +93,14 @@ no_number (y ∷ ys) e =
     numbers-none (y ∷ ys) (cond_both (eqb y 32) ([] ∷ words_of ys) (onto_first y (words_of ys)) P (λ _. refl) (λ ne. none_from_front (onto_first y (words_of ys)) (front_passes-onto y (words_of ys) ∙ and_left (is_ascii_digit y) (front_passes (words_of ys)) isnt)))
 
 module _ (t : List ℕ) (n : ℕ) (n-is : n ≡ prefix_len is_ascii_digit t) (some : n ≢ 0) where
-  front_is : take n t ≡ take_while is_ascii_digit t
+  pub front_is : take n t ≡ take_while is_ascii_digit t
   front_is = ap (λ k. take k t) n-is
 
   digits : list_all is_ascii_digit (take n t) ≡ true
   digits = ap (list_all is_ascii_digit) front_is ∙ front_digits t
 
-  is_one : is_number (take n t) ≡ true
+  pub is_one : is_number (take n t) ≡ true
   is_one = some_digits (take n t) (let l = ap length front_is ∙ length-prefix_len is_ascii_digit t in omega (arith, l)) digits
-
-  pub value_is : (d : List ℕ) → d ≡ take n t → capped_value d ≡ capped (front_value t)
-  value_is d e = ap capped_value (e ∙ front_is) ∙ capped_value_is (take_while is_ascii_digit t)
 
   pub number_alone : n ≡ length t → numbers_in t ≡ Some (front_value t ∷ [])
   number_alone e =
@@ -120,7 +108,7 @@ module _ (t : List ℕ) (n : ℕ) (n-is : n ≡ prefix_len is_ascii_digit t) (so
       ap numbers_in (sym whole) ∙ numbers-alone (take n t) is_one digits ∙ ap (λ ds. Some (value_of ds ∷ [])) front_is
 
   module _ (y : ℕ) (lt : n < length t) (y-is : y ≡ get_or t n 0) where
-    parts : t ≡ take n t ++ (y ∷ drop (n + 1) t)
+    pub parts : t ≡ take n t ++ (y ∷ drop (n + 1) t)
     parts = sym (take-append-drop n t) ∙ ap (λ l. take n t ++ l) (drop_more t n 0 lt ∙ ap (λ x. x ∷ drop (n + 1) t) (sym y-is))
 
     pub number_more : y ≡ 32 → numbers_in t ≡ option_map (λ vs. front_value t ∷ vs) (numbers_in (drop (n + 1) t))
@@ -131,6 +119,16 @@ module _ (t : List ℕ) (n : ℕ) (n-is : n ≡ prefix_len is_ascii_digit t) (so
     number_broken ne =
         let isnt : is_ascii_digit y ≡ false = ap is_ascii_digit (y-is ∙ ap (λ k. get_or t k 0) n-is) ∙ prefix_len_stops is_ascii_digit t 0 (omega (arith, lt, n-is)) in
         numbers-none t (none_from_front (words_of t) (ap (λ x. front_passes (words_of x)) parts ∙ front_fails (take n t) y (drop (n + 1) t) digits isnt (ne_eqb y 32 ne)))
+
+-- a text's bytes below a place are digits, and v is their value, capped
+pub record CountsDigits (t : List ℕ) (n v : ℕ) : Type 0 where
+  pub digits : (k : ℕ) → k < n → is_ascii_digit (get_or t k 0) ≡ true
+  pub value : v ≡ capped (value_of (take n t))
+
+pub digits_end : (t : List ℕ) (n v : ℕ) → CountsDigits t n v → n ≤ length t → (n < length t → is_ascii_digit (get_or t n 0) ≡ false) → (n ≡ prefix_len is_ascii_digit t) × (v ≡ capped (front_value t))
+digits_end t n v all within stops =
+    let len = sym (prefix_len_is is_ascii_digit t n 0 within all.digits stops) in
+    (len, all.value ∙ ap (λ k. capped (value_of (take k t))) len)
 
 -- a number with more behind it isn't alone
 several : (b : Bool) (v : ℕ) (ws : List (List ℕ)) → 0 < length ws → one_of (option_map (λ vs. v ∷ vs) (cond b (Some (map value_of ws)) None)) ≡ Err line.Bad

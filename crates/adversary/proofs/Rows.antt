@@ -2,7 +2,7 @@
 use Rattle.std.proofs.Common.{◌≡◌, ℕ, true, false, List, [], ◌∷◌, refl, map}
 use Rattle.std.specs.Prelude.{codes, slice_index, reverse}
 use Rattle.round_lang.specs.declared.expr.BinaryOperator.TheVariants.{Equal, Union}
-use Rattle.round_lang.specs.declared.expr.Constant.TheVariants.{Empty, From, True}
+use Rattle.round_lang.specs.declared.expr.Constant.TheVariants.{Empty, From}
 use Rattle.round_lang.specs.declared.expr.Ty.TheVariants.{Set as SetTy}
 use Rattle.round_lang.specs.declared.expr.UnaryOperator.TheVariants.{Single}
 use Rattle.round_lang.specs.declared.program.VariableKind.TheVariants.{Input, State}
@@ -12,30 +12,14 @@ use Rattle.round_lang.specs.Syntax.{ProgramTree}
 use Rattle.round_lang.specs.Tree.{TBinary, TFixed, TNamed, TNumber, TUnary}
 use Rattle.round_lang.specs.Values.{of_set}
 use Rattle.round_meaning.specs.Rounds.{algorithm, inbox, rounds}
+use Rattle.round_meaning.proofs.Rows.{gather}
 use Rattle.slot_plans.specs.Known.{known_start}
 use Rattle.step_machine.specs.declared.event.Event.{Event}
 use Rattle.step_machine.specs.declared.event.Event.TheVariants.{Step, Release}
 use Rattle.step_journal.specs.declared.mark.Mark.TheVariants.{Silent}
-use Rattle.step_journal.specs.History.{mark_of, state, told_of}
+use Rattle.step_journal.specs.History.{mark_of, state, answers_of}
 use Rattle.step_journal.specs.Trace.{carried, first, steps}
 use Rattle.step_journal.specs.World.{World}
-
--- each node tells all that it has seen
-abbrev gather : ProgramTree
-gather = record {
-  values = 2;
-  period = 1;
-  variables = record { name = codes "x"; kind = Input } ∷ record { name = codes "seen"; kind = State SetTy (TUnary Single (TNamed (codes "x"))) } ∷ [];
-  decides = codes "seen" ∷ [];
-  blocks = record {
-    number = 1;
-    fields = record { name = codes "s"; ty = SetTy } ∷ [];
-    condition = TFixed True;
-    sent = TNamed (codes "seen") ∷ [];
-    on_message = record { target = codes "seen"; formula = TBinary Union (TNamed (codes "seen")) (TNamed (codes "s")) } ∷ [];
-    end = [];
-  } ∷ [];
-}
 
 -- a run of `gather` under the known plan with one receive a round
 abbrev world : List ℕ → ℕ → ℕ → World
@@ -96,9 +80,9 @@ before_send_carried : carried (world (0 ∷ []) 1 1) before_send 0 1 0 ≡ true
 unfolding carried first steps algorithm
 before_send_carried = refl
 
-before_send_told : map (λ t. t.moved) (told_of (world (0 ∷ []) 1 1) before_send) ≡ false ∷ true ∷ []
-unfolding told_of mark_of carried first steps algorithm inbox rounds set_of is_in
-before_send_told = refl
+before_send_answers : answers_of (world (0 ∷ []) 1 1) before_send ≡ false ∷ true ∷ []
+unfolding answers_of mark_of carried first steps algorithm inbox rounds set_of is_in
+before_send_answers = refl
 
 -- a message of round 2 is taken in round 1, too early
 abbrev early : List Event
@@ -139,9 +123,9 @@ silent_mark : mark_of silent_world silent 0 1 0 ≡ Silent
 unfolding mark_of carried first steps algorithm inbox rounds set_of is_in
 silent_mark = refl
 
-silent_told : map (λ t. t.moved) (told_of silent_world silent) ≡ false ∷ true ∷ true ∷ []
-unfolding told_of mark_of carried first steps algorithm inbox rounds set_of is_in
-silent_told = refl
+silent_answers : answers_of silent_world silent ≡ false ∷ true ∷ true ∷ []
+unfolding answers_of mark_of carried first steps algorithm inbox rounds set_of is_in
+silent_answers = refl
 
 silent_state : state silent_world silent 1 0 ≡ Num 0 ∷ of_set 2 ∷ []
 unfolding carried first steps algorithm inbox rounds set_of is_in

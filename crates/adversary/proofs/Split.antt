@@ -31,7 +31,7 @@ first_line (b ∷ bs) rest h =
     let n = ne_eqb b 10 (λ e. omega (arith, l, e)) in
     rw n (rw (first_line bs rest p.1) refl)
 
-parts_more : (l : List ℕ) (ps : List (List ℕ)) → 0 < length ps → lines_of_parts (l ∷ ps) ≡ strip_carriage_return l ∷ lines_of_parts ps
+pub parts_more : (l : List ℕ) (ps : List (List ℕ)) → 0 < length ps → lines_of_parts (l ∷ ps) ≡ strip_carriage_return l ∷ lines_of_parts ps
 parts_more l [] lt = absurd (omega (arith, lt))
 parts_more l (p ∷ ps) lt = refl
 
@@ -44,9 +44,12 @@ keeps (b ∷ bs) h =
     let n = ne_eqb (get_or (b ∷ bs) k 0) 13 (λ e. omega (arith, at, e)) in
     rw n refl
 
+-- a line with no control characters, and what follows its LF
+pub lines-first : (l rest : List ℕ) → is_plain l ≡ true → lines ((l ++ 10 ∷ []) ++ rest) ≡ l ∷ lines rest
+lines-first l rest h =
+    let some : 0 < length (slice_split (λ b. eqb b 10) rest) = omega (arith, length-slice_split (λ b. eqb b 10) rest) in
+    ap lines_of_parts (first_line l rest h) ∙ parts_more l (slice_split (λ b. eqb b 10) rest) some ∙ ap (λ x. x ∷ lines rest) (keeps l h)
+
 pub lines-text : (ls : List (List ℕ)) → AllByRecursion (λ l. is_plain l ≡ true) ls → lines (flat_map line_text ls) ≡ ls
 lines-text [] h = refl
-lines-text (l ∷ ls) h =
-    let rest = flat_map line_text ls in
-    let some : 0 < length (slice_split (λ b. eqb b 10) rest) = omega (arith, length-slice_split (λ b. eqb b 10) rest) in
-    ap lines_of_parts (first_line l rest h.0) ∙ parts_more l (slice_split (λ b. eqb b 10) rest) some ∙ ap (λ x. x ∷ lines rest) (keeps l h.0) ∙ ap (λ xs. l ∷ xs) (lines-text ls h.1)
+lines-text (l ∷ ls) h = lines-first l (flat_map line_text ls) h.0 ∙ ap (λ xs. l ∷ xs) (lines-text ls h.1)

@@ -1,5 +1,5 @@
 -- What holds while a schedule is run, and which events it may have.
-use Rattle.std.specs.Prelude.{◌≡◌, ◌≢◌, ◌↔◌, ℕ, ◌+◌, ◌<◌, ◌≤◌, List, ◌++◌, length, slice_index_or}
+use Rattle.std.specs.Prelude.{◌≡◌, ◌≢◌, ◌↔◌, ℕ, ◌+◌, ◌<◌, ◌≤◌, List, ◌++◌, length, slice_index_or, All}
 use Rattle.step_journal.specs.Agreement.{row}
 use Rattle.step_journal.specs.Log.{Log, IsDue, IsName, count_of, history, round_of, state_before, world_of}
 use Rattle.step_journal.specs.Work.{AreCarried}
@@ -76,8 +76,8 @@ IsUnknownAt s events (fault.UnknownNode k) = IsFirstAt s events k × ((d : Event
 IsUnknownAt s events (fault.UnknownMessage k) = IsFirstAt s events k × ((d : Event) → IsRelease (slice_index_or events k d))
 IsUnknownAt s events f = ⊥
 
-abbrev pub IsFirstUnknown : Setup → List Event → RunFault → Type 0
-IsFirstUnknown s events (fault.UnknownNode k) = IsFirstAt s events k × ((d : Event) → IsStep (slice_index_or events k d))
-IsFirstUnknown s events (fault.UnknownMessage k) = IsFirstAt s events k × ((d : Event) → IsRelease (slice_index_or events k d))
-IsFirstUnknown s events fault.BadSetup = Unit {0}
-IsFirstUnknown s events fault.NoMemory = Unit {0}
+-- why a lawful setup isn't run: the first event that names what the run hasn't, and want of memory goes last
+abbrev pub RunCause : Setup → List Event → RunFault → Type 0
+RunCause s events fault.BadSetup = Unit {0}
+RunCause s events fault.NoMemory = All (IsKnown s) events
+RunCause s events f = IsUnknownAt s events f

@@ -1,11 +1,14 @@
 -- The number at the front of a text.
-use Rattle.std.specs.Prelude.{◌≡◌, ℕ, ◌<◌, List, [], ◌∷◌, length, Option, Some, None, option_map, if◌then◌else◌}
+use Rattle.std.specs.Prelude.{◌≡◌, ℕ, ◌<◌, ◌≤◌, true, List, [], ◌∷◌, ◌++◌, length, Option, Some, None, Ok, option_map, if◌then◌else◌}
 use Rattle.std.specs.Borrow.{Bor}
 use Rattle.adversary.specs.declared.number.Front.{Front}
-use Rattle.adversary.specs.Numbers.{numbers_in, front_value, capped, words_of, is_number}
+use Rattle.adversary.specs.Numbers.{numbers_in, value_of, front_value, capped, words_of, is_number, max_number}
+use Rattle.adversary.specs.Reading.{event_of}
 use Rattle.adversary.specs.declared.fault.LineFault.{LineFault}
 use Rattle.adversary.specs.declared.fault.LineFault.TheVariants as line
 use Rattle.std.specs.List.{list_all}
+use Rattle.std.specs.Str.Lines.{lines}
+use Rattle.step_machine.specs.declared.event.Event.{Event}
 
 -- the text is the number alone, or more numbers follow its space
 abbrev pub HasRest : Option (Bor (List ℕ)) → List ℕ → Type 0
@@ -26,3 +29,18 @@ three_of _ = None
 abbrev pub fault_before : Option (List ℕ) → LineFault
 fault_before None = line.Large
 fault_before (Some text) = if list_all is_number (words_of text) then line.Large else line.Bad
+
+-- a number stands at the front of a text, then this byte, and then the rest
+pub record IsNumberBefore (text : List ℕ) (end v : ℕ) (rest : List ℕ) : Type 0 where
+  pub digits : List ℕ
+  pub number : is_number digits ≡ true
+  pub value : v ≡ value_of digits
+  pub small : v ≤ max_number
+  pub parts : text ≡ digits ++ end ∷ rest
+
+-- the first line of a text is that of an event, and the others are those of the rest
+pub record IsFrontEvent (text : List ℕ) (e : Event) (rest : List ℕ) : Type 0 where
+  pub line : List ℕ
+  pub first : lines text ≡ line ∷ lines rest
+  pub event : event_of line ≡ Ok e
+  pub shorter : length rest < length text

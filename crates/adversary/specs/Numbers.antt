@@ -37,7 +37,3 @@ capped n = min n 4294967296
 -- the value of the digits at the front of a text
 abbrev pub front_value : List ℕ → ℕ
 front_value text = value_of (take_while is_ascii_digit text)
-
--- the same value as a reader counts it, which never grows past the cap
-unfoldable pub capped_value : List ℕ → ℕ
-capped_value digits = fold (λ n b. min (10 * n + (b - 48)) 4294967296) 0 digits

@@ -1,13 +1,15 @@
 -- How what was returned stands to what a text says.
-use Rattle.std.specs.Prelude.{◌≡◌, ℕ, List, Result, Ok, Err}
+use Rattle.std.specs.Prelude.{◌≡◌, ℕ, ◌+◌, ◌<◌, List, length, Result, Ok, Err}
+use Rattle.std.specs.Borrow.{Bor}
 use Rattle.std.specs.Global.{Vec}
+use Rattle.std.specs.Str.Lines.{lines}
 use Rattle.adversary.specs.declared.fault.LineFault.{LineFault}
 use Rattle.adversary.specs.declared.fault.LineFault.TheVariants as line
 use Rattle.adversary.specs.declared.fault.ScheduleFault.{ScheduleFault}
 use Rattle.adversary.specs.declared.fault.ScheduleFault.TheVariants as fault
 use Rattle.adversary.specs.declared.draft.Draft.{Draft}
 use Rattle.adversary.specs.declared.reading.Schedule.{Schedule}
-use Rattle.adversary.specs.Reading.{Read, State}
+use Rattle.adversary.specs.Reading.{Read, State, at_line, from_line}
 
 -- the state that a draft shows
 abbrev pub state_of : Draft → State
@@ -24,6 +26,14 @@ abbrev pub GivesState : {A : Type 0} → Result A LineFault → Draft → Result
 GivesState (Ok _) d said = said ≡ Ok (state_of d)
 GivesState (Err line.NoMemory) d said = Unit {0}
 GivesState (Err e) d said = said ≡ Err e
+
+-- the first line was taken in and the rest is left, so that all lines say what those of the rest say then; only memory
+-- excuses another fault than that of the line
+abbrev pub GivesFront : Result (Bor (List ℕ)) LineFault → State → Draft → List ℕ → Type 0
+GivesFront (Ok rest) s d text =
+    (length rest.now < length text) × ((k : ℕ) → from_line k s (lines text) ≡ from_line (k + 1) (state_of d) (lines rest.now))
+GivesFront (Err line.NoMemory) s d text = Unit {0}
+GivesFront (Err e) s d text = (k : ℕ) → from_line k s (lines text) ≡ Err (at_line k e)
 
 -- only memory excuses another answer than this
 abbrev pub Gives : Result Schedule ScheduleFault → Result Read ScheduleFault → Type 0

@@ -1,9 +1,11 @@
 //! A schedule while its lines are read.
-ghost use Rattle.std.specs.Prelude.{◌≡◌};
+ghost use Rattle.std.specs.Prelude.{◌≡◌, ◌<◌, IfOk, length};
 
 use crate::fault::{LineFault, ScheduleFault};
+use crate::front::{first_line, front_event};
 use crate::line::{event_of, inputs_of, number_after, plan_of};
 use crate::reading::Schedule;
+use round_lang::NoMemory;
 use round_meaning::{Inputs, Setup};
 use slot_plans::PlanKind;
 use std::alloc::Global;
@@ -29,25 +31,43 @@ pub struct Draft {
 }
 
 impl Draft {
+    ghost use Rattle.std.specs.Prelude.{◌≢◌, Err};
     ghost use Rattle.adversary.specs.Reading as spec;
-    ghost use Rattle.adversary.specs.Outcome.{Gives, GivesState, state_of};
+    ghost use Rattle.adversary.specs.Outcome.{Gives, GivesFront, GivesState, state_of};
 
-    pub fn new(alloc: Global) -> Draft
-        ensures { state_of result ≡ spec.start }
+    /// Nothing read, with room for so many events.
+    pub fn new(alloc: Global, events: usize) -> Result<Draft, NoMemory>
+        ensures { IfOk result (λ draft. state_of draft ≡ spec.start) }
     {
-        Draft {
+        Ok(Draft {
             stage: Stage::Start,
             inputs: Vec::new(alloc),
-            events: Vec::new(alloc),
-        }
+            events: Vec::with_capacity(alloc, events)?,
+        })
     }
 
-    /// Takes in a line; a draft that has refused one is of no use.
+    /// Takes in the first line of a text and answers what follows it; a draft that has refused one is of no use.
+    pub fn read_front<'a>(&mut self, alloc: Global, text: &'a [u8]) -> Result<&'a [u8], LineFault>
+        requires { 0 < length text.now }
+        ensures { GivesFront result (state_of self.old) self.new text.now }
+    {
+        if let Stage::Whole(..) = self.stage {
+            // Most lines are events, so these are read without a look for the line's end.
+            if let Some((event, rest)) = front_event(text) {
+                self.events.push(event)?;
+                return Ok(rest);
+            }
+        }
+        let (line, rest) = first_line(text);
+        self.read_line(alloc, line)?;
+        Ok(rest)
+    }
+
     #[tactic(auto, unfolding(crate::specs::Reading::line_step))]
-    pub fn read_line(&mut self, alloc: Global, line: &str) -> Result<(), LineFault>
+    fn read_line(&mut self, alloc: Global, line: &[u8]) -> Result<(), LineFault>
         ensures { GivesState result self.new (spec.line_step (state_of self.old) line.now) }
     {
-        match line.as_bytes() {
+        match line {
             [] => Ok(()),
             [b'#', ..] => Ok(()),
             text => self.read_content(alloc, text),
@@ -79,7 +99,8 @@ impl Draft {
 
     /// The schedule, where the header is whole; else the fault at the line past the last.
     pub fn finish(self, number: u64) -> Result<Schedule, ScheduleFault>
-        ensures { Gives result (spec.ended number self.stage (state_of self)) }
+        ensures ended { Gives result (spec.ended number self.stage (state_of self)) }
+        ensures short { result ≢ Err ScheduleFault.TooLong }
     {
         let Draft {
             stage,

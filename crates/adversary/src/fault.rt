@@ -24,12 +24,14 @@ pub enum LineFault {
 }
 
 impl LineFault {
-    ghost use Rattle.std.specs.Prelude.{◌≡◌};
+    ghost use Rattle.std.specs.Prelude.{◌≡◌, ◌≢◌};
     ghost use Rattle.adversary.specs.Reading.{at_line};
+    ghost use Rattle.adversary.specs.declared.fault.ScheduleFault.TheVariants as ScheduleFault;
 
     /// The fault of the line of this number.
     pub fn at(self, number: u64) -> ScheduleFault
-        ensures { result ≡ at_line number self }
+        ensures line { result ≡ at_line number self }
+        ensures short { result ≢ ScheduleFault.TooLong }
     {
         match self {
             LineFault::Bad => ScheduleFault::BadLine(number),

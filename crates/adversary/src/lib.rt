@@ -3,6 +3,7 @@
 
 mod draft;
 mod fault;
+mod front;
 mod line;
 mod number;
 mod reading;

@@ -15,7 +15,7 @@ use std::alloc::Global;
 use step_machine::{Event, Name};
 
 #[tactic(auto, unfolding(crate::specs::Reading::after))]
-fn after<'a>(line: &'a [u8], start: &[u8]) -> Option<&'a [u8]>
+pub fn after<'a>(line: &'a [u8], start: &[u8]) -> Option<&'a [u8]>
     ensures { option_map (λ rest. rest.now) result ≡ spec.after start.now line.now }
 {
     line.strip_prefix(start)

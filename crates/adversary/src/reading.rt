@@ -1,5 +1,5 @@
 //! Reading a schedule's text.
-ghost use Rattle.std.specs.Prelude.{◌≡◌};
+ghost use Rattle.std.specs.Prelude.{◌≡◌, ◌<◌, ◌↔◌, Err, length};
 ghost use Rattle.adversary.specs.Reading as spec;
 ghost use Rattle.adversary.specs.Outcome.{Gives};
 
@@ -21,6 +21,9 @@ pub struct Schedule {
 /// The most bytes that a text may have.
 pub const MAX_TEXT: usize = 16_777_216;
 
+/// How long a line is in most texts; room for the events is made by it, and more is made where it's wanting.
+const USUAL_LINE: usize = 12;
+
 /// The schedule that a text is.
 ///
 /// Lines end with LF, which the last may lack, and a CR before it is dropped. Empty lines and lines
@@ -33,16 +36,21 @@ pub const MAX_TEXT: usize = 16_777_216;
 /// or at another place before one with too large a number. `NoMemory` comes only for want of memory.
 #[tactic(auto, unfolding(crate::specs::Reading::schedule_of))]
 pub fn read_schedule(alloc: Global, text: &str) -> Result<Schedule, ScheduleFault>
-    ensures { Gives result (spec.schedule_of text.now) }
+    ensures read { Gives result (spec.schedule_of text.now) }
+    ensures long { (result ≡ Err ScheduleFault.TooLong) ↔ (MAX_TEXT < length text.now) }
 {
     if text.len() > MAX_TEXT {
         return Err(ScheduleFault::TooLong);
     }
-    let mut draft = Draft::new(alloc);
+    let Ok(mut draft) = Draft::new(alloc, text.len() / USUAL_LINE) else {
+        return Err(ScheduleFault::NoMemory);
+    };
     let mut number = 1u64;
-    for line in text.lines() {
-        if let Err(fault) = draft.read_line(alloc, line) {
-            return Err(fault.at(number));
+    let mut rest = text.as_bytes();
+    while !rest.is_empty() {
+        match draft.read_front(alloc, rest) {
+            Ok(behind) => rest = behind,
+            Err(fault) => return Err(fault.at(number)),
         }
         number += 1;
     }

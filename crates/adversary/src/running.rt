@@ -7,7 +7,7 @@ ghost use Rattle.step_journal.specs.Stock.{IsMail};
 ghost use Rattle.step_journal.specs.Taking.{HasTaken};
 ghost use Rattle.step_machine.specs.Nodes.{algorithm_in};
 ghost use Rattle.step_machine.specs.declared.event.Event.TheVariants as event;
-ghost use Rattle.adversary.specs.Driving.{AreNodesOf, ClosedAreDue, GoesOn, IsFirstUnknown, IsInRound, IsKnown, IsNodeOf, IsSettled, IsUnknownAt};
+ghost use Rattle.adversary.specs.Driving.{AreNodesOf, ClosedAreDue, GoesOn, IsInRound, IsKnown, IsNodeOf, IsSettled, IsUnknownAt, RunCause};
 
 use crate::fault::RunFault;
 use round_check::Checked;
@@ -19,8 +19,9 @@ use step_journal::{CloseFault, IdleFault, Journal, ReceiveFault, SendFault};
 use step_machine::{Event, Name, Node, Sealed};
 
 /// The journal of a schedule's events. A due round is closed at once, and steps past the last round
-/// are idle. `NoMemory` is for want of memory alone: each other refusal of its own journal is proved
-/// never to come.
+/// are idle. An unlawful setup is refused first, then the first event that names what the run hasn't, both
+/// before any memory is taken. `NoMemory` is for want of memory alone: each other refusal of its own
+/// journal is proved never to come.
 pub fn run_schedule<P: Plan>(
     alloc: Global,
     program: &Checked,
@@ -30,7 +31,8 @@ pub fn run_schedule<P: Plan>(
 ) -> Result<Journal<P>, RunFault>
     requires { IsLawful program.now.values setup.now → P.nodes plan ≡ setup.now.nodes }
     ensures bad_setup { (result ≡ Err RunFault.BadSetup) ↔ (IsLawful program.now.values setup.now → ⊥) }
-    ensures unknown { IfErr result (IsFirstUnknown setup.now events.now) }
+    ensures cause { IfErr result (RunCause setup.now events.now) }
+    ensures known { IfOk result (λ _answer. All (IsKnown setup.now) events.now) }
     ensures program { IfOk result (λ j. j.log.program ≡ program.now) }
     ensures setup { IfOk result (λ j. j.log.setup ≡ setup.now) }
     ensures plan { IfOk result (λ j. j.plan ≡ plan) }
@@ -96,7 +98,7 @@ fn run<P: Plan>(
     ensures trace { IfOk result (λ j. j.log.trace ≡ events.now) }
     ensures closed { IfOk result (λ j. ClosedAreDue (P.start j.plan) j.log) }
 {
-    let mut journal = Journal::open(alloc, program, setup, plan)?;
+    let mut journal = open(alloc, program, setup, plan, events.len())?;
     journal.book().agrees();
     let mut nodes = first_nodes(alloc, program, setup)?;
     for event in events {
@@ -106,6 +108,23 @@ fn run<P: Plan>(
         }
     }
     journal.book().agrees();
+    Ok(journal)
+}
+
+/// An empty journal with room for so many events.
+fn open<P: Plan>(
+    alloc: Global,
+    program: &Checked,
+    setup: &Setup,
+    plan: P,
+    events: usize,
+) -> Result<Journal<P>, NoMemory>
+    requires lawful { IsLawful program.now.values setup.now }
+    requires nodes { P.nodes plan ≡ setup.now.nodes }
+    ensures { IfOk result (λ journal. journal ≡ record { plan = plan; log = opened program.now setup.now }) }
+{
+    let mut journal = Journal::open(alloc, program, setup, plan)?;
+    journal.reserve(events)?;
     Ok(journal)
 }
 
