@@ -21,7 +21,7 @@ use Rattle.omission_explainer.specs.Reported.{carried_in, sends_in, stands_in}
 use Rattle.omission_explainer.specs.Verdict.{AreNodes, HearsFrom}
 use Rattle.omission_explainer.proofs.Delays.{ReleasedBetween, sent_at}
 use Rattle.omission_explainer.proofs.Moments.{StepAt, first_least, is_released, step_at, steps_up_to}
-use Rattle.omission_explainer.proofs.Parts.{is_in-set_of}
+use Rattle.round_lang.proofs.SetLaws.{is_in-set_of}
 use Rattle.omission_explainer.proofs.Passes.{IsBoundTo, IsPacedTo}
 
 -- an event of a moment is an event of its history

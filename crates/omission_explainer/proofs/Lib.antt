@@ -1,4 +1,5 @@
 pub mod Texts
+pub mod Members
 pub mod Parts
 pub mod Outcomes
 pub mod Reports

@@ -2,35 +2,16 @@
 use Rattle.std.proofs.Common.{◌≡◌, ℕ, zero, suc, ◌+◌, ◌^◌, ◌<◌, ◌≤◌, Bool, true, false, cond, List, Option, None, Some, refl, sym, ap, ◌∙◌, ◌⊎◌, inl, inr, arith}
 use Rattle.std.specs.Prelude.{◌&&◌, ◌||◌, not, nat_eq, nat_lt, is_some}
 use Rattle.std.specs.List.{range_with_len, filter_map, cons_option}
-use Rattle.std.specs.Int.{bit_at}
-use Rattle.std.proofs.lemmas.Bool.{and_parts, cases_lt, eqb-true, or_cases}
+use Rattle.std.proofs.lemmas.Bool.{and_parts, eqb-true, or_cases}
 use Rattle.std.proofs.lemmas.Bool.Decides.{nat_tests}
-use Rattle.std.proofs.lemmas.Nat.Bits.{bit_at-zero, bit_at_above, same_from_bits_below}
+use Rattle.std.proofs.lemmas.Nat.Bits.{bit_at-zero, same_from_bits_below}
 use Rattle.std.proofs.Math.Pow.{pow_mono}
 use Rattle.round_lang.specs.Sets.{is_in, set_of, inter, only, union}
 use Rattle.round_lang.specs.declared.value.Value.{Value}
-use Rattle.round_lang.proofs.SetLaws.{bit-is_in, bit-set_of, set_of-lt}
+use Rattle.round_lang.proofs.SetLaws.{bit-is_in, is_in-set_of, is_in-wide, set_of-lt}
 use Rattle.round_meaning.specs.Rounds.{Algorithm, inbox, received}
 use Rattle.omission_explainer.specs.Verdict.{AreNodes}
 use Rattle.omission_explainer.specs.Printed.{is_heard, is_silent, is_omitted, heard_set, silent_set, omitted_set, PartsNodes}
-
--- a bit that is 1 where a test passes
-bit_test : (b : Bool) → nat_eq (cond b 1 0) 1 ≡ b
-bit_test true = refl
-bit_test false = refl
-
--- a set of the nodes below n has those that pass
-pub is_in-set_of : (n : ℕ) (p : ℕ → Bool) (i : ℕ) → is_in (set_of n p) i ≡ (nat_lt i n && p i)
-unfolding is_in
-is_in-set_of n p i = go (cases_lt i n)
-  where
-    go : (i < n) ⊎ (n ≤ i) → nat_eq (bit_at (set_of n p) i) 1 ≡ (nat_lt i n && p i)
-    go (inl h) =
-        let below : nat_lt i n ≡ true = grind (arith, nat_tests) in
-        ap (λ b. nat_eq b 1) (bit-set_of n p i h) ∙ bit_test (p i) ∙ ap (λ b. b && p i) (sym below)
-    go (inr h) =
-        let past : nat_lt i n ≡ false = grind (arith, nat_tests) in
-        ap (λ b. nat_eq b 1) (bit_at_above (set_of n p) n i (set_of-lt n p) h) ∙ ap (λ b. b && p i) (sym past)
 
 -- the members of the empty set are nodes
 pub nodes_none : (nodes members : ℕ) → members ≡ 0 → AreNodes nodes members
@@ -44,12 +25,6 @@ nodes_with nodes members more n few e are i h = by (or_cases (is_in members i) (
     by : (is_in members i ≡ true) ⊎ (is_in (only 64 n) i ≡ true) → i < nodes
     by (inl old) = are i old
     by (inr new) = let same : i ≡ n = eqb-true i n (and_parts _ _ (sym (is_in-set_of 64 (λ v. nat_eq v n) i) ∙ new)).1 in omega arith
-
--- the same for all 64 places
-is_in-wide : (p : ℕ → Bool) (i : ℕ) → i < 64 → is_in (set_of 64 p) i ≡ p i
-is_in-wide p i h =
-    let below : nat_lt i 64 ≡ true = grind (arith, nat_tests) in
-    is_in-set_of 64 p i ∙ ap (λ b. b && p i) below
 
 -- the empty set has no member
 is_in-none : (i : ℕ) → is_in 0 i ≡ false

@@ -20,7 +20,8 @@ use Rattle.omission_explainer.specs.InRounds.{IsOfRounds, printed_omits, printed
 use Rattle.omission_explainer.specs.Printed.{is_omitted}
 use Rattle.omission_explainer.specs.Reported.{IsReported, carried_in, closed_below, closed_rounds, is_closed, omitted_in, place, sends_in, stands_in}
 use Rattle.omission_explainer.specs.Rows.{ClosedRound}
-use Rattle.omission_explainer.proofs.Parts.{filter_map_same, is_in-set_of}
+use Rattle.round_lang.proofs.SetLaws.{is_in-set_of}
+use Rattle.omission_explainer.proofs.Parts.{filter_map_same}
 
 -- ---- members of lists
 

@@ -1,6 +1,6 @@
 -- Texts as loops write them.
 use Rattle.std.proofs.Common.{◌≡◌, ℕ, zero, suc, ◌+◌, Bool, true, false, cond, List, [], ◌∷◌, ◌++◌, Option, map, refl, sym, ap, ◌∙◌, subst, append_assoc, append-nil, length, length-take-le, take, get_or, ◌<◌, add-zero, add-one, arith}
-use Rattle.std.specs.Prelude.{◌&&◌, ◌≢◌, nat_lt, slice_index, codes}
+use Rattle.std.specs.Prelude.{◌≢◌, slice_index, codes}
 use Rattle.std.specs.Fmt.{decimal}
 use denote.Text.{Utf8}
 use denote.Shadow.{shadow}
@@ -11,7 +11,6 @@ use Rattle.std.proofs.lemmas.List.Elements.{filter-append}
 use Rattle.std.proofs.lemmas.List.{take_more, flat_map_more}
 use Rattle.std.proofs.lemmas.Grind.{flat_map-append}
 use Rattle.std.proofs.lemmas.Bool.Decides.{nat_tests}
-use Rattle.round_lang.specs.Sets.{is_in, members}
 use Rattle.omission_explainer.specs.Report.{with_commas, entry_text, is_entered, count_text, counts_text, decision_text, nodes_text, row_text, state_text, type_at, value_text, variable_text}
 use Rattle.omission_explainer.specs.Rows.{ClosedRound}
 use Rattle.omission_explainer.specs.declared.report.Report.{Report}
@@ -43,7 +42,7 @@ separator_after-push [] x = refl
 separator_after-push (y ∷ xs) x = refl
 
 -- a text more, after its separator
-with_commas-push : (f : ℕ → List ℕ) (xs : List ℕ) (x : ℕ) → with_commas (map f (xs ++ x ∷ [])) ≡ with_commas (map f xs) ++ (separator_after xs ++ f x)
+pub with_commas-push : (f : ℕ → List ℕ) (xs : List ℕ) (x : ℕ) → with_commas (map f (xs ++ x ∷ [])) ≡ with_commas (map f xs) ++ (separator_after xs ++ f x)
 with_commas-push f [] x = refl
 with_commas-push f (y ∷ []) x = refl
 with_commas-push f (y ∷ z ∷ xs) x =
@@ -123,17 +122,6 @@ counts_more old mid new counts i d h before more =
     ap (λ n. counts_text 0 (take i counts) ++ count_text n (get_or counts i d)) (sym short)
     ∙ sym (counts_text-push 0 (take i counts) (get_or counts i d)) ∙ ap (counts_text 0) (sym (take_more counts i d h)) in
     subst (Appends old new) e (Appends-trans old mid new _ _ before more)
-
--- what the test of a member says
-pub member_in : (i s : ℕ) (r : Bool) → i < 64 → r ≡ (nat_lt i 64 && is_in s i) → r ≡ is_in s i
-member_in i s r h e =
-    let below : nat_lt i 64 ≡ true = grind (arith, nat_tests) in
-    e ∙ ap (λ b. b && is_in s i) below
-
--- all members of a set
-pub members_below : (s n : ℕ) → n ≡ 64 → filter (is_in s) (range_with_len 0 n) ≡ members s
-unfolding members
-members_below s n e = ap (λ k. filter (is_in s) (range_with_len 0 k)) e
 
 -- what the test of an entry says
 pub entry_there : (entries : List ℕ) (i e : ℕ) → e ≡ slice_index entries i → e ≢ 0 → is_entered entries i ≡ true

@@ -5,3 +5,4 @@ pub mod Reported
 pub mod Verdict
 pub mod Lateness
 pub mod InRounds
+pub mod Short

@@ -6,6 +6,7 @@ mod judging;
 mod listed;
 mod printed;
 mod report;
+mod short_text;
 mod writing;
 
 pub use explaining::explain;

@@ -1,12 +1,15 @@
 //! A report's text.
-ghost use Rattle.std.specs.Prelude.{◌≡◌, ◌++◌, OnOk, codes};
+ghost use Rattle.std.specs.Prelude.{◌≡◌, ◌+◌, ◌<◌, ◌≤◌, ◌++◌, OnOk, codes, length};
+ghost use Rattle.std.specs.Fmt.{decimal};
 ghost use Rattle.std.specs.Io.KnownBytes.{Appends};
 ghost use Rattle.std.specs.List.{flat_map};
 ghost use Rattle.round_lang.specs.Sets.{members};
 ghost use Rattle.round_lang.specs.Values.{at, row};
+ghost use Rattle.omission_explainer.specs.Short.{room};
 ghost use Rattle.omission_explainer.specs.Report.{counts_text, decision_text, entries_text, nodes_text, numbers_text, report_text, row_text, set_text, state_text, type_at, value_text};
 
 use crate::report::{Report, ReportRow};
+use crate::short_text::ShortText;
 use round_lang::{Ty, ValueSet, Vars};
 use round_meaning::NodeSet;
 use std::io;
@@ -58,27 +61,44 @@ fn write_nodes<W: Write>(label: &str, nodes: NodeSet, out: &mut W) -> io::Result
     ensures { OnOk result (Appends (W.contents out.old) (W.contents out.new)
         (label.now ++ nodes_text nodes.bits)) }
 {
-    write!(out, "{label}")?;
+    out.write_all(label.as_bytes())?;
     let set = ValueSet { bits: nodes.bits };
     if set.size() == 0 {
-        write!(out, "-")
+        out.write_all(b"-")
     } else {
         write_members(set, out)
     }
 }
 
+/// The members in rising order with commas, whose text is made whole before it goes out.
 fn write_members<W: Write>(set: ValueSet, out: &mut W) -> io::Result<()>
     ensures { OnOk result (Appends (W.contents out.old) (W.contents out.new)
         (numbers_text (members set.bits))) }
 {
-    let mut separator = "";
-    for member in 0..64u32 {
-        if set.has(64, member) {
-            write!(out, "{separator}{member}")?;
-            separator = ",";
+    let mut text = ShortText::new();
+    let mut rest = set;
+    for place in 0..set.size() {
+        if place > 0 {
+            text.push(b',');
         }
+        let member = rest.least(64);
+        push_member(member, &mut text);
+        rest = rest.minus(ValueSet::single(64, member));
     }
-    Ok(())
+    out.write_all(text.as_slice())
+}
+
+/// Appends a number of two digits at most.
+fn push_member(member: u32, text: &mut ShortText)
+    requires small { member < 100 }
+    requires room { length text.old + 2 ≤ room }
+    ensures text { text.new ≡ text.old ++ decimal member }
+    ensures short { length text.new ≤ length text.old + 2 }
+{
+    if member >= 10 {
+        text.push(b'0' + (member / 10) as u8);
+    }
+    text.push(b'0' + (member % 10) as u8);
 }
 
 fn write_state<W: Write>(report: &Report, state: &Vars, out: &mut W) -> io::Result<()>
@@ -126,9 +146,9 @@ fn write_value<W: Write>(
 fn write_set<W: Write>(set: ValueSet, out: &mut W) -> io::Result<()>
     ensures { OnOk result (Appends (W.contents out.old) (W.contents out.new) (set_text set.bits)) }
 {
-    write!(out, "{{")?;
+    out.write_all(b"{")?;
     write_members(set, out)?;
-    write!(out, "}}")
+    out.write_all(b"}")
 }
 
 /// A row's entries other than 0.

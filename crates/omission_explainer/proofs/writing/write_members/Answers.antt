@@ -1,37 +1,39 @@
-use Rattle.std.proofs.Common.{◌≡◌, ◌∙◌, ◌++◌, List, ℕ, ap, sym, subst, Bor, arith}
-use Rattle.std.specs.Io.KnownBytes.{Appends}
-use Rattle.std.specs.Fmt.{decimal}
-use Rattle.round_lang.specs.Sets.{is_in}
-use Rattle.omission_explainer.specs.Report.{numbers_text}
-use Rattle.omission_explainer.proofs.Texts.{member_in, members_below, passing_taken, passing_passed, comma_is_text, same_is_text}
+use Rattle.std.proofs.Common.{◌∙◌, ◌<◌, length, ap, arith}
+use Rattle.round_lang.specs.Sets.{members, minus}
+use Rattle.omission_explainer.proofs.Members.{least_small, one_more, size_small, with_comma, with_none}
 use Rattle.omission_explainer.proofs.writing.write_members.Goals as goal
-use Rattle.omission_explainer.proofs.writing.write_members.Goals.{then-has+in_ok-write, else-has}
+use Rattle.omission_explainer.proofs.writing.write_members.Goals.{then-place-gt0, else-place-gt0}
 
-pub loop-member-preserved : goal.loop-member-preserved
-loop-member-preserved g c =
-    let out = g.W.Write.contents in
-    let i = c.loop-member.member-counter in
-    let s = c.args.set.bits in
-    let tested = sym (member_in i s c.has.result c.loop-member-test.true c.has.ensures) in
-    elim c.if-has.branch [
-      | then-has+in_ok-write w ↦
-          let comma = ap (λ (t : Bor (List ℕ)). t.now) w.separator-is in
-          let more : Appends (out c.loop-member.out) (out c.if-has.out) (c.loop-member.separator.now ++ decimal i) =
-          subst (λ o. Appends (out c.loop-member.out) o (c.loop-member.separator.now ++ decimal i)) (sym (ap out w.out-is)) w.in_ok-write.ensures.bytes in
-          record {
-            text = comma_is_text _ comma;
-            listed = passing_taken (out c.args.out.now) (out c.loop-member.out) (out c.if-has.out) decimal (is_in s) i c.loop-member.separator.now c.if-has.separator.now c.loop-member.invariant.listed (tested ∙ w.if-has.true) more comma;
-          }
-      | else-has w ↦
-          let kept = ap (λ (t : Bor (List ℕ)). t.now) w.separator-is in
-          record {
-            text = same_is_text _ _ kept c.loop-member.invariant.text;
-            listed = passing_passed (out c.args.out.now) (out c.loop-member.out) (out c.if-has.out) decimal (is_in s) i c.loop-member.separator.now c.if-has.separator.now c.loop-member.invariant.listed (tested ∙ w.if-has.false) (ap out w.out-is) kept;
-          }
+pub push-requires : goal.push-requires
+push-requires g c =
+    let few = size_small c.args.set.bits in
+    omega (arith, few, c.size-place-end.ensures)
+
+pub push_member-requires-clause-small : goal.push_member-requires-clause-small
+push_member-requires-clause-small g c = omega (arith, c.least-member.ensures, least_small c.loop-place.rest.bits)
+
+pub push_member-requires-clause-room : goal.push_member-requires-clause-room
+push_member-requires-clause-room g c =
+    let few = size_small c.args.set.bits in
+    elim c.if-place-gt0.branch [
+      | then-place-gt0 w ↦ omega (arith, few, c.size-place-end.ensures, ap length w.text-is)
+      | else-place-gt0 w ↦ omega (arith, few, c.size-place-end.ensures, ap length w.text-is)
     ]
 
-pub returns : goal.returns
-returns g c =
-    let out = g.W.Write.contents in
-    let all : c.loop-member.member-counter ≡ 64 = omega arith in
-    subst (λ ms. Appends (out c.args.out.now) (out c.loop-member.out) (numbers_text ms)) (members_below c.args.set.bits _ all) c.loop-member.invariant.listed.wrote
+pub loop-place-preserved : goal.loop-place-preserved
+loop-place-preserved g c =
+    let ms = members c.args.set.bits in
+    let i = c.loop-place.place in
+    let rest = c.loop-place.rest.bits in
+    let text = c.loop-place.text in
+    let next = c.if-place-gt0.text in
+    let below : i < length ms = omega (arith, c.size-place-end.ensures) in
+    let after = c.minus-rest.ensures ∙ ap (minus rest) c.single.ensures in
+    elim c.if-place-gt0.branch [
+      | then-place-gt0 w ↦
+          let joined = with_comma ms i rest text c.loop-place.invariant below next w.if-place-gt0.true (w.text-is ∙ w.push.ensures.text) in
+          one_more ms i rest text c.loop-place.invariant below _ _ next _ c.least-member.ensures after joined c.push_member.ensures.text (omega (arith, ap length w.text-is))
+      | else-place-gt0 w ↦
+          let joined = with_none ms i rest text c.loop-place.invariant below next (omega arith) w.text-is in
+          one_more ms i rest text c.loop-place.invariant below _ _ next _ c.least-member.ensures after joined c.push_member.ensures.text (omega (arith, ap length w.text-is))
+    ]

@@ -1,0 +1,5 @@
+-- How long a text may be that is made in place.
+use Rattle.std.specs.Prelude.{ℕ}
+
+abbrev pub room : ℕ
+room = 192
