@@ -7,7 +7,8 @@ use Rattle.std.proofs.lemmas.Bool.Decides.{nat_tests}
 use Rattle.std.proofs.lemmas.List.{get_or_default}
 use Rattle.std.proofs.lemmas.List.Folds.{list_any-append}
 use Rattle.round_lang.specs.Sets.{is_in, only, union}
-use Rattle.omission_explainer.proofs.Parts.{is_in-set_of, nodes_none, nodes_with}
+use Rattle.round_lang.proofs.SetLaws.{is_in-set_of}
+use Rattle.omission_explainer.proofs.Parts.{nodes_none, nodes_with}
 use Rattle.command_runs.specs.Explained.{AreListed}
 
 below : (i : ℕ) → i < 64 → nat_lt i 64 ≡ true

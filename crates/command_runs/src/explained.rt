@@ -1,6 +1,6 @@
 //! From a checked program and any schedule to what is said of its run.
 ghost use Rattle.std.specs.Prelude.{◌≡◌, ◌<◌, ◌⊎◌, ◌↔◌, All, Err, IfErr, IfNone, IfOk, IfSome};
-ghost use Rattle.adversary.specs.Driving.{IsFirstUnknown};
+ghost use Rattle.adversary.specs.Driving.{IsKnown, RunCause};
 ghost use Rattle.command_runs.specs.Explained.{AreListed, IsReportOf, IsVerdictOf};
 ghost use Rattle.round_meaning.specs.Setups.{IsLawful};
 
@@ -25,7 +25,8 @@ pub fn explained_run<P: Plan>(
 ) -> Result<Report, RunFault>
     requires { IsLawful program.now.values setup.now → P.nodes plan ≡ setup.now.nodes }
     ensures bad_setup { (result ≡ Err RunFault.BadSetup) ↔ (IsLawful program.now.values setup.now → ⊥) }
-    ensures unknown { IfErr result (IsFirstUnknown setup.now events.now) }
+    ensures cause { IfErr result (RunCause setup.now events.now) }
+    ensures known { IfOk result (λ _answer. All (IsKnown setup.now) events.now) }
     ensures explained { IfOk result (IsReportOf (P.start plan) program.now setup.now events.now) }
 {
     let journal = run_schedule(alloc, program, setup, plan, events)?;
@@ -59,7 +60,8 @@ pub fn judged_run<P: Plan>(
     requires { IsLawful program.now.values setup.now → P.nodes plan ≡ setup.now.nodes }
     ensures bad_setup { (result ≡ Err RunFault.BadSetup)
         ↔ (IsLawful program.now.values setup.now × All (λ n. n < setup.now.nodes) terms.entry.correct.now → ⊥) }
-    ensures unknown { IfErr result (IsFirstUnknown setup.now events.now) }
+    ensures cause { IfErr result (RunCause setup.now events.now) }
+    ensures known { IfOk result (λ _answer. All (IsKnown setup.now) events.now) }
     ensures judged { IfOk result (IsVerdictOf (P.start plan) (P.receives plan) program.now setup.now events.now
         terms.entry.correct.now terms.entry.delta terms.entry.gst) }
 {

@@ -1,11 +1,38 @@
 //! The commands over a desk in memory.
 mod judgements;
+mod long_runs;
 mod sources;
+mod writers;
 
 use crate::{Desk, MemoryDesk, run_words};
-use std::io;
-use std::io::Write;
+use std::alloc::Global;
 use std::test::Fail;
+
+/// The exit status of a command line, and what standard output and standard error gained.
+#[derive(Drop)]
+struct Outcome {
+    status: u8,
+    printed: Vec<u8>,
+    told: Vec<u8>,
+}
+
+/// What these words are answered over a desk with these files.
+fn answered(alloc: Global, files: &[(&str, &[u8])], words: &[&str]) -> Result<Outcome, Fail> {
+    let mut desk = MemoryDesk::new(alloc);
+    for (name, bytes) in files {
+        if desk.write(name, bytes).is_err() {
+            return Err("the desk takes each file".into());
+        }
+    }
+    let mut printed = Vec::new(alloc);
+    let mut told = Vec::new(alloc);
+    let status = run_words(alloc, words, &mut desk, &mut printed, &mut told);
+    Ok(Outcome {
+        status,
+        printed,
+        told,
+    })
+}
 
 /// What the words `run @gather:2 --schedule s` answer and write where `s` has this text.
 struct Case {
@@ -113,15 +140,17 @@ static CASES: [Case; 13] = [
 #[test]
 fn schedules(rt: HostRuntime) -> Result<(), Fail> {
     for case in CASES.as_slice() {
-        let mut desk = MemoryDesk::new(rt.alloc());
-        assert!(rt; desk.write("s", case.schedule.as_bytes()).is_ok());
-        let mut out = Vec::new(rt.alloc());
-        let mut err = Vec::new(rt.alloc());
+        let files = [("s", case.schedule.as_bytes())];
         let words = ["run", "@gather:2", "--schedule", "s"];
-        let status = run_words(rt.alloc(), words.as_slice(), &mut desk, &mut out, &mut err);
-        assert_eq!(rt; err.as_slice(), case.told.as_bytes(), "{}", case.name);
-        assert_eq!(rt; status, case.status);
-        assert_eq!(rt; out.as_slice(), case.printed.as_bytes());
+        let answer = answered(rt.alloc(), &files, &words)?;
+        assert_eq!(rt;
+            answer.told.as_slice(),
+            case.told.as_bytes(),
+            "{}",
+            case.name
+        );
+        assert_eq!(rt; answer.status, case.status);
+        assert_eq!(rt; answer.printed.as_slice(), case.printed.as_bytes());
     }
     Ok(())
 }
@@ -179,55 +208,26 @@ static SCHEDULE: &str =
 #[test]
 fn refusals(rt: HostRuntime) -> Result<(), Fail> {
     for case in REFUSED.as_slice() {
-        let mut desk = MemoryDesk::new(rt.alloc());
-        assert!(rt; desk.write("s", SCHEDULE.as_bytes()).is_ok());
-        assert!(rt; desk.write("t", &[255, 10]).is_ok());
-        let mut out = Vec::new(rt.alloc());
-        let mut err = Vec::new(rt.alloc());
+        let files = [("s", SCHEDULE.as_bytes()), ("t", b"\xff\n".as_slice())];
         let words = ["run", case.source, "--schedule", case.schedule];
-        let status = run_words(rt.alloc(), words.as_slice(), &mut desk, &mut out, &mut err);
-        assert_eq!(rt; err.as_slice(), case.told.as_bytes(), "{}", case.source);
-        assert_eq!(rt; status, case.status);
-        assert!(rt; out.is_empty());
+        let answer = answered(rt.alloc(), &files, &words)?;
+        assert_eq!(rt;
+            answer.told.as_slice(),
+            case.told.as_bytes(),
+            "{}",
+            case.source
+        );
+        assert_eq!(rt; answer.status, case.status);
+        assert!(rt; answer.printed.is_empty());
     }
     Ok(())
 }
 
 #[test]
 fn command_lines(rt: HostRuntime) -> Result<(), Fail> {
-    let mut desk = MemoryDesk::new(rt.alloc());
-    let mut out = Vec::new(rt.alloc());
-    let mut err = Vec::new(rt.alloc());
-    let words = ["walk", "@gather:2"];
-    let status = run_words(rt.alloc(), words.as_slice(), &mut desk, &mut out, &mut err);
-    assert_eq!(rt; status, 2);
-    assert!(rt; out.is_empty());
-    assert!(rt; !err.is_empty());
-    Ok(())
-}
-
-/// A writer that takes nothing.
-#[derive(Drop)]
-struct Full;
-
-impl Write for Full {
-    fn write(&mut self, _bytes: &[u8]) -> io::Result<usize> {
-        Ok(0)
-    }
-
-    fn flush(&mut self) -> io::Result<()> {
-        Ok(())
-    }
-}
-
-#[test]
-fn full_writer(rt: HostRuntime) -> Result<(), Fail> {
-    let mut desk = MemoryDesk::new(rt.alloc());
-    assert!(rt; desk.write("s", SCHEDULE.as_bytes()).is_ok());
-    let mut err = Vec::new(rt.alloc());
-    let words = ["run", "@gather:2", "--schedule", "s"];
-    let status = run_words(rt.alloc(), words.as_slice(), &mut desk, &mut Full, &mut err);
-    assert_eq!(rt; status, 1);
-    assert_eq!(rt; err.as_slice(), "refused write\n".as_bytes());
+    let answer = answered(rt.alloc(), &[], &["walk", "@gather:2"])?;
+    assert_eq!(rt; answer.status, 2);
+    assert!(rt; answer.printed.is_empty());
+    assert!(rt; !answer.told.is_empty());
     Ok(())
 }

@@ -1,5 +1,5 @@
 //! What `judge` says of schedules.
-use crate::{Desk, MemoryDesk, run_words};
+use super::answered;
 use std::test::Fail;
 
 /// What `judge SOURCE --schedule s` answers with these values where `s` has this text and `silent` is a
@@ -399,11 +399,10 @@ static SILENT: &str =
 #[test]
 fn schedules_are_judged(rt: HostRuntime) -> Result<(), Fail> {
     for case in JUDGED.as_slice() {
-        let mut desk = MemoryDesk::new(rt.alloc());
-        assert!(rt; desk.write("s", case.schedule.as_bytes()).is_ok());
-        assert!(rt; desk.write("silent", SILENT.as_bytes()).is_ok());
-        let mut out = Vec::new(rt.alloc());
-        let mut err = Vec::new(rt.alloc());
+        let files = [
+            ("s", case.schedule.as_bytes()),
+            ("silent", SILENT.as_bytes()),
+        ];
         let words = [
             "judge",
             case.source,
@@ -416,10 +415,20 @@ fn schedules_are_judged(rt: HostRuntime) -> Result<(), Fail> {
             "--gst",
             case.gst,
         ];
-        let status = run_words(rt.alloc(), words.as_slice(), &mut desk, &mut out, &mut err);
-        assert_eq!(rt; err.as_slice(), case.told.as_bytes(), "{}", case.name);
-        assert_eq!(rt; out.as_slice(), case.printed.as_bytes(), "{}", case.name);
-        assert_eq!(rt; status, case.status);
+        let answer = answered(rt.alloc(), &files, &words)?;
+        assert_eq!(rt;
+            answer.told.as_slice(),
+            case.told.as_bytes(),
+            "{}",
+            case.name
+        );
+        assert_eq!(rt;
+            answer.printed.as_slice(),
+            case.printed.as_bytes(),
+            "{}",
+            case.name
+        );
+        assert_eq!(rt; answer.status, case.status);
     }
     Ok(())
 }

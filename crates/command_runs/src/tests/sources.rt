@@ -1,5 +1,5 @@
 //! Source files: what `check` says of each, and runs of them.
-use crate::{Desk, MemoryDesk, run_words};
+use super::answered;
 use std::test::Fail;
 
 /// What `check f` answers where `f` has this text.
@@ -143,15 +143,21 @@ static CHECKED: [Checked; 18] = [
 #[test]
 fn sources_are_checked(rt: HostRuntime) -> Result<(), Fail> {
     for case in CHECKED.as_slice() {
-        let mut desk = MemoryDesk::new(rt.alloc());
-        assert!(rt; desk.write("f", case.source.as_bytes()).is_ok());
-        let mut out = Vec::new(rt.alloc());
-        let mut err = Vec::new(rt.alloc());
-        let words = ["check", "f"];
-        let status = run_words(rt.alloc(), words.as_slice(), &mut desk, &mut out, &mut err);
-        assert_eq!(rt; err.as_slice(), case.told.as_bytes(), "{}", case.name);
-        assert_eq!(rt; out.as_slice(), case.printed.as_bytes(), "{}", case.name);
-        assert_eq!(rt; status, case.status);
+        let files = [("f", case.source.as_bytes())];
+        let answer = answered(rt.alloc(), &files, &["check", "f"])?;
+        assert_eq!(rt;
+            answer.told.as_slice(),
+            case.told.as_bytes(),
+            "{}",
+            case.name
+        );
+        assert_eq!(rt;
+            answer.printed.as_slice(),
+            case.printed.as_bytes(),
+            "{}",
+            case.name
+        );
+        assert_eq!(rt; answer.status, case.status);
     }
     Ok(())
 }
@@ -220,16 +226,24 @@ static RUNS: [Ran; 6] = [
 #[test]
 fn sources_are_run(rt: HostRuntime) -> Result<(), Fail> {
     for case in RUNS.as_slice() {
-        let mut desk = MemoryDesk::new(rt.alloc());
-        assert!(rt; desk.write("f", case.source.as_bytes()).is_ok());
-        assert!(rt; desk.write("s", case.schedule.as_bytes()).is_ok());
-        let mut out = Vec::new(rt.alloc());
-        let mut err = Vec::new(rt.alloc());
-        let words = ["run", "f", "--schedule", "s"];
-        let status = run_words(rt.alloc(), words.as_slice(), &mut desk, &mut out, &mut err);
-        assert_eq!(rt; err.as_slice(), case.told.as_bytes(), "{}", case.name);
-        assert_eq!(rt; out.as_slice(), case.printed.as_bytes(), "{}", case.name);
-        assert_eq!(rt; status, case.status);
+        let files = [
+            ("f", case.source.as_bytes()),
+            ("s", case.schedule.as_bytes()),
+        ];
+        let answer = answered(rt.alloc(), &files, &["run", "f", "--schedule", "s"])?;
+        assert_eq!(rt;
+            answer.told.as_slice(),
+            case.told.as_bytes(),
+            "{}",
+            case.name
+        );
+        assert_eq!(rt;
+            answer.printed.as_slice(),
+            case.printed.as_bytes(),
+            "{}",
+            case.name
+        );
+        assert_eq!(rt; answer.status, case.status);
     }
     Ok(())
 }
@@ -302,16 +316,16 @@ static TOLD: [Told; 9] = [
 #[test]
 fn sources_are_told(rt: HostRuntime) -> Result<(), Fail> {
     for case in TOLD.as_slice() {
-        let mut desk = MemoryDesk::new(rt.alloc());
-        assert!(rt; desk.write("u", &[255, 10]).is_ok());
-        assert!(rt; desk.write("./-", b"   ").is_ok());
-        let mut out = Vec::new(rt.alloc());
-        let mut err = Vec::new(rt.alloc());
-        let words = ["check", "--", case.source];
-        let status = run_words(rt.alloc(), words.as_slice(), &mut desk, &mut out, &mut err);
-        assert_eq!(rt; err.as_slice(), case.told.as_bytes(), "{}", case.source);
-        assert_eq!(rt; out.as_slice(), case.printed.as_bytes());
-        assert_eq!(rt; status, case.status);
+        let files = [("u", b"\xff\n".as_slice()), ("./-", b"   ".as_slice())];
+        let answer = answered(rt.alloc(), &files, &["check", "--", case.source])?;
+        assert_eq!(rt;
+            answer.told.as_slice(),
+            case.told.as_bytes(),
+            "{}",
+            case.source
+        );
+        assert_eq!(rt; answer.printed.as_slice(), case.printed.as_bytes());
+        assert_eq!(rt; answer.status, case.status);
     }
     Ok(())
 }
@@ -324,14 +338,9 @@ fn longest_source(rt: HostRuntime) -> Result<(), Fail> {
     ];
     for (count, told) in rows {
         let spaces = vec![in rt.alloc(); b' '; count]?;
-        let mut desk = MemoryDesk::new(rt.alloc());
-        assert!(rt; desk.write("f", spaces.as_slice()).is_ok());
-        let mut out = Vec::new(rt.alloc());
-        let mut err = Vec::new(rt.alloc());
-        let words = ["check", "f"];
-        let status = run_words(rt.alloc(), words.as_slice(), &mut desk, &mut out, &mut err);
-        assert_eq!(rt; err.as_slice(), told.as_bytes());
-        assert_eq!(rt; status, 1);
+        let answer = answered(rt.alloc(), &[("f", spaces.as_slice())], &["check", "f"])?;
+        assert_eq!(rt; answer.told.as_slice(), told.as_bytes());
+        assert_eq!(rt; answer.status, 1);
     }
     Ok(())
 }
