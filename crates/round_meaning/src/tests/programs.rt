@@ -7,9 +7,28 @@ use round_lang::{
 };
 use std::alloc::Global;
 
+/// A part of a program, or the want of memory for it. Each call takes the parts below as they came, so that
+/// what makes a program has its form and nothing else.
+pub type Made<T> = Result<T, NoMemory>;
+
+pub fn number(number: u32) -> Made<Expr> {
+    Ok(Expr::Number(number))
+}
+
+pub fn fixed(constant: Constant) -> Made<Expr> {
+    Ok(Expr::Fixed(constant))
+}
+
 /// An expression of a program, none of which here nests too deep.
-pub fn nested(expr: Expr) -> Result<Formula, NoMemory> {
-    Formula::new(expr).ok_or(NoMemory)
+pub fn nested(expr: Made<Expr>) -> Made<Formula> {
+    Formula::new(expr?).ok_or(NoMemory)
+}
+
+/// The list with one part more.
+pub fn and<T: Drop>(parts: Made<Vec<T>>, part: Made<T>) -> Made<Vec<T>> {
+    let mut parts = parts?;
+    parts.push(part?)?;
+    Ok(parts)
 }
 
 /// Makes the parts of programs.
@@ -19,98 +38,105 @@ pub struct Maker {
 }
 
 impl Maker {
-    fn name(self, text: &str) -> Result<Identifier, NoMemory> {
+    fn name(self, text: &str) -> Made<Identifier> {
         Identifier::new(String::from_str(self.alloc, text)?).ok_or(NoMemory)
     }
 
-    pub fn named(self, name: &str) -> Result<Expr, NoMemory> {
+    fn boxed(self, expr: Made<Expr>) -> Made<Box<Expr>> {
+        Ok(Box::new(self.alloc, expr?)?)
+    }
+
+    pub fn named(self, name: &str) -> Made<Expr> {
         Ok(Expr::Named(self.name(name)?))
     }
 
-    pub fn unary(self, operator: UnaryOperator, a: Expr) -> Result<Expr, NoMemory> {
-        Ok(Expr::Unary(operator, Box::new(self.alloc, a)?))
+    pub fn unary(self, operator: UnaryOperator, a: Made<Expr>) -> Made<Expr> {
+        Ok(Expr::Unary(operator, self.boxed(a)?))
     }
 
-    pub fn binary(self, operator: BinaryOperator, a: Expr, b: Expr) -> Result<Expr, NoMemory> {
-        let a = Box::new(self.alloc, a)?;
-        Ok(Expr::Binary(operator, a, Box::new(self.alloc, b)?))
+    pub fn binary(self, operator: BinaryOperator, a: Made<Expr>, b: Made<Expr>) -> Made<Expr> {
+        let a = self.boxed(a);
+        let b = self.boxed(b);
+        Ok(Expr::Binary(operator, a?, b?))
     }
 
-    pub fn choice(self, c: Expr, a: Expr, b: Expr) -> Result<Expr, NoMemory> {
-        let c = Box::new(self.alloc, c)?;
-        let a = Box::new(self.alloc, a)?;
-        Ok(Expr::If(c, a, Box::new(self.alloc, b)?))
+    pub fn choice(self, c: Made<Expr>, a: Made<Expr>, b: Made<Expr>) -> Made<Expr> {
+        let c = self.boxed(c);
+        let a = self.boxed(a);
+        let b = self.boxed(b);
+        Ok(Expr::If(c?, a?, b?))
     }
 
-    pub fn set_of(self, name: &str, body: Expr) -> Result<Expr, NoMemory> {
-        Ok(Expr::SetOf(self.name(name)?, Box::new(self.alloc, body)?))
+    pub fn set_of(self, name: &str, body: Made<Expr>) -> Made<Expr> {
+        let body = self.boxed(body);
+        Ok(Expr::SetOf(self.name(name)?, body?))
     }
 
-    pub fn row_of(self, name: &str, body: Expr) -> Result<Expr, NoMemory> {
-        Ok(Expr::RowOf(self.name(name)?, Box::new(self.alloc, body)?))
+    pub fn row_of(self, name: &str, body: Made<Expr>) -> Made<Expr> {
+        let body = self.boxed(body);
+        Ok(Expr::RowOf(self.name(name)?, body?))
     }
 
     /// `row[place]`.
-    pub fn entry(self, row: &str, place: &str) -> Result<Expr, NoMemory> {
-        let row = self.named(row)?;
-        let place = self.named(place)?;
-        self.binary(BinaryOperator::Entry, row, place)
+    pub fn entry(self, row: &str, place: &str) -> Made<Expr> {
+        self.binary(BinaryOperator::Entry, self.named(row), self.named(place))
     }
 
-    pub fn assignment(self, target: &str, formula: Expr) -> Result<Assignment, NoMemory> {
+    pub fn assignment(self, target: &str, formula: Made<Expr>) -> Made<Assignment> {
+        let formula = nested(formula);
         Ok(Assignment {
             target: self.name(target)?,
-            formula: nested(formula)?,
+            formula: formula?,
         })
     }
 
-    pub fn input(self, name: &str) -> Result<Variable, NoMemory> {
+    pub fn input(self, name: &str) -> Made<Variable> {
         Ok(Variable {
             name: self.name(name)?,
             kind: VariableKind::Input,
         })
     }
 
-    pub fn state(self, name: &str, ty: Ty, start: Expr) -> Result<Variable, NoMemory> {
+    pub fn state(self, name: &str, ty: Ty, start: Made<Expr>) -> Made<Variable> {
+        let start = nested(start)?;
         Ok(Variable {
             name: self.name(name)?,
-            kind: VariableKind::State {
-                ty,
-                start: nested(start)?,
-            },
+            kind: VariableKind::State { ty, start },
         })
     }
 
-    pub fn field(self, name: &str, ty: Ty) -> Result<Field, NoMemory> {
+    pub fn field(self, name: &str, ty: Ty) -> Made<Field> {
         Ok(Field {
             name: self.name(name)?,
             ty,
         })
     }
-}
 
-/// `input x`, `state seen: set = single(x)`.
-fn gather_variables(maker: Maker) -> Result<Vec<Variable>, NoMemory> {
-    let start = maker.unary(UnaryOperator::Single, maker.named("x")?)?;
-    let mut variables = Vec::new(maker.alloc);
-    variables.push(maker.input("x")?)?;
-    variables.push(maker.state("seen", Ty::Set, start)?)?;
-    Ok(variables)
+    /// No parts, to begin a list with.
+    pub fn none<T: Drop>(self) -> Made<Vec<T>> {
+        Ok(Vec::new(self.alloc))
+    }
+
+    pub fn one<T: Drop>(self, part: Made<T>) -> Made<Vec<T>> {
+        and(self.none(), part)
+    }
+
+    pub fn two<T: Drop>(self, first: Made<T>, second: Made<T>) -> Made<Vec<T>> {
+        and(self.one(first), second)
+    }
 }
 
 /// The program of these parts, decided by one variable.
 pub fn checked(
     maker: Maker,
     values: u32,
-    variables: Vec<Variable>,
+    variables: Made<Vec<Variable>>,
     decided: &str,
-    blocks: Vec<Block>,
+    blocks: Made<Vec<Block>>,
 ) -> Result<Checked, CheckFault> {
-    let decided = maker.name(decided)?;
-    let mut decides = Vec::new(maker.alloc);
-    if decides.push(decided).is_err() {
-        return Err(CheckFault::NoMemory);
-    }
+    let variables = variables?;
+    let blocks = blocks?;
+    let decides = maker.one(maker.name(decided))?;
     let period = blocks.len();
     let few = 0 < period && period <= 8 && 0 < values && values <= 64;
     if few && variables.len() <= 16 {
@@ -121,86 +147,101 @@ pub fn checked(
     }
 }
 
-fn gather_block(maker: Maker) -> Result<Block, NoMemory> {
-    let joined = maker.binary(
-        BinaryOperator::Union,
-        maker.named("seen")?,
-        maker.named("s")?,
-    )?;
-    Ok(Block::new(
-        1,
-        vec![in maker.alloc; maker.field("s", Ty::Set)?]?,
-        nested(Expr::Fixed(Constant::True))?,
-        vec![in maker.alloc; nested(maker.named("seen")?)?]?,
-        vec![in maker.alloc; maker.assignment("seen", joined)?]?,
-        Vec::new(maker.alloc),
-    ))
+/// What a program does in one round of its period.
+#[derive(Drop)]
+pub struct Parts {
+    pub fields: Made<Vec<Field>>,
+    pub condition: Made<Expr>,
+    pub sent: Made<Vec<Formula>>,
+    pub on_message: Made<Vec<Assignment>>,
+    pub end: Made<Vec<Assignment>>,
+}
+
+/// The block of these parts, with at most 8 fields.
+pub fn block(number: u32, parts: Parts) -> Made<Block> {
+    let Parts {
+        fields,
+        condition,
+        sent,
+        on_message,
+        end,
+    } = parts;
+    let condition = nested(condition)?;
+    let sent = sent?;
+    let on_message = on_message?;
+    let end = end?;
+    let fields = fields?;
+    if fields.len() > 8 {
+        return Err(NoMemory);
+    }
+    Ok(Block::new(number, fields, condition, sent, on_message, end))
+}
+
+/// `input x`, `state seen: set = single(x)`.
+fn gather_variables(maker: Maker) -> Made<Vec<Variable>> {
+    let start = maker.unary(UnaryOperator::Single, maker.named("x"));
+    maker.two(maker.input("x"), maker.state("seen", Ty::Set, start))
+}
+
+fn gather_block(maker: Maker) -> Made<Block> {
+    let joined = maker.binary(BinaryOperator::Union, maker.named("seen"), maker.named("s"));
+    let parts = Parts {
+        fields: maker.one(maker.field("s", Ty::Set)),
+        condition: fixed(Constant::True),
+        sent: maker.one(nested(maker.named("seen"))),
+        on_message: maker.one(maker.assignment("seen", joined)),
+        end: maker.none(),
+    };
+    block(1, parts)
 }
 
 /// Each node gathers the inputs that it hears of.
 pub fn gather(maker: Maker, values: u32) -> Result<Checked, CheckFault> {
-    let mut blocks = Vec::new(maker.alloc);
-    if blocks.push(gather_block(maker)?).is_err() {
-        return Err(CheckFault::NoMemory);
-    }
-    checked(maker, values, gather_variables(maker)?, "seen", blocks)
+    let blocks = maker.one(gather_block(maker));
+    checked(maker, values, gather_variables(maker), "seen", blocks)
 }
 
 /// `input x`, `state votes: row = zero`, `state last: row = zero`, `state top: set = empty`.
-fn votes_variables(maker: Maker) -> Result<Vec<Variable>, NoMemory> {
-    let mut variables = Vec::new(maker.alloc);
-    variables.push(maker.input("x")?)?;
-    variables.push(maker.state("votes", Ty::Row, Expr::Fixed(Constant::Zero))?)?;
-    variables.push(maker.state("last", Ty::Row, Expr::Fixed(Constant::Zero))?)?;
-    variables.push(maker.state("top", Ty::Set, Expr::Fixed(Constant::Empty))?)?;
-    Ok(variables)
+fn votes_variables(maker: Maker) -> Made<Vec<Variable>> {
+    let votes = maker.state("votes", Ty::Row, fixed(Constant::Zero));
+    let last = maker.state("last", Ty::Row, fixed(Constant::Zero));
+    let top = maker.state("top", Ty::Set, fixed(Constant::Empty));
+    and(and(maker.two(maker.input("x"), votes), last), top)
 }
 
 /// `votes := [w : if w = v then votes[w] + 1 else votes[w]];`.
-fn one_vote_more(maker: Maker) -> Result<Assignment, NoMemory> {
-    let own = maker.binary(BinaryOperator::Equal, maker.named("w")?, maker.named("v")?)?;
-    let more = maker.binary(
-        BinaryOperator::Add,
-        maker.entry("votes", "w")?,
-        Expr::Number(1),
-    )?;
-    let count = maker.choice(own, more, maker.entry("votes", "w")?)?;
-    maker.assignment("votes", maker.row_of("w", count)?)
+fn one_vote_more(maker: Maker) -> Made<Assignment> {
+    let own = maker.binary(BinaryOperator::Equal, maker.named("w"), maker.named("v"));
+    let more = maker.binary(BinaryOperator::Add, maker.entry("votes", "w"), number(1));
+    let count = maker.choice(own, more, maker.entry("votes", "w"));
+    maker.assignment("votes", maker.row_of("w", count))
 }
 
 /// `top := {w : votes[w] > n div 2}; last := votes; votes := zero;`.
-fn close_votes(maker: Maker) -> Result<Vec<Assignment>, NoMemory> {
-    let half = maker.binary(
-        BinaryOperator::Div,
-        Expr::Fixed(Constant::Nodes),
-        Expr::Number(2),
-    )?;
-    let most = maker.binary(BinaryOperator::More, maker.entry("votes", "w")?, half)?;
-    let mut assignments = Vec::new(maker.alloc);
-    assignments.push(maker.assignment("top", maker.set_of("w", most)?)?)?;
-    assignments.push(maker.assignment("last", maker.named("votes")?)?)?;
-    assignments.push(maker.assignment("votes", Expr::Fixed(Constant::Zero))?)?;
-    Ok(assignments)
+fn close_votes(maker: Maker) -> Made<Vec<Assignment>> {
+    let half = maker.binary(BinaryOperator::Div, fixed(Constant::Nodes), number(2));
+    let most = maker.binary(BinaryOperator::More, maker.entry("votes", "w"), half);
+    let top = maker.assignment("top", maker.set_of("w", most));
+    let last = maker.assignment("last", maker.named("votes"));
+    let votes = maker.assignment("votes", fixed(Constant::Zero));
+    and(maker.two(top, last), votes)
 }
 
-fn votes_block(maker: Maker) -> Result<Block, NoMemory> {
-    Ok(Block::new(
-        1,
-        vec![in maker.alloc; maker.field("v", Ty::Num)?]?,
-        nested(Expr::Fixed(Constant::True))?,
-        vec![in maker.alloc; nested(maker.named("x")?)?]?,
-        vec![in maker.alloc; one_vote_more(maker)?]?,
-        close_votes(maker)?,
-    ))
+fn votes_block(maker: Maker) -> Made<Block> {
+    let parts = Parts {
+        fields: maker.one(maker.field("v", Ty::Num)),
+        condition: fixed(Constant::True),
+        sent: maker.one(nested(maker.named("x"))),
+        on_message: maker.one(one_vote_more(maker)),
+        end: close_votes(maker),
+    };
+    block(1, parts)
 }
 
 /// Each node counts the inputs that it hears, and decides on one of more than half of the nodes.
 pub fn count_votes(maker: Maker, values: u32) -> Result<Checked, CheckFault> {
-    let mut blocks = Vec::new(maker.alloc);
-    if blocks.push(votes_block(maker)?).is_err() {
-        return Err(CheckFault::NoMemory);
-    }
-    checked(maker, values, votes_variables(maker)?, "top", blocks)
+    let blocks = maker.one(votes_block(maker));
+    checked(maker, values, votes_variables(maker), "top", blocks)
 }
 
 /// A block with one number in its message and nothing to do at its end.
@@ -210,32 +251,22 @@ fn number_block(
     field: &str,
     sent: Constant,
     when: Constant,
-) -> Result<Block, NoMemory> {
-    Ok(Block::new(
-        number,
-        vec![in maker.alloc; maker.field(field, Ty::Num)?]?,
-        nested(Expr::Fixed(when))?,
-        vec![in maker.alloc; nested(Expr::Fixed(sent))?]?,
-        Vec::new(maker.alloc),
-        Vec::new(maker.alloc),
-    ))
+) -> Made<Block> {
+    let parts = Parts {
+        fields: maker.one(maker.field(field, Ty::Num)),
+        condition: fixed(when),
+        sent: maker.one(nested(fixed(sent))),
+        on_message: maker.none(),
+        end: maker.none(),
+    };
+    block(number, parts)
 }
 
 /// Sends the phase in its first round and `sent` in its second, and is silent in its third.
 pub fn numbers(maker: Maker, sent: Constant) -> Result<Checked, CheckFault> {
-    let first = number_block(maker, 1, "p", Constant::Phase, Constant::True)?;
-    let second = number_block(maker, 2, "q", sent, Constant::True)?;
-    let third = number_block(maker, 3, "r", Constant::Phase, Constant::False)?;
-    let Ok(blocks) = three(maker.alloc, first, second, third) else {
-        return Err(CheckFault::NoMemory);
-    };
-    checked(maker, 2, gather_variables(maker)?, "seen", blocks)
-}
-
-fn three(alloc: Global, a: Block, b: Block, c: Block) -> Result<Vec<Block>, NoMemory> {
-    let mut blocks = Vec::new(alloc);
-    blocks.push(a)?;
-    blocks.push(b)?;
-    blocks.push(c)?;
-    Ok(blocks)
+    let first = number_block(maker, 1, "p", Constant::Phase, Constant::True);
+    let second = number_block(maker, 2, "q", sent, Constant::True);
+    let third = number_block(maker, 3, "r", Constant::Phase, Constant::False);
+    let blocks = and(maker.two(first, second), third);
+    checked(maker, 2, gather_variables(maker), "seen", blocks)
 }
