@@ -1,8 +1,11 @@
 //! Texts that are no program, and which fault is answered.
 
-use super::{bad_token, fault_in, fault_of, limit_passed, unexpected};
+use super::{
+    bad_token, expect, expect_fault, expect_in, fault_in, fault_of, limit_passed, unexpected,
+};
 use crate::LangFault;
 use std::alloc::{AllocError, Global};
+use std::process::Abort;
 use std::test::Fail;
 
 /// The tokens of a program with each part of the grammar but expressions.
@@ -31,144 +34,136 @@ fn each_place_of_a_program(rt: HostRuntime) -> Result<(), Fail> {
         let len = text.len();
         let whole = matches!(count, 4 | 10 | 12 | 14 | 45 | 49);
         let fault = if whole { None } else { unexpected(len, len) };
-        assert_eq!(rt; fault_of(alloc, text.as_str()), fault, "{count} tokens");
+        expect_fault(&rt, alloc, text.as_str(), fault);
         text.push_str("then")?;
         let after = text.len();
-        assert_eq!(rt;
-            fault_of(alloc, text.as_str()),
-            unexpected(len, after),
-            "{count} tokens"
-        );
+        expect_fault(&rt, alloc, text.as_str(), unexpected(len, after));
     }
     Ok(())
 }
 
 #[test]
-fn wrong_tokens_of_programs(rt: HostRuntime) -> Result<(), Fail> {
-    for (text, fault) in [
-        ("at 1:", unexpected(0, 2)),
-        ("values x", unexpected(7, 8)),
-        ("values 2 3", unexpected(9, 10)),
-        ("values 2 period at", unexpected(16, 18)),
-        ("values 2 period 1 2", unexpected(18, 19)),
-        ("values 2 period 1 x", unexpected(18, 19)),
-        ("values 2 period 1 input n", unexpected(24, 25)),
-        ("values 2 period 1 input x y", unexpected(26, 27)),
-        ("values 2 period 1 decide x = 1", unexpected(27, 28)),
-        ("values 2 period 1 state x = 1", unexpected(26, 27)),
-        ("values 2 period 1 state x: y = 1", unexpected(27, 28)),
-        ("values 2 period 1 state x: num := 1", unexpected(31, 33)),
-        ("values 2 period 1 state x: num < 1", unexpected(31, 32)),
-        ("values 2 period 1 at x", unexpected(21, 22)),
-        ("values 2 period 1 at 1: message (,", unexpected(33, 34)),
-        ("values 2 period 1 at 1: message (a)", unexpected(34, 35)),
-        (
-            "values 2 period 1 at 1: message (a: num,)",
-            unexpected(40, 41),
-        ),
-        (
-            "values 2 period 1 at 1: message (a: num b",
-            unexpected(40, 41),
-        ),
-        (
-            "values 2 period 1 at 1: message () send when :",
-            unexpected(45, 46),
-        ),
-        (
-            "values 2 period 1 at 1: message () send when a: (,",
-            unexpected(49, 50),
-        ),
+fn wrong_tokens_of_programs(rt: HostRuntime) {
+    let alloc = rt.alloc();
+    for (text, first, after) in [
+        ("at 1:", 0, 2),
+        ("values x", 7, 8),
+        ("values 2 3", 9, 10),
+        ("values 2 period at", 16, 18),
+        ("values 2 period 1 2", 18, 19),
+        ("values 2 period 1 x", 18, 19),
+        ("values 2 period 1 input n", 24, 25),
+        ("values 2 period 1 input x y", 26, 27),
+        ("values 2 period 1 decide x = 1", 27, 28),
+        ("values 2 period 1 state x = 1", 26, 27),
+        ("values 2 period 1 state x: y = 1", 27, 28),
+        ("values 2 period 1 state x: num := 1", 31, 33),
+        ("values 2 period 1 state x: num < 1", 31, 32),
+        ("values 2 period 1 at x", 21, 22),
+        ("values 2 period 1 at 1: message (,", 33, 34),
+        ("values 2 period 1 at 1: message (a)", 34, 35),
+        ("values 2 period 1 at 1: message (a: num,)", 40, 41),
+        ("values 2 period 1 at 1: message (a: num b", 40, 41),
+        ("values 2 period 1 at 1: message () send when :", 45, 46),
+        ("values 2 period 1 at 1: message () send when a: (,", 49, 50),
         (
             "values 2 period 1 at 1: message () send when a: (1,)",
-            unexpected(51, 52),
+            51,
+            52,
         ),
         (
             "values 2 period 1 at 1: message () send when a: (1 2",
-            unexpected(51, 52),
+            51,
+            52,
         ),
         (
             "values 2 period 1 at 1: message () send when a: () on end",
-            unexpected(54, 57),
+            54,
+            57,
         ),
         (
             "values 2 period 1 at 1: message () send when a: () on message: x = 1;",
-            unexpected(65, 66),
+            65,
+            66,
         ),
         (
             "values 2 period 1 at 1: message () send when a: () on message: x := 1 end",
-            unexpected(70, 73),
+            70,
+            73,
         ),
         (
             "values 2 period 1 at 1: message () send when a: () on message: end: at 2: state",
-            unexpected(74, 79),
+            74,
+            79,
         ),
         (
             "values 2 period 1 at 1: message () send when a: () on message: end: input x",
-            unexpected(68, 73),
+            68,
+            73,
         ),
         (
             "values 2 period 1 at 1: message () send when a: () on message: end: ;",
-            unexpected(68, 69),
+            68,
+            69,
         ),
     ] {
-        assert_eq!(rt; fault_of(rt.alloc(), text), fault, "{text}");
+        expect_fault(&rt, alloc, text, unexpected(first, after));
     }
-    Ok(())
 }
 
 #[test]
-fn wrong_tokens_of_expressions(rt: HostRuntime) -> Result<(), Fail> {
-    for (expr, fault) in [
-        ("", unexpected(0, 0)),
-        ("set", unexpected(0, 3)),
-        ("decide", unexpected(0, 6)),
-        ("a b", unexpected(2, 3)),
-        ("1 2", unexpected(2, 3)),
-        ("a not b", unexpected(2, 5)),
-        ("a +", unexpected(3, 3)),
-        ("a + + b", unexpected(4, 5)),
-        ("a or", unexpected(4, 4)),
-        ("a = not b", unexpected(4, 7)),
-        ("a + if b then c else d", unexpected(4, 6)),
-        ("a or if b then c else d", unexpected(5, 7)),
-        ("not if a then b else c", unexpected(4, 6)),
-        ("not", unexpected(3, 3)),
-        ("not or", unexpected(4, 6)),
-        ("a < b < c", unexpected(6, 7)),
-        ("a = b = c", unexpected(6, 7)),
-        ("a = b <> c", unexpected(6, 8)),
-        ("if a", unexpected(4, 4)),
-        ("if a b", unexpected(5, 6)),
-        ("if a then b", unexpected(11, 11)),
-        ("if a then b then", unexpected(12, 16)),
-        ("if a then b else", unexpected(16, 16)),
-        ("()", unexpected(1, 2)),
-        ("(a", unexpected(2, 2)),
-        ("(a]", unexpected(2, 3)),
-        ("(a, b)", unexpected(2, 3)),
-        ("a[]", unexpected(2, 3)),
-        ("a[b", unexpected(3, 3)),
-        ("a[b)", unexpected(3, 4)),
-        ("a[b][c]", unexpected(4, 5)),
-        ("a[v : b]", unexpected(4, 5)),
-        ("{}", unexpected(1, 2)),
-        ("{v}", unexpected(2, 3)),
-        ("{1 : a}", unexpected(1, 2)),
-        ("{n : a}", unexpected(1, 2)),
-        ("{v : a]", unexpected(6, 7)),
-        ("[v : a}", unexpected(6, 7)),
-        ("[a]", unexpected(2, 3)),
-        ("single a", unexpected(7, 8)),
-        ("size()", unexpected(5, 6)),
-        ("least(a, b)", unexpected(7, 8)),
-        ("has a", unexpected(4, 5)),
-        ("has(a)", unexpected(5, 6)),
-        ("has(a, b, c)", unexpected(8, 9)),
-        ("round(a)", unexpected(5, 6)),
+fn wrong_tokens_of_expressions(rt: HostRuntime) {
+    let alloc = rt.alloc();
+    for (expr, first, after) in [
+        ("", 0, 0),
+        ("set", 0, 3),
+        ("decide", 0, 6),
+        ("a b", 2, 3),
+        ("1 2", 2, 3),
+        ("a not b", 2, 5),
+        ("a +", 3, 3),
+        ("a + + b", 4, 5),
+        ("a or", 4, 4),
+        ("a = not b", 4, 7),
+        ("a + if b then c else d", 4, 6),
+        ("a or if b then c else d", 5, 7),
+        ("not if a then b else c", 4, 6),
+        ("not", 3, 3),
+        ("not or", 4, 6),
+        ("a < b < c", 6, 7),
+        ("a = b = c", 6, 7),
+        ("a = b <> c", 6, 8),
+        ("if a", 4, 4),
+        ("if a b", 5, 6),
+        ("if a then b", 11, 11),
+        ("if a then b then", 12, 16),
+        ("if a then b else", 16, 16),
+        ("()", 1, 2),
+        ("(a", 2, 2),
+        ("(a]", 2, 3),
+        ("(a, b)", 2, 3),
+        ("a[]", 2, 3),
+        ("a[b", 3, 3),
+        ("a[b)", 3, 4),
+        ("a[b][c]", 4, 5),
+        ("a[v : b]", 4, 5),
+        ("{}", 1, 2),
+        ("{v}", 2, 3),
+        ("{1 : a}", 1, 2),
+        ("{n : a}", 1, 2),
+        ("{v : a]", 6, 7),
+        ("[v : a}", 6, 7),
+        ("[a]", 2, 3),
+        ("single a", 7, 8),
+        ("size()", 5, 6),
+        ("least(a, b)", 7, 8),
+        ("has a", 4, 5),
+        ("has(a)", 5, 6),
+        ("has(a, b, c)", 8, 9),
+        ("round(a)", 5, 6),
     ] {
-        assert_eq!(rt; fault_in(rt.alloc(), expr)?, fault, "{expr}");
+        expect_in(&rt, alloc, expr, unexpected(first, after));
     }
-    Ok(())
 }
 
 /// A text with another before it and a third behind it, each so many times.
@@ -190,8 +185,20 @@ fn wrapped(
     Ok(text)
 }
 
+/// What is at fault in an expression with others around it, so many times.
+fn fault_around(
+    alloc: Global,
+    count: usize,
+    before: &str,
+    middle: &str,
+    behind: &str,
+) -> Result<Option<LangFault>, AllocError> {
+    let text = wrapped(alloc, count, before, middle, behind)?;
+    fault_in(alloc, text.as_str())
+}
+
 #[test]
-fn nesting(rt: HostRuntime) -> Result<(), Fail> {
+fn nesting(rt: HostRuntime) {
     let alloc = rt.alloc();
     for (before, middle, behind) in [
         ("not ", "a", ""),
@@ -213,68 +220,83 @@ fn nesting(rt: HostRuntime) -> Result<(), Fail> {
         ("", "a", " and b"),
         ("", "a", " or b"),
     ] {
-        let text = wrapped(alloc, 31, before, middle, behind)?;
-        assert_eq!(rt;
-            fault_in(alloc, text.as_str())?,
-            None,
-            "{before} .. {behind}"
-        );
-        let text = wrapped(alloc, 32, before, middle, behind)?;
         let deep = Some(LangFault::TooDeep);
-        assert_eq!(rt;
-            fault_in(alloc, text.as_str())?,
-            deep,
-            "{before} .. {behind}"
-        );
+        expect(&rt, fault_around(alloc, 31, before, middle, behind), None);
+        expect(&rt, fault_around(alloc, 32, before, middle, behind), deep);
     }
-    Ok(())
+}
+
+/// What is at fault in a text behind 31 of these.
+fn fault_behind(alloc: Global, before: &str, text: &str) -> Result<Option<LangFault>, AllocError> {
+    let text = wrapped(alloc, 31, before, text, "")?;
+    fault_in(alloc, text.as_str())
 }
 
 #[test]
-fn too_deep_or_unexpected(rt: HostRuntime) -> Result<(), Fail> {
+fn too_deep_before_unexpected(rt: HostRuntime) {
     let alloc = rt.alloc();
-    // What stands behind 31 times `not `, which takes 124 bytes.
-    for (behind, fault) in [
-        ("a", None),
-        ("4294967295", None),
-        ("4294967296", limit_passed(124, 134)),
-        ("then", unexpected(124, 128)),
-        ("", unexpected(124, 124)),
-        ("a then", unexpected(126, 130)),
-        ("not", Some(LangFault::TooDeep)),
-        ("if", unexpected(124, 126)),
-        ("( then", Some(LangFault::TooDeep)),
-        ("{ 1 : a }", Some(LangFault::TooDeep)),
-        ("[ 1 : a ]", Some(LangFault::TooDeep)),
-        ("size then", Some(LangFault::TooDeep)),
-        ("has then", Some(LangFault::TooDeep)),
-        ("a[then", Some(LangFault::TooDeep)),
-        ("a = then", Some(LangFault::TooDeep)),
-        ("a + then", Some(LangFault::TooDeep)),
-        ("a div then", Some(LangFault::TooDeep)),
-        ("a and then", Some(LangFault::TooDeep)),
-        ("( $", bad_token(126, 127)),
+    for behind in [
+        "not",
+        "( then",
+        "{ 1 : a }",
+        "[ 1 : a ]",
+        "size then",
+        "has then",
+        "a[then",
+        "a = then",
+        "a + then",
+        "a div then",
+        "a and then",
     ] {
-        let mut text = wrapped(alloc, 31, "not ", "", "")?;
-        text.push_str(behind)?;
-        assert_eq!(rt; fault_in(alloc, text.as_str())?, fault, "{behind}");
+        let deep = Some(LangFault::TooDeep);
+        expect(&rt, fault_behind(alloc, "not ", behind), deep);
     }
+}
+
+#[test]
+fn unexpected_at_the_limit(rt: HostRuntime) {
+    let alloc = rt.alloc();
+    expect(&rt, fault_behind(alloc, "not ", "a"), None);
+    expect(&rt, fault_behind(alloc, "not ", "4294967295"), None);
+    // The words take 124 bytes.
+    let large = limit_passed(124, 134);
+    expect(&rt, fault_behind(alloc, "not ", "4294967296"), large);
+    expect(&rt, fault_behind(alloc, "not ", "( $"), bad_token(126, 127));
+    for (behind, first, after) in [
+        ("then", 124, 128),
+        ("", 124, 124),
+        ("a then", 126, 130),
+        ("if", 124, 126),
+    ] {
+        let fault = unexpected(first, after);
+        expect(&rt, fault_behind(alloc, "not ", behind), fault);
+    }
+}
+
+/// What is at fault behind an `a` in so many round brackets.
+fn fault_after(alloc: Global, count: usize, behind: &str) -> Result<Option<LangFault>, AllocError> {
+    let mut text = wrapped(alloc, count, "(", "a", ")")?;
+    text.push_str(behind)?;
+    fault_in(alloc, text.as_str())
+}
+
+#[test]
+fn deep_parts(rt: HostRuntime) {
+    let alloc = rt.alloc();
     // A left operand that is as deep as can be.
-    let mut text = wrapped(alloc, 31, "(", "a", ")")?;
-    text.push_str(" + $")?;
-    assert_eq!(rt; fault_in(alloc, text.as_str())?, bad_token(66, 67));
-    let mut text = wrapped(alloc, 31, "(", "a", ")")?;
-    text.push_str(" + then")?;
-    assert_eq!(rt; fault_in(alloc, text.as_str())?, Some(LangFault::TooDeep));
-    let mut text = wrapped(alloc, 30, "(", "a", ")")?;
-    text.push_str(" + then")?;
-    assert_eq!(rt; fault_in(alloc, text.as_str())?, unexpected(64, 68));
+    let deep = Some(LangFault::TooDeep);
+    expect(&rt, fault_after(alloc, 31, " + $"), bad_token(66, 67));
+    expect(&rt, fault_after(alloc, 31, " + then"), deep);
+    expect(&rt, fault_after(alloc, 30, " + then"), unexpected(64, 68));
     // The condition is too deep, or the branch.
-    let mut text = wrapped(alloc, 31, "if a then b else ", "if", "")?;
-    assert_eq!(rt; fault_in(alloc, text.as_str())?, Some(LangFault::TooDeep));
-    text.push_str(" $")?;
-    assert_eq!(rt; fault_in(alloc, text.as_str())?, bad_token(530, 531));
-    Ok(())
+    let branch = "if a then b else ";
+    let deep = Some(LangFault::TooDeep);
+    expect(&rt, fault_behind(alloc, branch, "if"), deep);
+    expect(
+        &rt,
+        fault_behind(alloc, branch, "if $"),
+        bad_token(530, 531),
+    );
 }
 
 const NAME_32: &str = "abcdefghijklmnopqrstuvwxyz_23456";
@@ -308,23 +330,20 @@ fn long_names(rt: HostRuntime) -> Result<(), Fail> {
     ] {
         let behind = if behind == " * $" { "" } else { behind };
         let text = format!(in alloc; "{before}{NAME_32}{behind}")?;
-        assert_eq!(rt; fault_of(alloc, text.as_str()), None, "{before}");
+        expect_fault(&rt, alloc, text.as_str(), None);
         let first = before.len().min(99);
         let text = format!(in alloc; "{before}{NAME_33}{behind}")?;
-        assert_eq!(rt;
-            fault_of(alloc, text.as_str()),
-            limit_passed(first, first + 33),
-            "{before}"
-        );
+        expect_fault(&rt, alloc, text.as_str(), limit_passed(first, first + 33));
     }
     // Where a name can't stand, it's unexpected.
     let text = format!(in alloc; "{block}a: {NAME_33}")?;
-    assert_eq!(rt; fault_of(alloc, text.as_str()), unexpected(36, 69));
+    expect_fault(&rt, alloc, text.as_str(), unexpected(36, 69));
     Ok(())
 }
 
 #[test]
-fn numbers_of_programs(rt: HostRuntime) -> Result<(), Fail> {
+fn numbers_of_programs(rt: HostRuntime) {
+    let alloc = rt.alloc();
     for (text, fault) in [
         ("values 0 period 1", limit_passed(7, 8)),
         ("values 1 period 1", None),
@@ -354,54 +373,87 @@ fn numbers_of_programs(rt: HostRuntime) -> Result<(), Fail> {
         ("values 2 65", unexpected(9, 11)),
         ("values 2 period 1 4294967296", unexpected(18, 28)),
     ] {
-        assert_eq!(rt; fault_of(rt.alloc(), text), fault, "{text}");
+        expect_fault(&rt, alloc, text, fault);
     }
-    Ok(())
+}
+
+/// What is at fault behind so many `input` lines of 8 bytes, which stand behind 18 bytes.
+fn fault_behind_inputs(
+    alloc: Global,
+    count: usize,
+    behind: &str,
+) -> Result<Option<LangFault>, AllocError> {
+    let inputs = wrapped(alloc, count, "input a ", behind, "")?;
+    let text = format!(in alloc; "values 2 period 1 {inputs}")?;
+    Ok(fault_of(alloc, text.as_str()))
 }
 
 #[test]
-fn variables_and_fields(rt: HostRuntime) -> Result<(), Fail> {
+fn many_variables(rt: HostRuntime) {
     let alloc = rt.alloc();
-    // `input` lines of 8 bytes behind the first 18.
-    for (count, behind, fault) in [
-        (15, "input x", None),
-        (15, "state x: num = 1", None),
-        (15, "state x: num = 1 decide a decide b decide c", None),
-        (16, "decide a decide b", None),
-        (16, "input x", limit_passed(152, 153)),
-        (16, "input then", unexpected(152, 156)),
-        (16, "state x then", limit_passed(152, 153)),
-        (16, "decide a state x: num = 1", limit_passed(161, 162)),
-        (
-            16,
-            "at 1: message () send when a: () on message: end:",
-            None,
-        ),
+    for (count, behind) in [
+        (15, "input x"),
+        (15, "state x: num = 1"),
+        (15, "state x: num = 1 decide a decide b decide c"),
+        (16, "decide a decide b"),
+        (16, "at 1: message () send when a: () on message: end:"),
     ] {
-        let mut text = String::from_str(alloc, "values 2 period 1 ")?;
-        text.push_str(wrapped(alloc, count, "input a ", behind, "")?.as_str())?;
-        assert_eq!(rt; fault_of(alloc, text.as_str()), fault, "{behind}");
+        expect(&rt, fault_behind_inputs(alloc, count, behind), None);
     }
-    // Fields of 8 bytes behind the first 33.
-    for (count, behind, fault) in [
-        (7, "b: row) then", unexpected(97, 101)),
-        (8, "b: row) then", limit_passed(97, 98)),
-        (8, "b then", limit_passed(97, 98)),
-        (8, ") then", unexpected(97, 98)),
-        (8, "then", unexpected(97, 101)),
+    for (behind, first) in [
+        ("input x", 152),
+        ("state x then", 152),
+        ("decide a state x: num = 1", 161),
     ] {
-        let mut text = String::from_str(alloc, "values 2 period 1 at 1: message (")?;
-        text.push_str(wrapped(alloc, count, "a: num, ", behind, "")?.as_str())?;
-        assert_eq!(rt; fault_of(alloc, text.as_str()), fault, "{behind}");
+        let fault = limit_passed(first, first + 1);
+        expect(&rt, fault_behind_inputs(alloc, 16, behind), fault);
     }
-    let block = wrapped(alloc, 7, "a: num, ", "a: num", "")?;
-    let fields = block.as_str();
+    let fault = unexpected(152, 156);
+    expect(&rt, fault_behind_inputs(alloc, 16, "input then"), fault);
+}
+
+/// What is at fault behind so many fields of 8 bytes, which stand behind 33 bytes.
+fn fault_behind_fields(
+    alloc: Global,
+    count: usize,
+    behind: &str,
+) -> Result<Option<LangFault>, AllocError> {
+    let fields = wrapped(alloc, count, "a: num, ", behind, "")?;
+    let text = format!(in alloc; "values 2 period 1 at 1: message ({fields}")?;
+    Ok(fault_of(alloc, text.as_str()))
+}
+
+/// What is at fault in a program of two blocks with 8 fields each.
+fn fault_of_two_blocks(alloc: Global) -> Result<Option<LangFault>, AllocError> {
+    let fields = wrapped(alloc, 7, "a: num, ", "a: num", "")?;
     let rest = "send when a: () on message: end:";
     let text = format!(in alloc;
         "values 2 period 1 at 1: message ({fields}) {rest} at 2: message ({fields}) {rest}"
     )?;
-    assert_eq!(rt; fault_of(alloc, text.as_str()), None);
-    Ok(())
+    Ok(fault_of(alloc, text.as_str()))
+}
+
+#[test]
+fn many_fields(rt: HostRuntime) {
+    let alloc = rt.alloc();
+    for (count, behind, first, after) in [
+        (7, "b: row) then", 97, 101),
+        (8, ") then", 97, 98),
+        (8, "then", 97, 101),
+    ] {
+        let fault = unexpected(first, after);
+        expect(&rt, fault_behind_fields(alloc, count, behind), fault);
+    }
+    for behind in ["b: row) then", "b then"] {
+        let fault = limit_passed(97, 98);
+        expect(&rt, fault_behind_fields(alloc, 8, behind), fault);
+    }
+    expect(&rt, fault_of_two_blocks(alloc), None);
+}
+
+/// The same as `expect_fault`, for a text that no message could hold.
+fn expect_long(rt: &impl Abort, alloc: Global, text: &str, fault: Option<LangFault>) {
+    assert_eq!(rt; fault_of(alloc, text), fault, "{} bytes", text.len());
 }
 
 #[test]
@@ -414,17 +466,17 @@ fn long_texts(rt: HostRuntime) -> Result<(), Fail> {
         text.push_str("a:=b;")?;
     }
     assert_eq!(rt; text.len(), 65_536);
-    assert_eq!(rt; fault_of(alloc, text.as_str()), None);
+    expect_long(&rt, alloc, text.as_str(), None);
     text.push_str(" ")?;
-    assert_eq!(rt; fault_of(alloc, text.as_str()), Some(LangFault::TooLong));
+    expect_long(&rt, alloc, text.as_str(), Some(LangFault::TooLong));
     let mut text = String::from_str(alloc, "$ values 2 then")?;
     for _ in 0..6_000 {
         text.push_str("          ")?;
     }
-    assert_eq!(rt; fault_of(alloc, text.as_str()), bad_token(0, 1));
+    expect_long(&rt, alloc, text.as_str(), bad_token(0, 1));
     for _ in 0..600 {
         text.push_str("          ")?;
     }
-    assert_eq!(rt; fault_of(alloc, text.as_str()), Some(LangFault::TooLong));
+    expect_long(&rt, alloc, text.as_str(), Some(LangFault::TooLong));
     Ok(())
 }

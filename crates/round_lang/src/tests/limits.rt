@@ -1,15 +1,15 @@
 //! Names and expressions that are made by hand, within their limits and past them.
 
+use super::expect;
 use crate::{BinaryOperator, Constant, Expr, Formula, Identifier, NoMemory, UnaryOperator};
 use std::alloc::{AllocError, Global};
-use std::test::Fail;
 
 fn is_name(alloc: Global, text: &str) -> Result<bool, AllocError> {
     Ok(Identifier::new(String::from_str(alloc, text)?).is_some())
 }
 
 #[test]
-fn names(rt: HostRuntime) -> Result<(), Fail> {
+fn names(rt: HostRuntime) {
     let alloc = rt.alloc();
     for name in [
         "x",
@@ -20,7 +20,7 @@ fn names(rt: HostRuntime) -> Result<(), Fail> {
         "n1",
         "a_name_that_has_32_bytes_as_here",
     ] {
-        assert!(rt; is_name(alloc, name)?, "{name}");
+        expect(&rt, is_name(alloc, name), true);
     }
     for text in [
         "",
@@ -34,9 +34,8 @@ fn names(rt: HostRuntime) -> Result<(), Fail> {
         "from",
         "a_name_that_has_33_bytes_as_here_",
     ] {
-        assert!(rt; !is_name(alloc, text)?, "{text}");
+        expect(&rt, is_name(alloc, text), false);
     }
-    Ok(())
 }
 
 /// `not .. not true`, which nests so deep.
@@ -49,8 +48,8 @@ fn nots(alloc: Global, depth: u32) -> Result<Expr, NoMemory> {
 }
 
 /// An expression at each place where a form has a part.
-fn around(alloc: Global, place: u32, part: Expr) -> Result<Expr, NoMemory> {
-    let part = Box::new(alloc, part)?;
+fn around(alloc: Global, place: u32, part: Result<Expr, NoMemory>) -> Result<Expr, NoMemory> {
+    let part = Box::new(alloc, part?)?;
     let one = Box::new(alloc, Expr::Number(1))?;
     let other = Box::new(alloc, Expr::Number(2))?;
     if place < 3 {
@@ -72,21 +71,18 @@ fn around(alloc: Global, place: u32, part: Expr) -> Result<Expr, NoMemory> {
     }
 }
 
+fn fits(expr: Result<Expr, NoMemory>) -> Result<bool, NoMemory> {
+    Ok(Formula::new(expr?).is_some())
+}
+
 #[test]
-fn nesting(rt: HostRuntime) -> Result<(), Fail> {
+fn nesting(rt: HostRuntime) {
     let alloc = rt.alloc();
-    for (depth, fits) in [(1, true), (32, true), (33, false), (1000, false)] {
-        assert_eq!(rt;
-            Formula::new(nots(alloc, depth)?).is_some(),
-            fits,
-            "{depth}"
-        );
+    for (depth, is_within) in [(1, true), (32, true), (33, false), (1000, false)] {
+        expect(&rt, fits(nots(alloc, depth)), is_within);
     }
     for place in 0..7 {
-        let within = around(alloc, place, nots(alloc, 31)?)?;
-        assert!(rt; Formula::new(within).is_some(), "{place}");
-        let past = around(alloc, place, nots(alloc, 32)?)?;
-        assert!(rt; Formula::new(past).is_none(), "{place}");
+        expect(&rt, fits(around(alloc, place, nots(alloc, 31))), true);
+        expect(&rt, fits(around(alloc, place, nots(alloc, 32))), false);
     }
-    Ok(())
 }

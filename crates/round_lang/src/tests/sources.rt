@@ -1,7 +1,10 @@
 //! The product's own programs, and what makes them none.
 
-use super::{fault_of, limit_passed};
-use crate::{Constant, Expr, LangFault, Ty, VariableKind, parse};
+use super::trees::write_tree;
+use super::{expect_fault, limit_passed};
+use crate::{Assignment, Block, LangFault, Program, Variable, VariableKind, parse};
+use std::alloc::{AllocError, Global};
+use std::process::Abort;
 use std::test::Fail;
 
 const GATHER: &str = "values 2 period 1
@@ -76,53 +79,145 @@ at 4:
   end:
 ";
 
-#[test]
-fn the_parts_of_gather(rt: HostRuntime) -> Result<(), Fail> {
-    let program = parse(rt.alloc(), GATHER)?;
-    assert_eq!(rt; program.values(), 2);
-    assert_eq!(rt; program.period(), 1);
-    assert_eq!(rt; program.variables().len(), 2);
-    assert_eq!(rt; program.variables()[0].name.as_str(), "x");
-    assert!(rt; matches!(program.variables()[0].kind, VariableKind::Input));
-    assert_eq!(rt; program.variables()[1].name.as_str(), "seen");
-    assert!(rt;
-        matches!(
-            program.variables()[1].kind,
-            VariableKind::State { ty: Ty::Set, .. }
-        )
-    );
-    assert_eq!(rt; program.decides().len(), 1);
-    assert_eq!(rt; program.decides()[0].as_str(), "seen");
-    assert_eq!(rt; program.blocks().len(), 1);
-    let block = &program.blocks()[0];
-    assert_eq!(rt; block.number(), 1);
-    assert_eq!(rt; block.fields().len(), 1);
-    assert_eq!(rt; block.fields()[0].name.as_str(), "s");
-    assert_eq!(rt; block.fields()[0].ty, Ty::Set);
-    assert!(rt; matches!(block.condition().expr(), Expr::Fixed(Constant::True)));
-    assert_eq!(rt; block.sent().len(), 1);
-    assert_eq!(rt; block.on_message().len(), 1);
-    assert_eq!(rt; block.on_message()[0].target.as_str(), "seen");
-    assert_eq!(rt; block.end().len(), 0);
+fn write_variable(out: &mut String, variable: &Variable) -> Result<(), AllocError> {
+    let name = variable.name.as_str();
+    match &variable.kind {
+        VariableKind::Input => write!(out, "input {name}; "),
+        VariableKind::State { ty, start } => {
+            write!(out, "state {name}: {ty:?} = ")?;
+            write_tree(out, start.expr())?;
+            out.push_str("; ")
+        }
+    }
+}
+
+fn write_assignments(out: &mut String, assignments: &[Assignment]) -> Result<(), AllocError> {
+    for assignment in assignments {
+        write!(out, " {} := ", assignment.target.as_str())?;
+        write_tree(out, assignment.formula.expr())?;
+        out.push_str(";")?;
+    }
+    Ok(())
+}
+
+fn write_message(out: &mut String, block: &Block) -> Result<(), AllocError> {
+    write!(out, "at {}: message", block.number())?;
+    for field in block.fields() {
+        write!(out, " {}: {:?}", field.name.as_str(), field.ty)?;
+    }
+    out.push_str(" when ")?;
+    write_tree(out, block.condition().expr())?;
+    out.push_str(" sent")?;
+    for formula in block.sent() {
+        out.push_str(" ")?;
+        write_tree(out, formula.expr())?;
+    }
+    Ok(())
+}
+
+fn write_block(out: &mut String, block: &Block) -> Result<(), AllocError> {
+    write_message(out, block)?;
+    out.push_str("; on message")?;
+    write_assignments(out, block.on_message())?;
+    out.push_str(" end")?;
+    write_assignments(out, block.end())
+}
+
+/// What a program says, with its expressions as trees.
+fn write_program(out: &mut String, program: &Program) -> Result<(), AllocError> {
+    write!(
+        out,
+        "values {} period {} ",
+        program.values(),
+        program.period()
+    )?;
+    for variable in program.variables() {
+        write_variable(out, variable)?;
+    }
+    out.push_str("decide")?;
+    for name in program.decides() {
+        write!(out, " {}", name.as_str())?;
+    }
+    Ok(())
+}
+
+/// A program without its blocks, and each of them.
+fn parts_of(alloc: Global, text: &str) -> Result<Vec<String>, Fail> {
+    let program = parse(alloc, text)?;
+    let mut parts = Vec::new(alloc);
+    let mut declared = String::new(alloc);
+    write_program(&mut declared, &program)?;
+    parts.push(declared)?;
+    for block in program.blocks() {
+        let mut part = String::new(alloc);
+        write_block(&mut part, block)?;
+        parts.push(part)?;
+    }
+    Ok(parts)
+}
+
+fn expect_parts(rt: &impl Abort, alloc: Global, text: &str, expected: &[&str]) -> Result<(), Fail> {
+    let parts = parts_of(alloc, text)?;
+    for (part, expected) in parts.iter().zip(expected) {
+        assert_eq!(rt; part.as_str(), *expected);
+    }
+    assert_eq!(rt; parts.len(), expected.len());
     Ok(())
 }
 
 #[test]
-fn the_parts_of_the_others(rt: HostRuntime) -> Result<(), Fail> {
-    let votes = parse(rt.alloc(), COUNT_VOTES)?;
-    assert_eq!(rt; votes.variables().len(), 4);
-    assert_eq!(rt; votes.blocks().len(), 1);
-    assert_eq!(rt; votes.blocks()[0].end().len(), 3);
-    let dls1 = parse(rt.alloc(), DLS1)?;
-    assert_eq!(rt; dls1.variables().len(), 8);
-    assert_eq!(rt; dls1.blocks().len(), 4);
-    assert_eq!(rt; dls1.blocks()[3].number(), 4);
-    assert_eq!(rt; dls1.blocks()[2].end().len(), 4);
-    Ok(())
+fn the_parts_of_gather(rt: HostRuntime) -> Result<(), Fail> {
+    let parts = [
+        "values 2 period 1 input x; state seen: Set = Single(x); decide seen",
+        "at 1: message s: Set when True sent seen; on message seen := Union(seen s); end",
+    ];
+    expect_parts(&rt, rt.alloc(), GATHER, &parts)
+}
+
+#[test]
+fn the_parts_of_count_votes(rt: HostRuntime) -> Result<(), Fail> {
+    let parts = [
+        "values 2 period 1 input x; state votes: Row = Zero; state last: Row = Zero; \
+         state top: Set = Empty; decide top",
+        "at 1: message v: Num when True sent x; on message \
+         votes := RowOf(w If(Equal(w v) Add(Entry(votes w) 1) Entry(votes w))); end \
+         top := SetOf(w More(Entry(votes w) Div(Nodes 2))); last := votes; votes := Zero;",
+    ];
+    expect_parts(&rt, rt.alloc(), COUNT_VOTES, &parts)
+}
+
+#[test]
+fn the_parts_of_dls1(rt: HostRuntime) -> Result<(), Fail> {
+    let parts = [
+        "values 2 period 4 input x; state proper: Set = Single(x); state locks: Row = Zero; \
+         state lists: Row = Zero; state prop: Set = Empty; state got: Bool = False; \
+         state acks: Num = 0; state done: Set = Empty; decide done",
+        "at 1: message list: Set p: Set when Equal(Dest Mod(Sub(Phase 1) Nodes)) \
+         sent SetOf(v And(Has(proper v) \
+         Equal(Size(SetOf(w And(Differs(w v) More(Entry(locks w) 0)))) 0))) proper; on message \
+         lists := RowOf(v If(Has(list v) Add(Entry(lists v) 1) Entry(lists v))); \
+         proper := Union(proper p); end \
+         prop := If(Equal(Me Mod(Sub(Phase 1) Nodes)) \
+         Single(Least(SetOf(v AtLeast(Entry(lists v) Sub(Nodes Faults))))) Empty); \
+         lists := Zero;",
+        "at 2: message v: Set p: Set when More(Size(prop) 0) sent prop proper; on message \
+         locks := RowOf(w If(Has(v w) Phase Entry(locks w))); got := True; \
+         proper := Union(proper p); end",
+        "at 3: message p: Set when And(got Equal(Dest Mod(Sub(Phase 1) Nodes))) sent proper; \
+         on message acks := Add(acks 1); proper := Union(proper p); end \
+         done := If(And(Equal(Size(done) 0) AtLeast(acks Add(Faults 1))) prop done); \
+         acks := 0; got := False; prop := Empty;",
+        "at 4: message l: Row p: Set when More(Size(SetOf(v More(Entry(locks v) 0))) 0) \
+         sent locks proper; on message \
+         locks := RowOf(v If(More(Size(SetOf(w And(And(Differs(w v) More(Entry(l w) 0)) \
+         AtLeast(Entry(l w) Entry(locks v))))) 0) 0 Entry(locks v))); \
+         proper := Union(proper p); end",
+    ];
+    expect_parts(&rt, rt.alloc(), DLS1, &parts)
 }
 
 /// A program whose condition is `true` behind so many times `not`.
-fn program_when(alloc: std::alloc::Global, nots: usize) -> Result<String, std::alloc::AllocError> {
+fn program_when(alloc: Global, nots: usize) -> Result<String, AllocError> {
     let mut text = String::from_str(alloc, "values 2 period 1 at 1: message () send when ")?;
     for _ in 0..nots {
         text.push_str("not ")?;
@@ -134,22 +229,19 @@ fn program_when(alloc: std::alloc::Global, nots: usize) -> Result<String, std::a
 #[test]
 fn changed_sources(rt: HostRuntime) -> Result<(), Fail> {
     let alloc = rt.alloc();
-    assert_eq!(rt; fault_of(alloc, program_when(alloc, 31)?.as_str()), None);
-    assert_eq!(rt;
-        fault_of(alloc, program_when(alloc, 32)?.as_str()),
-        Some(LangFault::TooDeep)
-    );
-    assert_eq!(rt;
-        fault_of(alloc, "values 65 period 1 input x"),
-        limit_passed(7, 9)
-    );
+    let text = program_when(alloc, 31)?;
+    expect_fault(&rt, alloc, text.as_str(), None);
+    let text = program_when(alloc, 32)?;
+    expect_fault(&rt, alloc, text.as_str(), Some(LangFault::TooDeep));
+    let many = "values 65 period 1 input x";
+    expect_fault(&rt, alloc, many, limit_passed(7, 9));
     // Names and types are judged later.
     for text in [
         "values 2 period 1 input x state seen: set = x decide seen",
         "values 2 period 1 state seen: set = single(x) decide seen",
         "values 2 period 1 decide q at 1: message () send when q: () on message: end: p := q;",
     ] {
-        assert_eq!(rt; fault_of(alloc, text), None, "{text}");
+        expect_fault(&rt, alloc, text, None);
     }
     Ok(())
 }

@@ -1,10 +1,21 @@
 //! Tokens, one by one and next to each other.
 
-use super::{bad_token, fault_in, fault_of, limit_passed, unexpected};
-use std::test::Fail;
+use super::{bad_token, expect, expect_fault, expect_in, fault_of, limit_passed, unexpected};
+use crate::LangFault;
+use std::alloc::{AllocError, Global};
+
+/// What is at fault in a program whose one input has this name, with more behind it.
+fn fault_of_input(
+    alloc: Global,
+    name: &str,
+    behind: &str,
+) -> Result<Option<LangFault>, AllocError> {
+    let text = format!(in alloc; "values 2 period 1 input {name}{behind}")?;
+    Ok(fault_of(alloc, text.as_str()))
+}
 
 #[test]
-fn no_keyword_is_a_name(rt: HostRuntime) -> Result<(), Fail> {
+fn no_keyword_is_a_name(rt: HostRuntime) {
     let alloc = rt.alloc();
     for word in [
         "values", "period", "state", "input", "decide", "at", "message", "send", "when", "on",
@@ -12,21 +23,18 @@ fn no_keyword_is_a_name(rt: HostRuntime) -> Result<(), Fail> {
         "minus", "inter", "div", "mod", "true", "false", "empty", "all", "zero", "single", "has",
         "size", "least", "me", "n", "t", "round", "phase", "dest", "from",
     ] {
-        let text = format!(in alloc; "values 2 period 1 input {word}")?;
         let fault = unexpected(24, 24 + word.len().min(99));
-        assert_eq!(rt; fault_of(alloc, text.as_str()), fault, "{word}");
-        let longer = format!(in alloc; "values 2 period 1 input {word}_ input {word}1")?;
-        assert_eq!(rt; fault_of(alloc, longer.as_str()), None, "{word}");
+        expect(&rt, fault_of_input(alloc, word, ""), fault);
+        expect(&rt, fault_of_input(alloc, word, "_"), None);
+        expect(&rt, fault_of_input(alloc, word, "1"), None);
     }
     for name in ["If", "NOT", "_", "_1", "a1_B", "tt", "val", "valuess"] {
-        let text = format!(in alloc; "values 2 period 1 input {name}")?;
-        assert_eq!(rt; fault_of(alloc, text.as_str()), None, "{name}");
+        expect(&rt, fault_of_input(alloc, name, ""), None);
     }
-    Ok(())
 }
 
 #[test]
-fn symbols_by_longest_match(rt: HostRuntime) -> Result<(), Fail> {
+fn symbols_by_longest_match(rt: HostRuntime) {
     let alloc = rt.alloc();
     for (expr, fault) in [
         ("a<b", None),
@@ -52,13 +60,12 @@ fn symbols_by_longest_match(rt: HostRuntime) -> Result<(), Fail> {
         ("(a)", None),
         ("a;", unexpected(1, 2)),
     ] {
-        assert_eq!(rt; fault_in(alloc, expr)?, fault, "{expr}");
+        expect_in(&rt, alloc, expr, fault);
     }
-    Ok(())
 }
 
 #[test]
-fn numbers(rt: HostRuntime) -> Result<(), Fail> {
+fn numbers(rt: HostRuntime) {
     let alloc = rt.alloc();
     for (expr, fault) in [
         ("0", None),
@@ -78,13 +85,12 @@ fn numbers(rt: HostRuntime) -> Result<(), Fail> {
         ("+1", unexpected(0, 1)),
         ("-1", unexpected(0, 1)),
     ] {
-        assert_eq!(rt; fault_in(alloc, expr)?, fault, "{expr}");
+        expect_in(&rt, alloc, expr, fault);
     }
-    Ok(())
 }
 
 #[test]
-fn blanks_and_comments(rt: HostRuntime) -> Result<(), Fail> {
+fn blanks_and_comments(rt: HostRuntime) {
     let alloc = rt.alloc();
     for (text, fault) in [
         ("values 2 period 1", None),
@@ -100,13 +106,12 @@ fn blanks_and_comments(rt: HostRuntime) -> Result<(), Fail> {
         ("\u{feff}values 2 period 1", bad_token(0, 3)),
         ("values 2 \0", bad_token(9, 10)),
     ] {
-        assert_eq!(rt; fault_of(alloc, text), fault, "{text}");
+        expect_fault(&rt, alloc, text, fault);
     }
-    Ok(())
 }
 
 #[test]
-fn no_tokens(rt: HostRuntime) -> Result<(), Fail> {
+fn no_tokens(rt: HostRuntime) {
     let alloc = rt.alloc();
     for (expr, fault) in [
         ("$", bad_token(0, 1)),
@@ -124,7 +129,6 @@ fn no_tokens(rt: HostRuntime) -> Result<(), Fail> {
         ("\u{10000}", bad_token(0, 4)),
         ("\u{10ffff}", bad_token(0, 4)),
     ] {
-        assert_eq!(rt; fault_in(alloc, expr)?, fault, "{expr}");
+        expect_in(&rt, alloc, expr, fault);
     }
-    Ok(())
 }

@@ -3,10 +3,11 @@
 use super::BEFORE;
 use crate::{Expr, VariableKind, parse};
 use std::alloc::{AllocError, Global};
+use std::process::Abort;
 use std::test::Fail;
 
 /// The tree, each form with its parts in round brackets.
-fn write_tree(out: &mut String, expr: &Expr) -> Result<(), AllocError> {
+pub fn write_tree(out: &mut String, expr: &Expr) -> Result<(), AllocError> {
     match expr {
         Expr::Number(number) => write!(out, "{number}"),
         Expr::Fixed(constant) => write!(out, "{constant:?}"),
@@ -57,6 +58,11 @@ fn tree_of(alloc: Global, expr: &str) -> Result<String, Fail> {
     Ok(out)
 }
 
+fn expect_tree(rt: &impl Abort, alloc: Global, expr: &str, tree: &str) -> Result<(), Fail> {
+    assert_eq!(rt; tree_of(alloc, expr)?.as_str(), tree, "{expr}");
+    Ok(())
+}
+
 #[test]
 fn levels(rt: HostRuntime) -> Result<(), Fail> {
     for (expr, tree) in [
@@ -86,7 +92,7 @@ fn levels(rt: HostRuntime) -> Result<(), Fail> {
         ("(a or b) and c", "And(Or(a b) c)"),
         ("not (a or b)", "Not(Or(a b))"),
     ] {
-        assert_eq!(rt; tree_of(rt.alloc(), expr)?.as_str(), tree, "{expr}");
+        expect_tree(&rt, rt.alloc(), expr, tree)?;
     }
     Ok(())
 }
@@ -116,7 +122,7 @@ fn forms(rt: HostRuntime) -> Result<(), Fail> {
         ("{v : if a then b else c}", "SetOf(v If(a b c))"),
         ("r[if a then b else c]", "Entry(r If(a b c))"),
     ] {
-        assert_eq!(rt; tree_of(rt.alloc(), expr)?.as_str(), tree, "{expr}");
+        expect_tree(&rt, rt.alloc(), expr, tree)?;
     }
     Ok(())
 }
