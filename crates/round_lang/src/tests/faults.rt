@@ -42,126 +42,130 @@ fn each_place_of_a_program(rt: HostRuntime) -> Result<(), Fail> {
     Ok(())
 }
 
+const WRONG_PROGRAMS: &[(&str, usize, usize)] = &[
+    ("at 1:", 0, 2),
+    ("values x", 7, 8),
+    ("values 2 3", 9, 10),
+    ("values 2 period at", 16, 18),
+    ("values 2 period 1 2", 18, 19),
+    ("values 2 period 1 x", 18, 19),
+    ("values 2 period 1 input n", 24, 25),
+    ("values 2 period 1 input x y", 26, 27),
+    ("values 2 period 1 decide x = 1", 27, 28),
+    ("values 2 period 1 state x = 1", 26, 27),
+    ("values 2 period 1 state x: y = 1", 27, 28),
+    ("values 2 period 1 state x: num := 1", 31, 33),
+    ("values 2 period 1 state x: num < 1", 31, 32),
+    ("values 2 period 1 at x", 21, 22),
+    ("values 2 period 1 at 1: message (,", 33, 34),
+    ("values 2 period 1 at 1: message (a)", 34, 35),
+    ("values 2 period 1 at 1: message (a: num,)", 40, 41),
+    ("values 2 period 1 at 1: message (a: num b", 40, 41),
+    ("values 2 period 1 at 1: message () send when :", 45, 46),
+    ("values 2 period 1 at 1: message () send when a: (,", 49, 50),
+    (
+        "values 2 period 1 at 1: message () send when a: (1,)",
+        51,
+        52,
+    ),
+    (
+        "values 2 period 1 at 1: message () send when a: (1 2",
+        51,
+        52,
+    ),
+    (
+        "values 2 period 1 at 1: message () send when a: () on end",
+        54,
+        57,
+    ),
+    (
+        "values 2 period 1 at 1: message () send when a: () on message: x = 1;",
+        65,
+        66,
+    ),
+    (
+        "values 2 period 1 at 1: message () send when a: () on message: x := 1 end",
+        70,
+        73,
+    ),
+    (
+        "values 2 period 1 at 1: message () send when a: () on message: end: at 2: state",
+        74,
+        79,
+    ),
+    (
+        "values 2 period 1 at 1: message () send when a: () on message: end: input x",
+        68,
+        73,
+    ),
+    (
+        "values 2 period 1 at 1: message () send when a: () on message: end: ;",
+        68,
+        69,
+    ),
+];
+
 #[test]
 fn wrong_tokens_of_programs(rt: HostRuntime) {
     let alloc = rt.alloc();
-    for (text, first, after) in [
-        ("at 1:", 0, 2),
-        ("values x", 7, 8),
-        ("values 2 3", 9, 10),
-        ("values 2 period at", 16, 18),
-        ("values 2 period 1 2", 18, 19),
-        ("values 2 period 1 x", 18, 19),
-        ("values 2 period 1 input n", 24, 25),
-        ("values 2 period 1 input x y", 26, 27),
-        ("values 2 period 1 decide x = 1", 27, 28),
-        ("values 2 period 1 state x = 1", 26, 27),
-        ("values 2 period 1 state x: y = 1", 27, 28),
-        ("values 2 period 1 state x: num := 1", 31, 33),
-        ("values 2 period 1 state x: num < 1", 31, 32),
-        ("values 2 period 1 at x", 21, 22),
-        ("values 2 period 1 at 1: message (,", 33, 34),
-        ("values 2 period 1 at 1: message (a)", 34, 35),
-        ("values 2 period 1 at 1: message (a: num,)", 40, 41),
-        ("values 2 period 1 at 1: message (a: num b", 40, 41),
-        ("values 2 period 1 at 1: message () send when :", 45, 46),
-        ("values 2 period 1 at 1: message () send when a: (,", 49, 50),
-        (
-            "values 2 period 1 at 1: message () send when a: (1,)",
-            51,
-            52,
-        ),
-        (
-            "values 2 period 1 at 1: message () send when a: (1 2",
-            51,
-            52,
-        ),
-        (
-            "values 2 period 1 at 1: message () send when a: () on end",
-            54,
-            57,
-        ),
-        (
-            "values 2 period 1 at 1: message () send when a: () on message: x = 1;",
-            65,
-            66,
-        ),
-        (
-            "values 2 period 1 at 1: message () send when a: () on message: x := 1 end",
-            70,
-            73,
-        ),
-        (
-            "values 2 period 1 at 1: message () send when a: () on message: end: at 2: state",
-            74,
-            79,
-        ),
-        (
-            "values 2 period 1 at 1: message () send when a: () on message: end: input x",
-            68,
-            73,
-        ),
-        (
-            "values 2 period 1 at 1: message () send when a: () on message: end: ;",
-            68,
-            69,
-        ),
-    ] {
+    for &(text, first, after) in WRONG_PROGRAMS {
         expect_fault(&rt, alloc, text, unexpected(first, after));
     }
 }
 
+const WRONG_EXPRESSIONS: &[(&str, usize, usize)] = &[
+    ("", 0, 0),
+    ("set", 0, 3),
+    ("decide", 0, 6),
+    ("a b", 2, 3),
+    ("1 2", 2, 3),
+    ("a not b", 2, 5),
+    ("a +", 3, 3),
+    ("a + + b", 4, 5),
+    ("a or", 4, 4),
+    ("a = not b", 4, 7),
+    ("a + if b then c else d", 4, 6),
+    ("a or if b then c else d", 5, 7),
+    ("not if a then b else c", 4, 6),
+    ("not", 3, 3),
+    ("not or", 4, 6),
+    ("a < b < c", 6, 7),
+    ("a = b = c", 6, 7),
+    ("a = b <> c", 6, 8),
+    ("if a", 4, 4),
+    ("if a b", 5, 6),
+    ("if a then b", 11, 11),
+    ("if a then b then", 12, 16),
+    ("if a then b else", 16, 16),
+    ("()", 1, 2),
+    ("(a", 2, 2),
+    ("(a]", 2, 3),
+    ("(a, b)", 2, 3),
+    ("a[]", 2, 3),
+    ("a[b", 3, 3),
+    ("a[b)", 3, 4),
+    ("a[b][c]", 4, 5),
+    ("a[v : b]", 4, 5),
+    ("{}", 1, 2),
+    ("{v}", 2, 3),
+    ("{1 : a}", 1, 2),
+    ("{n : a}", 1, 2),
+    ("{v : a]", 6, 7),
+    ("[v : a}", 6, 7),
+    ("[a]", 2, 3),
+    ("single a", 7, 8),
+    ("size()", 5, 6),
+    ("least(a, b)", 7, 8),
+    ("has a", 4, 5),
+    ("has(a)", 5, 6),
+    ("has(a, b, c)", 8, 9),
+    ("round(a)", 5, 6),
+];
+
 #[test]
 fn wrong_tokens_of_expressions(rt: HostRuntime) {
     let alloc = rt.alloc();
-    for (expr, first, after) in [
-        ("", 0, 0),
-        ("set", 0, 3),
-        ("decide", 0, 6),
-        ("a b", 2, 3),
-        ("1 2", 2, 3),
-        ("a not b", 2, 5),
-        ("a +", 3, 3),
-        ("a + + b", 4, 5),
-        ("a or", 4, 4),
-        ("a = not b", 4, 7),
-        ("a + if b then c else d", 4, 6),
-        ("a or if b then c else d", 5, 7),
-        ("not if a then b else c", 4, 6),
-        ("not", 3, 3),
-        ("not or", 4, 6),
-        ("a < b < c", 6, 7),
-        ("a = b = c", 6, 7),
-        ("a = b <> c", 6, 8),
-        ("if a", 4, 4),
-        ("if a b", 5, 6),
-        ("if a then b", 11, 11),
-        ("if a then b then", 12, 16),
-        ("if a then b else", 16, 16),
-        ("()", 1, 2),
-        ("(a", 2, 2),
-        ("(a]", 2, 3),
-        ("(a, b)", 2, 3),
-        ("a[]", 2, 3),
-        ("a[b", 3, 3),
-        ("a[b)", 3, 4),
-        ("a[b][c]", 4, 5),
-        ("a[v : b]", 4, 5),
-        ("{}", 1, 2),
-        ("{v}", 2, 3),
-        ("{1 : a}", 1, 2),
-        ("{n : a}", 1, 2),
-        ("{v : a]", 6, 7),
-        ("[v : a}", 6, 7),
-        ("[a]", 2, 3),
-        ("single a", 7, 8),
-        ("size()", 5, 6),
-        ("least(a, b)", 7, 8),
-        ("has a", 4, 5),
-        ("has(a)", 5, 6),
-        ("has(a, b, c)", 8, 9),
-        ("round(a)", 5, 6),
-    ] {
+    for &(expr, first, after) in WRONG_EXPRESSIONS {
         expect_in(&rt, alloc, expr, unexpected(first, after));
     }
 }
@@ -186,54 +190,63 @@ fn wrapped(
 }
 
 /// What is at fault in an expression with others around it, so many times.
-fn fault_around(
+fn expect_around(
+    rt: &impl Abort,
     alloc: Global,
     count: usize,
-    before: &str,
-    middle: &str,
-    behind: &str,
-) -> Result<Option<LangFault>, AllocError> {
+    parts: (&str, &str, &str),
+    fault: Option<LangFault>,
+) -> Result<(), AllocError> {
+    let (before, middle, behind) = parts;
     let text = wrapped(alloc, count, before, middle, behind)?;
-    fault_in(alloc, text.as_str())
+    expect_in(rt, alloc, text.as_str(), fault);
+    Ok(())
 }
 
+const AROUND: &[(&str, &str, &str)] = &[
+    ("not ", "a", ""),
+    ("(", "a", ")"),
+    ("(", "1", ")"),
+    ("if a then b else ", "c", ""),
+    ("if a then ", "b", " else c"),
+    ("if ", "a", " then b else c"),
+    ("single(", "a", ")"),
+    ("size(", "true", ")"),
+    ("least(", "a", ")"),
+    ("has(a, ", "b", ")"),
+    ("has(", "a", ", b)"),
+    ("{v : ", "a", "}"),
+    ("[v : ", "a", "]"),
+    ("r[", "a", "]"),
+    ("", "a", " + b"),
+    ("", "a", " div b"),
+    ("", "a", " and b"),
+    ("", "a", " or b"),
+];
+
 #[test]
-fn nesting(rt: HostRuntime) {
+fn nesting(rt: HostRuntime) -> Result<(), Fail> {
     let alloc = rt.alloc();
-    for (before, middle, behind) in [
-        ("not ", "a", ""),
-        ("(", "a", ")"),
-        ("(", "1", ")"),
-        ("if a then b else ", "c", ""),
-        ("if a then ", "b", " else c"),
-        ("if ", "a", " then b else c"),
-        ("single(", "a", ")"),
-        ("size(", "true", ")"),
-        ("least(", "a", ")"),
-        ("has(a, ", "b", ")"),
-        ("has(", "a", ", b)"),
-        ("{v : ", "a", "}"),
-        ("[v : ", "a", "]"),
-        ("r[", "a", "]"),
-        ("", "a", " + b"),
-        ("", "a", " div b"),
-        ("", "a", " and b"),
-        ("", "a", " or b"),
-    ] {
-        let deep = Some(LangFault::TooDeep);
-        expect(&rt, fault_around(alloc, 31, before, middle, behind), None);
-        expect(&rt, fault_around(alloc, 32, before, middle, behind), deep);
+    for &parts in AROUND {
+        expect_around(&rt, alloc, 31, parts, None)?;
+        expect_around(&rt, alloc, 32, parts, Some(LangFault::TooDeep))?;
     }
+    Ok(())
 }
 
 /// What is at fault in a text behind 31 of these.
-fn fault_behind(alloc: Global, before: &str, text: &str) -> Result<Option<LangFault>, AllocError> {
-    let text = wrapped(alloc, 31, before, text, "")?;
-    fault_in(alloc, text.as_str())
+fn expect_behind(
+    rt: &impl Abort,
+    alloc: Global,
+    before: &str,
+    text: &str,
+    fault: Option<LangFault>,
+) -> Result<(), AllocError> {
+    expect_around(rt, alloc, 31, (before, text, ""), fault)
 }
 
 #[test]
-fn too_deep_before_unexpected(rt: HostRuntime) {
+fn too_deep_before_unexpected(rt: HostRuntime) -> Result<(), Fail> {
     let alloc = rt.alloc();
     for behind in [
         "not",
@@ -249,19 +262,20 @@ fn too_deep_before_unexpected(rt: HostRuntime) {
         "a and then",
     ] {
         let deep = Some(LangFault::TooDeep);
-        expect(&rt, fault_behind(alloc, "not ", behind), deep);
+        expect_behind(&rt, alloc, "not ", behind, deep)?;
     }
+    Ok(())
 }
 
 #[test]
-fn unexpected_at_the_limit(rt: HostRuntime) {
+fn unexpected_at_the_limit(rt: HostRuntime) -> Result<(), Fail> {
     let alloc = rt.alloc();
-    expect(&rt, fault_behind(alloc, "not ", "a"), None);
-    expect(&rt, fault_behind(alloc, "not ", "4294967295"), None);
+    expect_behind(&rt, alloc, "not ", "a", None)?;
+    expect_behind(&rt, alloc, "not ", "4294967295", None)?;
     // The words take 124 bytes.
     let large = limit_passed(124, 134);
-    expect(&rt, fault_behind(alloc, "not ", "4294967296"), large);
-    expect(&rt, fault_behind(alloc, "not ", "( $"), bad_token(126, 127));
+    expect_behind(&rt, alloc, "not ", "4294967296", large)?;
+    expect_behind(&rt, alloc, "not ", "( $", bad_token(126, 127))?;
     for (behind, first, after) in [
         ("then", 124, 128),
         ("", 124, 124),
@@ -269,127 +283,152 @@ fn unexpected_at_the_limit(rt: HostRuntime) {
         ("if", 124, 126),
     ] {
         let fault = unexpected(first, after);
-        expect(&rt, fault_behind(alloc, "not ", behind), fault);
+        expect_behind(&rt, alloc, "not ", behind, fault)?;
     }
+    Ok(())
 }
 
 /// What is at fault behind an `a` in so many round brackets.
-fn fault_after(alloc: Global, count: usize, behind: &str) -> Result<Option<LangFault>, AllocError> {
+fn expect_after(
+    rt: &impl Abort,
+    alloc: Global,
+    count: usize,
+    behind: &str,
+    fault: Option<LangFault>,
+) -> Result<(), AllocError> {
     let mut text = wrapped(alloc, count, "(", "a", ")")?;
     text.push_str(behind)?;
-    fault_in(alloc, text.as_str())
+    expect_in(rt, alloc, text.as_str(), fault);
+    Ok(())
 }
 
 #[test]
-fn deep_parts(rt: HostRuntime) {
+fn deep_parts(rt: HostRuntime) -> Result<(), Fail> {
     let alloc = rt.alloc();
     // A left operand that is as deep as can be.
     let deep = Some(LangFault::TooDeep);
-    expect(&rt, fault_after(alloc, 31, " + $"), bad_token(66, 67));
-    expect(&rt, fault_after(alloc, 31, " + then"), deep);
-    expect(&rt, fault_after(alloc, 30, " + then"), unexpected(64, 68));
+    expect_after(&rt, alloc, 31, " + $", bad_token(66, 67))?;
+    expect_after(&rt, alloc, 31, " + then", deep)?;
+    expect_after(&rt, alloc, 30, " + then", unexpected(64, 68))?;
     // The condition is too deep, or the branch.
     let branch = "if a then b else ";
     let deep = Some(LangFault::TooDeep);
-    expect(&rt, fault_behind(alloc, branch, "if"), deep);
-    expect(
-        &rt,
-        fault_behind(alloc, branch, "if $"),
-        bad_token(530, 531),
-    );
+    expect_behind(&rt, alloc, branch, "if", deep)?;
+    expect_behind(&rt, alloc, branch, "if $", bad_token(530, 531))?;
+    Ok(())
 }
 
 const NAME_32: &str = "abcdefghijklmnopqrstuvwxyz_23456";
 
 const NAME_33: &str = "abcdefghijklmnopqrstuvwxyz_234567";
 
-#[test]
-fn long_names(rt: HostRuntime) -> Result<(), Fail> {
-    let alloc = rt.alloc();
-    let block = "values 2 period 1 at 1: message (";
-    for (before, behind) in [
-        ("values 2 period 1 state ", ": num = 1"),
-        ("values 2 period 1 input ", ""),
-        ("values 2 period 1 decide ", ""),
-        ("values 2 period 1 state s: num = ", ""),
-        ("values 2 period 1 state s: num = 1 + ", " * $"),
-        ("values 2 period 1 state s: num = {", " : 1}"),
-        ("values 2 period 1 state s: num = [", " : 1]"),
-        (
-            "values 2 period 1 at 1: message (",
-            ": num) send when a: () on message: end:",
-        ),
-        (
-            "values 2 period 1 at 1: message () send when a: () on message: ",
-            " := 1; end:",
-        ),
-        (
-            "values 2 period 1 at 1: message () send when a: () on message: end: ",
-            " := 1;",
-        ),
-    ] {
-        let behind = if behind == " * $" { "" } else { behind };
-        let text = format!(in alloc; "{before}{NAME_32}{behind}")?;
-        expect_fault(&rt, alloc, text.as_str(), None);
-        let first = before.len().min(99);
-        let text = format!(in alloc; "{before}{NAME_33}{behind}")?;
-        expect_fault(&rt, alloc, text.as_str(), limit_passed(first, first + 33));
-    }
-    // Where a name can't stand, it's unexpected.
-    let text = format!(in alloc; "{block}a: {NAME_33}")?;
-    expect_fault(&rt, alloc, text.as_str(), unexpected(36, 69));
+/// What stands before and behind a name, at each place for one.
+const AROUND_NAMES: &[(&str, &str)] = &[
+    ("values 2 period 1 state ", ": num = 1"),
+    ("values 2 period 1 input ", ""),
+    ("values 2 period 1 decide ", ""),
+    ("values 2 period 1 state s: num = ", ""),
+    ("values 2 period 1 state s: num = {", " : 1}"),
+    ("values 2 period 1 state s: num = [", " : 1]"),
+    (
+        "values 2 period 1 at 1: message (",
+        ": num) send when a: () on message: end:",
+    ),
+    (
+        "values 2 period 1 at 1: message () send when a: () on message: ",
+        " := 1; end:",
+    ),
+    (
+        "values 2 period 1 at 1: message () send when a: () on message: end: ",
+        " := 1;",
+    ),
+    ("values 2 period 1 state s: num = 1 + ", ""),
+];
+
+/// What is at fault in a program with this name.
+fn expect_name(
+    rt: &impl Abort,
+    alloc: Global,
+    parts: (&str, &str, &str),
+    fault: Option<LangFault>,
+) -> Result<(), AllocError> {
+    let (before, name, behind) = parts;
+    let text = format!(in alloc; "{before}{name}{behind}")?;
+    expect_fault(rt, alloc, text.as_str(), fault);
     Ok(())
 }
 
 #[test]
+fn long_names(rt: HostRuntime) -> Result<(), Fail> {
+    let alloc = rt.alloc();
+    for &(before, behind) in AROUND_NAMES {
+        expect_name(&rt, alloc, (before, NAME_32, behind), None)?;
+        let first = before.len().min(99);
+        let long = limit_passed(first, first + 33);
+        expect_name(&rt, alloc, (before, NAME_33, behind), long)?;
+    }
+    // Where a name can't stand, it's unexpected.
+    let block = "values 2 period 1 at 1: message (a: ";
+    expect_name(&rt, alloc, (block, NAME_33, ""), unexpected(36, 69))?;
+    Ok(())
+}
+
+const GOOD_NUMBERS: &[&str] = &[
+    "values 1 period 1",
+    "values 64 period 1",
+    "values 0064 period 1",
+    "values 2 period 8",
+    "values 2 period 1 at 0: message () send when a: () on message: end:",
+    "values 2 period 1 at 4294967295: message () send when a: () on message: end:",
+];
+
+const LARGE_NUMBERS: &[(&str, usize, usize)] = &[
+    ("values 0 period 1", 7, 8),
+    ("values 65 period 1", 7, 9),
+    ("values 4294967297 period 1", 7, 17),
+    ("values 18446744073709551617 period 1", 7, 27),
+    ("values 2 period 0", 16, 17),
+    ("values 2 period 9", 16, 17),
+    ("values 2 period 1 at 4294967296: then", 21, 31),
+    ("values 65 then", 7, 9),
+];
+
+#[test]
 fn numbers_of_programs(rt: HostRuntime) {
     let alloc = rt.alloc();
-    for (text, fault) in [
-        ("values 0 period 1", limit_passed(7, 8)),
-        ("values 1 period 1", None),
-        ("values 64 period 1", None),
-        ("values 0064 period 1", None),
-        ("values 65 period 1", limit_passed(7, 9)),
-        ("values 4294967297 period 1", limit_passed(7, 17)),
-        ("values 18446744073709551617 period 1", limit_passed(7, 27)),
-        ("values 2 period 0", limit_passed(16, 17)),
-        ("values 2 period 8", None),
-        ("values 2 period 9", limit_passed(16, 17)),
-        (
-            "values 2 period 1 at 0: message () send when a: () on message: end:",
-            None,
-        ),
-        (
-            "values 2 period 1 at 4294967295: message () send when a: () on message: end:",
-            None,
-        ),
-        (
-            "values 2 period 1 at 4294967296: then",
-            limit_passed(21, 31),
-        ),
-        ("values 65 then", limit_passed(7, 9)),
-        ("values then 65", unexpected(7, 11)),
-        ("values 65 period 9 $", bad_token(19, 20)),
-        ("values 2 65", unexpected(9, 11)),
-        ("values 2 period 1 4294967296", unexpected(18, 28)),
-    ] {
-        expect_fault(&rt, alloc, text, fault);
+    for &text in GOOD_NUMBERS {
+        expect_fault(&rt, alloc, text, None);
     }
+    for &(text, first, after) in LARGE_NUMBERS {
+        expect_fault(&rt, alloc, text, limit_passed(first, after));
+    }
+    expect_fault(&rt, alloc, "values then 65", unexpected(7, 11));
+    expect_fault(&rt, alloc, "values 65 period 9 $", bad_token(19, 20));
+    expect_fault(&rt, alloc, "values 2 65", unexpected(9, 11));
+    expect_fault(
+        &rt,
+        alloc,
+        "values 2 period 1 4294967296",
+        unexpected(18, 28),
+    );
 }
 
 /// What is at fault behind so many `input` lines of 8 bytes, which stand behind 18 bytes.
-fn fault_behind_inputs(
+fn expect_behind_inputs(
+    rt: &impl Abort,
     alloc: Global,
     count: usize,
     behind: &str,
-) -> Result<Option<LangFault>, AllocError> {
+    fault: Option<LangFault>,
+) -> Result<(), AllocError> {
     let inputs = wrapped(alloc, count, "input a ", behind, "")?;
     let text = format!(in alloc; "values 2 period 1 {inputs}")?;
-    Ok(fault_of(alloc, text.as_str()))
+    expect_fault(rt, alloc, text.as_str(), fault);
+    Ok(())
 }
 
 #[test]
-fn many_variables(rt: HostRuntime) {
+fn many_variables(rt: HostRuntime) -> Result<(), Fail> {
     let alloc = rt.alloc();
     for (count, behind) in [
         (15, "input x"),
@@ -398,7 +437,7 @@ fn many_variables(rt: HostRuntime) {
         (16, "decide a decide b"),
         (16, "at 1: message () send when a: () on message: end:"),
     ] {
-        expect(&rt, fault_behind_inputs(alloc, count, behind), None);
+        expect_behind_inputs(&rt, alloc, count, behind, None)?;
     }
     for (behind, first) in [
         ("input x", 152),
@@ -406,21 +445,25 @@ fn many_variables(rt: HostRuntime) {
         ("decide a state x: num = 1", 161),
     ] {
         let fault = limit_passed(first, first + 1);
-        expect(&rt, fault_behind_inputs(alloc, 16, behind), fault);
+        expect_behind_inputs(&rt, alloc, 16, behind, fault)?;
     }
     let fault = unexpected(152, 156);
-    expect(&rt, fault_behind_inputs(alloc, 16, "input then"), fault);
+    expect_behind_inputs(&rt, alloc, 16, "input then", fault)?;
+    Ok(())
 }
 
 /// What is at fault behind so many fields of 8 bytes, which stand behind 33 bytes.
-fn fault_behind_fields(
+fn expect_behind_fields(
+    rt: &impl Abort,
     alloc: Global,
     count: usize,
     behind: &str,
-) -> Result<Option<LangFault>, AllocError> {
+    fault: Option<LangFault>,
+) -> Result<(), AllocError> {
     let fields = wrapped(alloc, count, "a: num, ", behind, "")?;
     let text = format!(in alloc; "values 2 period 1 at 1: message ({fields}")?;
-    Ok(fault_of(alloc, text.as_str()))
+    expect_fault(rt, alloc, text.as_str(), fault);
+    Ok(())
 }
 
 /// What is at fault in a program of two blocks with 8 fields each.
@@ -434,7 +477,7 @@ fn fault_of_two_blocks(alloc: Global) -> Result<Option<LangFault>, AllocError> {
 }
 
 #[test]
-fn many_fields(rt: HostRuntime) {
+fn many_fields(rt: HostRuntime) -> Result<(), Fail> {
     let alloc = rt.alloc();
     for (count, behind, first, after) in [
         (7, "b: row) then", 97, 101),
@@ -442,13 +485,14 @@ fn many_fields(rt: HostRuntime) {
         (8, "then", 97, 101),
     ] {
         let fault = unexpected(first, after);
-        expect(&rt, fault_behind_fields(alloc, count, behind), fault);
+        expect_behind_fields(&rt, alloc, count, behind, fault)?;
     }
     for behind in ["b: row) then", "b then"] {
         let fault = limit_passed(97, 98);
-        expect(&rt, fault_behind_fields(alloc, 8, behind), fault);
+        expect_behind_fields(&rt, alloc, 8, behind, fault)?;
     }
     expect(&rt, fault_of_two_blocks(alloc), None);
+    Ok(())
 }
 
 /// The same as `expect_fault`, for a text that no message could hold.

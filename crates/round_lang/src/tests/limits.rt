@@ -3,38 +3,47 @@
 use super::expect;
 use crate::{BinaryOperator, Constant, Expr, Formula, Identifier, NoMemory, UnaryOperator};
 use std::alloc::{AllocError, Global};
+use std::process::Abort;
 
 fn is_name(alloc: Global, text: &str) -> Result<bool, AllocError> {
     Ok(Identifier::new(String::from_str(alloc, text)?).is_some())
 }
 
+const NAMES: &[&str] = &[
+    "x",
+    "_",
+    "_1",
+    "seen",
+    "Values",
+    "n1",
+    "a_name_that_has_32_bytes_as_here",
+];
+
+const NO_NAMES: &[&str] = &[
+    "",
+    "1",
+    "1x",
+    "a-b",
+    "a b",
+    "ä",
+    "values",
+    "n",
+    "from",
+    "a_name_that_has_33_bytes_as_here_",
+];
+
+fn expect_name(rt: &impl Abort, alloc: Global, text: &str, expected: bool) {
+    assert_eq!(rt; is_name(alloc, text), Ok(expected), "{text}");
+}
+
 #[test]
 fn names(rt: HostRuntime) {
     let alloc = rt.alloc();
-    for name in [
-        "x",
-        "_",
-        "_1",
-        "seen",
-        "Values",
-        "n1",
-        "a_name_that_has_32_bytes_as_here",
-    ] {
-        expect(&rt, is_name(alloc, name), true);
+    for &name in NAMES {
+        expect_name(&rt, alloc, name, true);
     }
-    for text in [
-        "",
-        "1",
-        "1x",
-        "a-b",
-        "a b",
-        "ä",
-        "values",
-        "n",
-        "from",
-        "a_name_that_has_33_bytes_as_here_",
-    ] {
-        expect(&rt, is_name(alloc, text), false);
+    for &text in NO_NAMES {
+        expect_name(&rt, alloc, text, false);
     }
 }
 

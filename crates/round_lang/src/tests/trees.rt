@@ -63,65 +63,69 @@ fn expect_tree(rt: &impl Abort, alloc: Global, expr: &str, tree: &str) -> Result
     Ok(())
 }
 
+const LEVELS: &[(&str, &str)] = &[
+    ("a or b or c", "Or(Or(a b) c)"),
+    ("a and b and c", "And(And(a b) c)"),
+    ("a or b and c", "Or(a And(b c))"),
+    ("a and b or c", "Or(And(a b) c)"),
+    ("not a and b", "And(Not(a) b)"),
+    ("not not a = b", "Not(Not(Equal(a b)))"),
+    ("a and not b", "And(a Not(b))"),
+    ("a = b and c <> d", "And(Equal(a b) Differs(c d))"),
+    ("a + b < c - d", "Less(Add(a b) Sub(c d))"),
+    ("a <= b", "AtMost(a b)"),
+    ("a > b", "More(a b)"),
+    ("a >= b", "AtLeast(a b)"),
+    ("a - b - c", "Sub(Sub(a b) c)"),
+    ("a - b + c", "Add(Sub(a b) c)"),
+    ("a union b minus c", "Minus(Union(a b) c)"),
+    ("a minus b inter c", "Minus(a Inter(b c))"),
+    ("a div b mod c", "Mod(Div(a b) c)"),
+    ("a + b div c", "Add(a Div(b c))"),
+    ("a div b + c", "Add(Div(a b) c)"),
+    ("a div (b + c)", "Div(a Add(b c))"),
+    ("a + r[b]", "Add(a Entry(r b))"),
+    ("a div r[b] mod c", "Mod(Div(a Entry(r b)) c)"),
+    ("(a + r)[b + c]", "Entry(Add(a r) Add(b c))"),
+    ("(a or b) and c", "And(Or(a b) c)"),
+    ("not (a or b)", "Not(Or(a b))"),
+];
+
 #[test]
 fn levels(rt: HostRuntime) -> Result<(), Fail> {
-    for (expr, tree) in [
-        ("a or b or c", "Or(Or(a b) c)"),
-        ("a and b and c", "And(And(a b) c)"),
-        ("a or b and c", "Or(a And(b c))"),
-        ("a and b or c", "Or(And(a b) c)"),
-        ("not a and b", "And(Not(a) b)"),
-        ("not not a = b", "Not(Not(Equal(a b)))"),
-        ("a and not b", "And(a Not(b))"),
-        ("a = b and c <> d", "And(Equal(a b) Differs(c d))"),
-        ("a + b < c - d", "Less(Add(a b) Sub(c d))"),
-        ("a <= b", "AtMost(a b)"),
-        ("a > b", "More(a b)"),
-        ("a >= b", "AtLeast(a b)"),
-        ("a - b - c", "Sub(Sub(a b) c)"),
-        ("a - b + c", "Add(Sub(a b) c)"),
-        ("a union b minus c", "Minus(Union(a b) c)"),
-        ("a minus b inter c", "Minus(a Inter(b c))"),
-        ("a div b mod c", "Mod(Div(a b) c)"),
-        ("a + b div c", "Add(a Div(b c))"),
-        ("a div b + c", "Add(Div(a b) c)"),
-        ("a div (b + c)", "Div(a Add(b c))"),
-        ("a + r[b]", "Add(a Entry(r b))"),
-        ("a div r[b] mod c", "Mod(Div(a Entry(r b)) c)"),
-        ("(a + r)[b + c]", "Entry(Add(a r) Add(b c))"),
-        ("(a or b) and c", "And(Or(a b) c)"),
-        ("not (a or b)", "Not(Or(a b))"),
-    ] {
+    for &(expr, tree) in LEVELS {
         expect_tree(&rt, rt.alloc(), expr, tree)?;
     }
     Ok(())
 }
 
+const FORMS: &[(&str, &str)] = &[
+    ("007", "7"),
+    ("x_1", "x_1"),
+    ("((x))", "x"),
+    ("true and false", "And(True False)"),
+    ("empty union all", "Union(Empty All)"),
+    ("zero[me]", "Entry(Zero Me)"),
+    ("n + t + round", "Add(Add(Nodes Faults) Round)"),
+    ("phase - dest - from", "Sub(Sub(Phase Dest) From)"),
+    ("single(size(least(x)))", "Single(Size(Least(x)))"),
+    ("has(a union b, c + 1)", "Has(Union(a b) Add(c 1))"),
+    ("{v : v = 1}", "SetOf(v Equal(v 1))"),
+    ("[v : r[v]][w]", "Entry(RowOf(v Entry(r v)) w)"),
+    ("if a then b else c", "If(a b c)"),
+    (
+        "if a then if b then c else d else e or f",
+        "If(a If(b c d) Or(e f))",
+    ),
+    ("if if a then b else c then d else e", "If(If(a b c) d e)"),
+    ("(if a then b else c) + d", "Add(If(a b c) d)"),
+    ("{v : if a then b else c}", "SetOf(v If(a b c))"),
+    ("r[if a then b else c]", "Entry(r If(a b c))"),
+];
+
 #[test]
 fn forms(rt: HostRuntime) -> Result<(), Fail> {
-    for (expr, tree) in [
-        ("007", "7"),
-        ("x_1", "x_1"),
-        ("((x))", "x"),
-        ("true and false", "And(True False)"),
-        ("empty union all", "Union(Empty All)"),
-        ("zero[me]", "Entry(Zero Me)"),
-        ("n + t + round", "Add(Add(Nodes Faults) Round)"),
-        ("phase - dest - from", "Sub(Sub(Phase Dest) From)"),
-        ("single(size(least(x)))", "Single(Size(Least(x)))"),
-        ("has(a union b, c + 1)", "Has(Union(a b) Add(c 1))"),
-        ("{v : v = 1}", "SetOf(v Equal(v 1))"),
-        ("[v : r[v]][w]", "Entry(RowOf(v Entry(r v)) w)"),
-        ("if a then b else c", "If(a b c)"),
-        (
-            "if a then if b then c else d else e or f",
-            "If(a If(b c d) Or(e f))",
-        ),
-        ("if if a then b else c then d else e", "If(If(a b c) d e)"),
-        ("(if a then b else c) + d", "Add(If(a b c) d)"),
-        ("{v : if a then b else c}", "SetOf(v If(a b c))"),
-        ("r[if a then b else c]", "Entry(r If(a b c))"),
-    ] {
+    for &(expr, tree) in FORMS {
         expect_tree(&rt, rt.alloc(), expr, tree)?;
     }
     Ok(())
