@@ -1,0 +1,115 @@
+//! One node, act by act.
+use crate::acts::Answers;
+use crate::fault::Fault;
+use crate::reading::{cut, number, vars};
+use crate::showing::{show_number, show_vars};
+use round_check::Checked;
+use round_lang::{Shape, Vars};
+use round_meaning::{Heard, Received, Setup, decision_of, end_of, initial_of, send_of};
+use std::alloc::Global;
+
+/// A node of a program with its state, and what it has heard in its round.
+#[derive(Drop)]
+pub struct Node<'a> {
+    program: &'a Checked,
+    setup: &'a Setup,
+    me: u32,
+    state: Vars,
+    inbox: Vec<Received>,
+}
+
+/// An inbox, lent.
+fn lent<'a>(alloc: Global, inbox: &'a [Received]) -> Result<Vec<Heard<'a>>, Fault> {
+    let mut heard = Vec::new(alloc);
+    for received in inbox {
+        heard.push(Heard::new(received.from, &received.message))?;
+    }
+    Ok(heard)
+}
+
+impl<'a> Node<'a> {
+    /// The node at its start.
+    pub fn new(
+        alloc: Global,
+        program: &'a Checked,
+        setup: &'a Setup,
+        me: u32,
+    ) -> Result<Node<'a>, Fault> {
+        let state = initial_of(alloc, program, setup, me)?;
+        Ok(Node {
+            program,
+            setup,
+            me,
+            state,
+            inbox: Vec::new(alloc),
+        })
+    }
+
+    fn start(&mut self, alloc: Global) -> Result<(), Fault> {
+        self.state = initial_of(alloc, self.program, self.setup, self.me)?;
+        Ok(())
+    }
+
+    /// A message comes, as `1 set 2` from node 1.
+    fn hear(&mut self, alloc: Global, text: &str) -> Result<(), Fault> {
+        let (from, text) = cut(text);
+        let from = number(from)?;
+        let message = vars(alloc, text, &Shape::empty())?;
+        self.inbox.push(Received { from, message })?;
+        Ok(())
+    }
+
+    /// The state after a round.
+    fn ended(&self, alloc: Global, round: u32) -> Result<Vars, Fault> {
+        let inbox = lent(alloc, self.inbox.as_slice())?;
+        let inbox = inbox.as_slice();
+        let state = end_of(
+            alloc,
+            self.program,
+            self.setup,
+            round,
+            self.me,
+            inbox,
+            &self.state,
+        )?;
+        Ok(state)
+    }
+
+    /// The end of a round.
+    fn end(&mut self, alloc: Global, round: u32) -> Result<(), Fault> {
+        self.state = self.ended(alloc, round)?;
+        self.inbox = Vec::new(alloc);
+        Ok(())
+    }
+
+    /// What is sent in a round, as `2 0` to node 0 in round 2.
+    fn show_sent(&self, alloc: Global, text: &str, out: &mut String) -> Result<(), Fault> {
+        let (round, dest) = cut(text);
+        let (round, dest) = (number(round)?, number(dest)?);
+        let state = &self.state;
+        match send_of(alloc, self.program, self.setup, round, state, self.me, dest)? {
+            Some(message) => show_vars(out, &message),
+            None => Ok(out.push_str("none")?),
+        }
+    }
+
+    fn show_decision(&self, out: &mut String) -> Result<(), Fault> {
+        Ok(show_number(out, decision_of(self.program, &self.state))?)
+    }
+}
+
+impl<'a> Answers for Node<'a> {
+    fn answer(&mut self, alloc: Global, act: &str, out: &mut String) -> Result<(), Fault> {
+        let (word, rest) = cut(act);
+        match word {
+            "decide" => return self.show_decision(out),
+            "send" => return self.show_sent(alloc, rest, out),
+            "start" => self.start(alloc)?,
+            "be" => self.state = vars(alloc, rest, &Shape::empty())?,
+            "hear" => self.hear(alloc, rest)?,
+            "end" => self.end(alloc, number(rest)?)?,
+            _ => return Err(Fault::Unreadable),
+        }
+        show_vars(out, &self.state)
+    }
+}
