@@ -3,6 +3,7 @@
 
 mod block;
 mod builder;
+mod building;
 mod copies;
 mod equal;
 mod expr;
