@@ -16,6 +16,3 @@ pub use library::{LibraryFault, gather};
 pub use memory_desk::MemoryDesk;
 pub use refusal::Refusal;
 pub use run::run_words;
-
-#[cfg(test)]
-mod tests;

@@ -44,6 +44,3 @@ pub use sets::ValueSet;
 pub use shape::Shape;
 pub use value::{Value, binary, unary};
 pub use vars::{Message, Vars};
-
-#[cfg(test)]
-mod tests;
