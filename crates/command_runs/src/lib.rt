@@ -9,6 +9,7 @@ mod memory_desk;
 mod refusal;
 mod run;
 mod sources;
+mod texts;
 
 pub use desk::{Desk, DeskFault};
 pub use explained::{Terms, explained_run, judged_run};

@@ -37,7 +37,7 @@ pub use identifier::Identifier;
 pub use kind::Kind;
 pub use laws::a_text_is_one_program;
 pub use memory::NoMemory;
-pub use parsing::parse;
+pub use parsing::{MAX_TEXT, parse};
 pub use program::{Program, Variable, VariableKind};
 pub use row::Row;
 pub use sets::ValueSet;
