@@ -1,6 +1,6 @@
 //! Texts of files, within their limits.
-ghost use Rattle.std.specs.Prelude.{◌≡◌, ℕ, List, IfOk, IfSome, ⊤};
-ghost use Rattle.command_runs.specs.Served.{Files, IsTextOf};
+ghost use Rattle.std.specs.Prelude.{◌≡◌, ℕ, List, IfOk, IfSome};
+ghost use Rattle.command_runs.specs.Served.{IsTextOf};
 
 use crate::desk::{Desk, DeskFault};
 use std::alloc::Global;
