@@ -1,5 +1,5 @@
 -- What the program writes, as a relation of its words to the files on the desk.
-use Rattle.std.specs.Prelude.{◌≡◌, ◌++◌, ◌⊎◌, ℕ, List, Option, IfSome, Ok, ⊤, codes, length, if◌then◌else◌}
+use Rattle.std.specs.Prelude.{◌≡◌, ◌<◌, ◌≤◌, ◌+◌, ◌++◌, ◌⊎◌, ℕ, List, Option, IfSome, Ok, codes, length, take, if◌then◌else◌}
 use Rattle.std.specs.Fmt.{decimal}
 use Rattle.std.specs.Io.KnownBytes.{Appends}
 use Rattle.std.specs.Str.{bytes_eq}
@@ -40,10 +40,10 @@ use Rattle.step_machine.specs.declared.event.Event.{Event}
 abbrev pub Files : Type 0
 Files = List ℕ → Option (List ℕ)
 
--- what was read of a file is all that it has, where it isn't longer than its limit
-abbrev pub IsTextOf : Text → List ℕ → Type 0
-IsTextOf (text.Whole bytes) held = bytes.items ≡ held
-IsTextOf (text.Longer bytes) held = ⊤
+-- what was read of a file: all that it has, or its first bytes where it is longer than its limit
+abbrev pub IsTextOf : ℕ → Text → List ℕ → Type 0
+IsTextOf limit (text.Whole bytes) held = (length held ≤ limit) × (bytes.items ≡ held)
+IsTextOf limit (text.Longer bytes) held = (limit < length held) × (bytes.items ≡ take (limit + 1) held)
 
 -- a source file named `-` is reached by its folder, since `-` is standard input
 abbrev pub file_name : List ℕ → List ℕ

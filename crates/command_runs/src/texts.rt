@@ -23,7 +23,7 @@ impl Text {
         limit: usize,
         desk: &mut D,
     ) -> Result<Text, DeskFault>
-        ensures held { IfOk result (λ text. IfSome (D.files desk.old name.now) (IsTextOf text)) }
+        ensures held { IfOk result (λ text. IfSome (D.files desk.old name.now) (IsTextOf limit text)) }
         ensures files { (other : List ℕ) → D.files desk.new other ≡ D.files desk.old other }
     {
         let bytes = desk.read(alloc, name, limit)?;
