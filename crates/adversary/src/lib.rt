@@ -14,6 +14,3 @@ pub use fault::{RunFault, ScheduleFault};
 pub use reading::{MAX_TEXT, Schedule, read_schedule};
 pub use running::run_schedule;
 pub use writing::write_schedule;
-
-#[cfg(test)]
-mod tests;

@@ -1,5 +1,5 @@
 -- What the program writes, as a relation of its words to the files on the desk.
-use Rattle.std.specs.Prelude.{◌≡◌, ◌++◌, ℕ, List, Option, IfSome, Ok, codes, length, if◌then◌else◌}
+use Rattle.std.specs.Prelude.{◌≡◌, ◌<◌, ◌≤◌, ◌+◌, ◌++◌, ◌⊎◌, ℕ, List, Option, IfSome, Ok, codes, length, take, if◌then◌else◌}
 use Rattle.std.specs.Fmt.{decimal}
 use Rattle.std.specs.Io.KnownBytes.{Appends}
 use Rattle.std.specs.Str.{bytes_eq}
@@ -11,8 +11,13 @@ use Rattle.command_runs.specs.declared.asking.Question.{Question}
 use Rattle.command_runs.specs.declared.asking.Question.TheVariants as question
 use Rattle.command_runs.specs.declared.sources.Opened.{Opened}
 use Rattle.command_runs.specs.declared.sources.Opened.TheVariants as opened
+use Rattle.command_runs.specs.declared.texts.Text.{Text}
+use Rattle.command_runs.specs.declared.texts.Text.TheVariants as text
 use Rattle.command_runs.specs.Explained.{IsReportOf, IsVerdictOf}
 use Rattle.command_runs.specs.Library.{gather_tree}
+use Rattle.clap.specs.Words.{IsAmong, fault_of}
+use Rattle.clap.specs.declared.error.ErrorKind.TheVariants as kind
+use Rattle.command_words.specs.Commands.{roundc_app}
 use Rattle.command_words.specs.Given.{Means}
 use Rattle.command_words.specs.declared.values.Source.{Source}
 use Rattle.command_words.specs.declared.values.Source.TheVariants.{File, Library}
@@ -35,9 +40,19 @@ use Rattle.step_machine.specs.declared.event.Event.{Event}
 abbrev pub Files : Type 0
 Files = List ℕ → Option (List ℕ)
 
+-- what was read of a file: all that it has, or its first bytes where it is longer than its limit
+abbrev pub IsTextOf : ℕ → Text → List ℕ → Type 0
+IsTextOf limit (text.Whole bytes) held = (length held ≤ limit) × (bytes.items ≡ held)
+IsTextOf limit (text.Longer bytes) held = (limit < length held) × (bytes.items ≡ take (limit + 1) held)
+
 -- a source file named `-` is reached by its folder, since `-` is standard input
 abbrev pub file_name : List ℕ → List ℕ
 file_name name = if bytes_eq name (codes "-") then codes "./-" else name
+
+-- the program that a whole text is; a longer one is none
+abbrev pub SpellsProgram : Text → ProgramTree → Type 0
+SpellsProgram (text.Whole bytes) p = IsSource bytes.items p
+SpellsProgram (text.Longer bytes) p = ⊥
 
 -- the program of a source: what the file's text is, or the library's
 abbrev pub IsProgramOf : Source → Files → ProgramTree → Type 0
@@ -113,3 +128,7 @@ Serves (Judge source schedule correct delta gst) files old new = (p : ProgramTre
 -- the words mean a command, and it was served
 abbrev pub IsServed : List (List ℕ) → Files → Option (List ℕ) → Option (List ℕ) → Type 0
 IsServed words files old new = (w : Words) × Means words w × Serves w files old new
+
+-- `clap` finds in the words a call for help or for the version
+abbrev pub AsksForHelp : List (List ℕ) → Type 0
+AsksForHelp words = IsAmong kind.DisplayHelp (fault_of roundc_app words) ⊎ IsAmong kind.DisplayVersion (fault_of roundc_app words)

@@ -7,7 +7,8 @@ use crate::desk::Desk;
 use crate::explained::{Terms, explained_run, judged_run};
 use crate::refusal::Refusal;
 use crate::sources::Opened;
-use adversary::{Schedule, read_schedule};
+use crate::texts::{Text, begin_utf8};
+use adversary::{MAX_TEXT, Schedule, ScheduleFault, read_schedule};
 use command_words::Source;
 use omission_explainer::{Report, Verdict};
 use round_check::Checked;
@@ -68,10 +69,13 @@ fn schedule_in<D: Desk>(alloc: Global, name: &str, desk: &mut D) -> Result<Sched
     ensures { IfOk result (λ schedule. IfSome (D.files desk.old name.now)
         (λ text. IsSchedule text schedule.setup schedule.plan schedule.events.items)) }
 {
-    let bytes = desk.read(alloc, name)?;
-    match str::from_utf8(&bytes) {
-        Ok(text) => Ok(read_schedule(alloc, text)?),
-        Err(_) => Err(Refusal::File),
+    match Text::read(alloc, name, MAX_TEXT, desk)? {
+        Text::Whole(bytes) => match str::from_utf8(&bytes) {
+            Ok(text) => Ok(read_schedule(alloc, text)?),
+            Err(_) => Err(Refusal::File),
+        },
+        Text::Longer(bytes) if begin_utf8(&bytes) => Err(ScheduleFault::TooLong.into()),
+        Text::Longer(_) => Err(Refusal::File),
     }
 }
 

@@ -9,6 +9,7 @@ mod memory_desk;
 mod refusal;
 mod run;
 mod sources;
+mod texts;
 
 pub use desk::{Desk, DeskFault};
 pub use explained::{Terms, explained_run, judged_run};
@@ -16,6 +17,3 @@ pub use library::{LibraryFault, gather};
 pub use memory_desk::MemoryDesk;
 pub use refusal::Refusal;
 pub use run::run_words;
-
-#[cfg(test)]
-mod tests;

@@ -1,14 +1,14 @@
 //! Running a command.
-ghost use Rattle.std.specs.Prelude.{◌≡◌, ◌≤◌, IsOk, OnOk, map};
+ghost use Rattle.std.specs.Prelude.{◌≡◌, ◌≤◌, ◌⊎◌, IsOk, OnOk, map};
 ghost use Rattle.std.specs.Io.KnownBytes.{Appends, Keeps};
-ghost use Rattle.command_runs.specs.Served.{IsServed, answer_text, summary_text};
+ghost use Rattle.command_runs.specs.Served.{AsksForHelp, IsServed, Serves, answer_text, summary_text};
 
 use crate::asking::{Answer, Question, Run};
 use crate::desk::Desk;
 use crate::explained::Terms;
 use crate::refusal::Refusal;
 use crate::sources::Opened;
-use command_words::{Words, read_words};
+use command_words::{Words, WordsFault, read_words};
 use omission_explainer::write_report;
 use round_check::Checked;
 use std::alloc::Global;
@@ -17,7 +17,8 @@ use std::io::Write;
 
 /// Runs the command that the words name, and answers the exit status: 0 done, 1 refused input, 2 a
 /// bad command line, 3 no memory. With a refusal nothing is written to `out`, and one line to `err`;
-/// only where `out` fails it may have a part.
+/// only where `out` fails it may have a part. Where the words ask for help or the version, `out` gets
+/// that text.
 pub fn run_words<'a, D: Desk, O: Write, E: Write>(
     alloc: Global,
     words: &'a [&'a str],
@@ -26,9 +27,10 @@ pub fn run_words<'a, D: Desk, O: Write, E: Write>(
     err: &mut E,
 ) -> u8
     ensures status { result ≤ 3 }
-    // Status 0: what `out` gained is what the words' command prints of the desk's files.
+    // Status 0: what `out` gained is what the words' command prints of the desk's files, or the
+    // words ask for help or the version, of whose text nothing is said.
     ensures served { result ≡ 0 → IsServed (map (λ s. s.now) words.entry.now) (D.files desk.old)
-        (O.contents out.old) (O.contents out.new) }
+        (O.contents out.old) (O.contents out.new) ⊎ AsksForHelp (map (λ s. s.now) words.entry.now) }
     // And nothing was written to `err`.
     ensures quiet { result ≡ 0 → Keeps (E.contents err.old) (E.contents err.new) }
 {
@@ -49,9 +51,28 @@ fn serve<'a, D: Desk, O: Write>(
     out: &mut O,
 ) -> Result<(), Refusal>
     ensures { OnOk result (IsServed (map (λ s. s.now) words.entry.now) (D.files desk.old)
+        (O.contents out.old) (O.contents out.new) ⊎ AsksForHelp (map (λ s. s.now) words.entry.now)) }
+{
+    match read_words(alloc, words) {
+        Ok(command) => carry_out(alloc, command, desk, out),
+        // Help and the version are no mistakes.
+        Err(WordsFault::Refused(error)) if !error.use_stderr() => {
+            written(write!(out, "{error}"), out)
+        }
+        Err(fault) => Err(fault.into()),
+    }
+}
+
+fn carry_out<'a, D: Desk, O: Write>(
+    alloc: Global,
+    command: Words<'a>,
+    desk: &mut D,
+    out: &mut O,
+) -> Result<(), Refusal>
+    ensures { OnOk result (Serves command.entry (D.files desk.old)
         (O.contents out.old) (O.contents out.new)) }
 {
-    match read_words(alloc, words)? {
+    match command {
         Words::Check { source } => {
             let program = Opened::open(alloc, source, desk)?.program(alloc)?;
             written(write_summary(&program, out), out)

@@ -1,14 +1,15 @@
 //! Programs, from source files and from the library.
 ghost use Rattle.std.specs.Prelude.{◌≡◌, ℕ, List, IfOk, codes};
 ghost use Rattle.command_runs.specs.Library.{gather_tree};
-ghost use Rattle.command_runs.specs.Served.{Holds, Opens, file_name};
+ghost use Rattle.command_runs.specs.Served.{Holds, Opens, SpellsProgram, file_name};
 
 use crate::desk::Desk;
 use crate::library::{LibraryFault, gather};
 use crate::refusal::Refusal;
+use crate::texts::{Text, begin_utf8};
 use command_words::Source;
 use round_check::{Checked, check};
-use round_lang::parse;
+use round_lang::{LangFault, MAX_TEXT, parse};
 use std::alloc::Global;
 use std::str;
 
@@ -32,11 +33,8 @@ impl<'a> Opened<'a> {
     {
         match source {
             Source::File(name) => {
-                let bytes = desk.read(alloc, file_name(name))?;
-                let Ok(text) = str::from_utf8(&bytes) else {
-                    return Err(Refusal::File);
-                };
-                Ok(Opened::File(check(alloc, parse(alloc, text)?)?))
+                let text = Text::read(alloc, file_name(name), MAX_TEXT, desk)?;
+                Ok(Opened::File(program_in(alloc, text)?))
             }
             Source::Library { name, values } => Ok(Opened::Library { name, values }),
         }
@@ -50,6 +48,20 @@ impl<'a> Opened<'a> {
             Opened::File(program) => Ok(program),
             Opened::Library { name, values } => Ok(library_program(alloc, name, values)?),
         }
+    }
+}
+
+/// The program that a file's text is.
+fn program_in(alloc: Global, text: Text) -> Result<Checked, Refusal>
+    ensures { IfOk result (λ p. SpellsProgram text p) }
+{
+    match text {
+        Text::Whole(bytes) => match str::from_utf8(&bytes) {
+            Ok(text) => Ok(check(alloc, parse(alloc, text)?)?),
+            Err(_) => Err(Refusal::File),
+        },
+        Text::Longer(bytes) if begin_utf8(&bytes) => Err(LangFault::TooLong.into()),
+        Text::Longer(_) => Err(Refusal::File),
     }
 }
 

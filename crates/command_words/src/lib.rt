@@ -12,8 +12,6 @@
 #![tactic(auto)]
 
 mod commands;
-#[cfg(test)]
-mod tests;
 mod values;
 mod words;
 

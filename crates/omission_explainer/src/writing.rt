@@ -178,6 +178,3 @@ fn write_decision<W: Write>(decision: Option<u32>, out: &mut W) -> io::Result<()
         None => writeln!(out, " decision -"),
     }
 }
-
-#[cfg(test)]
-mod tests;

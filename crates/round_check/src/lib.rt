@@ -7,8 +7,6 @@ mod fault;
 mod names;
 mod rules;
 mod shapes;
-#[cfg(test)]
-mod tests;
 mod types;
 mod typing;
 

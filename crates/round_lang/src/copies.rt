@@ -2,6 +2,7 @@
 ghost use Rattle.std.specs.Prelude.{◌≡◌, IfOk, IsTrue, ◌↔◌};
 ghost use Rattle.round_lang.specs.Tree.{tree_of};
 
+use crate::building::{binary, choice, row_of, set_of, unary};
 use crate::expr::Expr;
 use crate::memory::NoMemory;
 use std::alloc::Global;
@@ -14,32 +15,23 @@ pub(crate) fn copy(alloc: Global, expr: &Expr) -> Result<Expr, NoMemory>
         Expr::Number(n) => Ok(Expr::Number(*n)),
         Expr::Fixed(constant) => Ok(Expr::Fixed(*constant)),
         Expr::Named(name) => Ok(Expr::Named(name.copy()?)),
-        Expr::Unary(operator, a) => {
-            let a = copy(alloc, a)?;
-            Ok(Expr::Unary(*operator, Box::new(alloc, a)?))
-        }
+        Expr::Unary(operator, a) => unary(alloc, *operator, copy(alloc, a)?),
         Expr::Binary(operator, a, b) => {
             let a = copy(alloc, a)?;
-            let b = copy(alloc, b)?;
-            Ok(Expr::Binary(*operator, Box::new(alloc, a)?, Box::new(alloc, b)?))
+            binary(alloc, *operator, a, copy(alloc, b)?)
         }
         Expr::If(c, a, b) => {
             let c = copy(alloc, c)?;
             let a = copy(alloc, a)?;
-            let b = copy(alloc, b)?;
-            Ok(Expr::If(
-                Box::new(alloc, c)?,
-                Box::new(alloc, a)?,
-                Box::new(alloc, b)?,
-            ))
+            choice(alloc, c, a, copy(alloc, b)?)
         }
         Expr::SetOf(name, body) => {
             let body = copy(alloc, body)?;
-            Ok(Expr::SetOf(name.copy()?, Box::new(alloc, body)?))
+            set_of(alloc, name.copy()?, body)
         }
         Expr::RowOf(name, body) => {
             let body = copy(alloc, body)?;
-            Ok(Expr::RowOf(name.copy()?, Box::new(alloc, body)?))
+            row_of(alloc, name.copy()?, body)
         }
     }
 }

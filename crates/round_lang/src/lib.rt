@@ -3,6 +3,7 @@
 
 mod block;
 mod builder;
+mod building;
 mod copies;
 mod equal;
 mod expr;
@@ -36,13 +37,10 @@ pub use identifier::Identifier;
 pub use kind::Kind;
 pub use laws::a_text_is_one_program;
 pub use memory::NoMemory;
-pub use parsing::parse;
+pub use parsing::{MAX_TEXT, parse};
 pub use program::{Program, Variable, VariableKind};
 pub use row::Row;
 pub use sets::ValueSet;
 pub use shape::Shape;
 pub use value::{Value, binary, unary};
 pub use vars::{Message, Vars};
-
-#[cfg(test)]
-mod tests;

@@ -84,12 +84,10 @@ impl Shape {
     {
         self.kinds() == kinds
     }
-}
 
-#[cfg(test)]
-impl Shape {
-    /// How many shapes share these kinds.
-    pub(crate) fn owners(&self) -> usize {
+    /// How many lists of values and shapes share these kinds, this one among them; none share
+    /// those of no values.
+    pub fn owners(&self) -> usize {
         match &self.layout {
             Some(layout) => Arc::strong_count(layout),
             None => 0,

@@ -12,8 +12,6 @@ mod received;
 mod rounds;
 mod setup;
 mod states;
-#[cfg(test)]
-mod tests;
 mod turn;
 
 pub use broadcast::is_broadcast;

@@ -18,6 +18,3 @@ pub use known::Known;
 pub use limits::{MAX_DELTA, MAX_NODES, MAX_ROUNDS};
 pub use plan::Plan;
 pub use slot::Slot;
-
-#[cfg(test)]
-mod tests;

@@ -17,6 +17,3 @@ pub use fault::{CloseFault, IdleFault, ReceiveFault, Refused, SendFault};
 pub use journal::{Journal, Took};
 pub use mail::Mail;
 pub use mark::Mark;
-
-#[cfg(test)]
-mod tests;

@@ -3,8 +3,9 @@ ghost use Rattle.std.specs.Prelude.{◌≡◌, ◌<◌, ◌≤◌, suc, IfOk, le
 ghost use Rattle.round_lang.specs.CodeTokens.{lexemes};
 ghost use Rattle.round_lang.specs.Outcome.{Gives, IsChainLevel, expr_found, left_of};
 ghost use Rattle.round_lang.specs.Reading as reading;
-ghost use Rattle.round_lang.specs.Tree.{TBinary, TIf, TRowOf, TSetOf, tree_of};
+ghost use Rattle.round_lang.specs.Tree.{TRowOf, TSetOf, tree_of};
 
+use crate::building;
 use crate::expr::{BinaryOperator, Expr, UnaryOperator};
 use crate::formula::Formula;
 use crate::identifier::Identifier;
@@ -32,28 +33,6 @@ pub fn identifier(alloc: Global, name: Name<'_>) -> Result<Identifier, NoMemory>
     ensures { IfOk result (λ x. x ≡ name.entry.text.now) }
 {
     Ok(Identifier::known(String::from_str(alloc, name.text)?))
-}
-
-fn binary(
-    alloc: Global,
-    operator: BinaryOperator,
-    left: Expr,
-    right: Expr,
-) -> Result<Expr, NoMemory>
-    ensures { IfOk result (λ e. tree_of e ≡ TBinary operator (tree_of left) (tree_of right)) }
-{
-    let left = Box::new(alloc, left)?;
-    let right = Box::new(alloc, right)?;
-    Ok(Expr::Binary(operator, left, right))
-}
-
-fn choice(alloc: Global, condition: Expr, one: Expr, other: Expr) -> Result<Expr, NoMemory>
-    ensures { IfOk result (λ e. tree_of e ≡ TIf (tree_of condition) (tree_of one) (tree_of other)) }
-{
-    let condition = Box::new(alloc, condition)?;
-    let one = Box::new(alloc, one)?;
-    let other = Box::new(alloc, other)?;
-    Ok(Expr::If(condition, one, other))
 }
 
 /// Reads the expression at the front that stands at the level and nests at most as deep as the
@@ -133,7 +112,7 @@ fn whole<'t, 'a>(parser: Parser, inner: usize, tokens: &'t [Token<'a>]) -> Neste
             let (other, other_depth, rest) = read(parser, inner, Level::Whole, rest)?;
             let depth = depth.max(one_depth.max(other_depth));
             Ok((
-                choice(parser.alloc, condition, one, other)?,
+                building::choice(parser.alloc, condition, one, other)?,
                 depth + 1,
                 rest,
             ))
@@ -160,7 +139,7 @@ fn chain<'t, 'a>(
             return Err(Fault::TooDeep);
         }
         let (right, right_depth, after) = read(parser, inner, tighter(level), operand)?;
-        left = binary(parser.alloc, operator, left, right)?;
+        left = building::binary(parser.alloc, operator, left, right)?;
         depth = depth.max(right_depth) + 1;
         rest = after;
     }
@@ -182,7 +161,7 @@ fn comparison<'t, 'a>(parser: Parser, inner: usize, tokens: &'t [Token<'a>]) -> 
                 return Err(Fault::TooDeep);
             }
             let (right, right_depth, rest) = read(parser, inner, Level::Sum, operand)?;
-            let tree = binary(parser.alloc, operator, left, right)?;
+            let tree = building::binary(parser.alloc, operator, left, right)?;
             Ok((tree, depth.max(right_depth) + 1, rest))
         }
     }
@@ -199,8 +178,8 @@ fn negation<'t, 'a>(parser: Parser, inner: usize, tokens: &'t [Token<'a>]) -> Ne
         None => at_level(parser, inner, Level::Comparison, tokens),
         Some(rest) => {
             let (operand, depth, rest) = read(parser, inner, Level::Negation, rest)?;
-            let operand = Box::new(parser.alloc, operand)?;
-            Ok((Expr::Unary(UnaryOperator::Not, operand), depth + 1, rest))
+            let tree = building::unary(parser.alloc, UnaryOperator::Not, operand)?;
+            Ok((tree, depth + 1, rest))
         }
     }
 }
@@ -220,7 +199,7 @@ fn postfix<'t, 'a>(parser: Parser, inner: usize, tokens: &'t [Token<'a>]) -> Nes
                 return Err(Fault::TooDeep);
             }
             let (place, place_depth, rest) = closed(parser, inner, Mark::CloseSquare, rest)?;
-            let entry = binary(parser.alloc, BinaryOperator::Entry, row, place)?;
+            let entry = building::binary(parser.alloc, BinaryOperator::Entry, row, place)?;
             Ok((entry, depth.max(place_depth) + 1, rest))
         }
     }
@@ -273,8 +252,8 @@ fn call<'t, 'a>(
     }
     let rest = expect(parser.end, Mark::Open, tokens)?;
     let (operand, depth, rest) = closed(parser, inner, Mark::Close, rest)?;
-    let operand = Box::new(parser.alloc, operand)?;
-    Ok((Expr::Unary(operator, operand), depth + 1, rest))
+    let tree = building::unary(parser.alloc, operator, operand)?;
+    Ok((tree, depth + 1, rest))
 }
 
 #[cycle(expr)]
@@ -290,7 +269,7 @@ fn has<'t, 'a>(parser: Parser, inner: usize, tokens: &'t [Token<'a>]) -> Nested<
     let rest = expect(parser.end, Mark::Open, tokens)?;
     let (set, set_depth, rest) = closed(parser, inner, Mark::Comma, rest)?;
     let (member, member_depth, rest) = closed(parser, inner, Mark::Close, rest)?;
-    let tree = binary(parser.alloc, BinaryOperator::Has, set, member)?;
+    let tree = building::binary(parser.alloc, BinaryOperator::Has, set, member)?;
     Ok((tree, set_depth.max(member_depth) + 1, rest))
 }
 
@@ -321,8 +300,8 @@ fn set_of<'t, 'a>(parser: Parser, inner: usize, tokens: &'t [Token<'a>]) -> Nest
     let rest = expect(parser.end, Mark::Colon, rest)?;
     let (body, depth, rest) = closed(parser, inner, Mark::CloseCurly, rest)?;
     let name = identifier(parser.alloc, name)?;
-    let body = Box::new(parser.alloc, body)?;
-    Ok((Expr::SetOf(name, body), depth + 1, rest))
+    let tree = building::set_of(parser.alloc, name, body)?;
+    Ok((tree, depth + 1, rest))
 }
 
 /// The rest of a comprehension of a row.
@@ -340,8 +319,8 @@ fn row_of<'t, 'a>(parser: Parser, inner: usize, tokens: &'t [Token<'a>]) -> Nest
     let rest = expect(parser.end, Mark::Colon, rest)?;
     let (body, depth, rest) = closed(parser, inner, Mark::CloseSquare, rest)?;
     let name = identifier(parser.alloc, name)?;
-    let body = Box::new(parser.alloc, body)?;
-    Ok((Expr::RowOf(name, body), depth + 1, rest))
+    let tree = building::row_of(parser.alloc, name, body)?;
+    Ok((tree, depth + 1, rest))
 }
 
 /// A whole expression that nests within the limit.

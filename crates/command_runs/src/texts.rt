@@ -1,0 +1,44 @@
+//! Texts of files, within their limits.
+ghost use Rattle.std.specs.Prelude.{◌≡◌, ℕ, List, IfOk, IfSome};
+ghost use Rattle.command_runs.specs.Served.{IsTextOf};
+
+use crate::desk::{Desk, DeskFault};
+use std::alloc::Global;
+use std::str;
+
+/// What a file has.
+#[derive(Drop)]
+pub enum Text {
+    /// All its bytes, no more than the limit.
+    Whole(Vec<u8>),
+    /// It is longer than the limit; these are its first bytes, one more than the limit.
+    Longer(Vec<u8>),
+}
+
+impl Text {
+    /// Reads a file up to its limit.
+    pub fn read<D: Desk>(
+        alloc: Global,
+        name: &str,
+        limit: usize,
+        desk: &mut D,
+    ) -> Result<Text, DeskFault>
+        ensures held { IfOk result (λ text. IfSome (D.files desk.old name.now) (IsTextOf limit text)) }
+        ensures files { (other : List ℕ) → D.files desk.new other ≡ D.files desk.old other }
+    {
+        let bytes = desk.read(alloc, name, limit)?;
+        if bytes.len() > limit {
+            Ok(Text::Longer(bytes))
+        } else {
+            Ok(Text::Whole(bytes))
+        }
+    }
+}
+
+/// Whether bytes begin a text in UTF-8: a character may be cut off at their end.
+pub fn begin_utf8(bytes: &[u8]) -> bool {
+    match str::from_utf8(bytes) {
+        Ok(_) => true,
+        Err(error) => error.error_len().is_none(),
+    }
+}

@@ -1,5 +1,0 @@
-use Rattle.step_journal.proofs.Taking.{IsTaking}
-use Rattle.step_journal.proofs.tests.play.take_all.Given as goal
-
-abbrev pub invariant-loop-frame : goal.invariant-loop-frame
-invariant-loop-frame l = IsTaking l.initial.node l.node l.frame-iterator.rest.items
