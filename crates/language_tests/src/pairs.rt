@@ -110,15 +110,19 @@ fn show_rows(out: &mut String, one: &Value, other: &Value) -> Result<(), Fault> 
     Ok(())
 }
 
+fn show_values(alloc: Global, out: &mut String, one: &Value, other: &Value) -> Result<(), Fault> {
+    show_same(out, "value", one.same(other))?;
+    show_same(out, "", one == other)?;
+    show_states(alloc, out, one, other)?;
+    show_rows(out, one, other)
+}
+
 /// Compares two values, of which the first is copied, states of one of them, and rows.
 pub fn pair(alloc: Global, act: &str, out: &mut String) -> Result<(), Fault> {
     let (one, other) = cut_pair(act)?;
     let one = value(alloc, one)?.copy()?;
     let other = value(alloc, other)?;
-    show_same(out, "value", one.same(&other))?;
-    show_same(out, "", one == other)?;
-    show_states(alloc, out, &one, &other)?;
-    show_rows(out, &one, &other)
+    show_values(alloc, out, &one, &other)
 }
 
 fn show_setups(out: &mut String, one: &Setup, other: &Setup) -> Result<(), Fault> {

@@ -1,7 +1,6 @@
 //! What a checked program tells.
 use crate::fault::Fault;
 use crate::reading::checked_of;
-use crate::showing::show_same;
 use round_check::Checked;
 use round_lang::Shape;
 use round_meaning::is_broadcast;
@@ -45,19 +44,33 @@ fn write_rounds(out: &mut String, checked: &Checked) -> Result<(), AllocError> {
     Ok(())
 }
 
-/// What the copy of a checked program tells, and about no block behind its last.
+/// The kinds of the state and of each message; there is none behind the last block.
+fn write_kinds(out: &mut String, checked: &Checked) -> Result<(), AllocError> {
+    out.push_str("state")?;
+    write_shape(out, checked.state_shape())?;
+    let blocks = checked.program().blocks().len();
+    for block in 0..blocks {
+        write_message(out, checked, block)?;
+    }
+    write_message(out, checked, blocks)
+}
+
+/// All that a checked program tells.
+fn write_told(out: &mut String, checked: &Checked) -> Result<(), AllocError> {
+    write_names(out, checked)?;
+    write_kinds(out, checked)?;
+    write_rounds(out, checked)
+}
+
+/// Whether a checked program is its copy, and what the copy tells.
 pub fn write_checked(alloc: Global, text: &str, out: &mut String) -> Result<(), Fault> {
     let checked = checked_of(alloc, text)?;
     let copy = checked.copy()?;
     copy.typed();
-    show_same(out, "copy", copy == checked)?;
-    out.push_str("\n")?;
-    write_names(out, &copy)?;
-    out.push_str("state")?;
-    write_shape(out, copy.state_shape())?;
-    for block in 0..copy.program().blocks().len() {
-        write_message(out, &copy, block)?;
-    }
-    write_message(out, &copy, copy.program().blocks().len())?;
-    Ok(write_rounds(out, &copy)?)
+    out.push_str(if copy == checked {
+        "copy same\n"
+    } else {
+        "copy different\n"
+    })?;
+    Ok(write_told(out, &copy)?)
 }
