@@ -9,11 +9,12 @@ use std::alloc::Global;
 /// How many entries a row has in the shapes of lists.
 const ENTRIES: u32 = 3;
 
-/// A list of values, and how it was at first.
+/// A list of values, a copy of it, and the shape that it was given.
 #[derive(Drop)]
 pub struct List {
+    shape: Shape,
     vars: Vars,
-    first: Vars,
+    copy: Vars,
 }
 
 /// The kind of a value's type.
@@ -61,16 +62,21 @@ impl List {
     /// No values.
     pub fn new(alloc: Global) -> List {
         List {
+            shape: Shape::empty(),
             vars: Vars::new(alloc),
-            first: Vars::new(alloc),
+            copy: Vars::new(alloc),
         }
     }
 
-    /// Begins with these values.
+    /// Begins with these values, and a copy of them.
     fn begin(&mut self, alloc: Global, text: &str) -> Result<(), Fault> {
-        let vars = vars(alloc, text, &shape(alloc, text)?)?;
-        self.first = vars.copy(alloc)?;
-        self.vars = vars;
+        self.shape = shape(alloc, text)?;
+        self.vars = vars(alloc, text, &self.shape)?;
+        self.make_copy(alloc)
+    }
+
+    fn make_copy(&mut self, alloc: Global) -> Result<(), Fault> {
+        self.copy = self.vars.copy(alloc)?;
         Ok(())
     }
 
@@ -95,8 +101,13 @@ impl Answers for List {
                 self.put(alloc, rest)?;
                 Ok(out.push_str("put")?)
             }
-            "first" => show_vars(out, &self.first),
-            "is-first" => Ok(show_yes(out, self.vars.same(&self.first))?),
+            "make-copy" => {
+                self.make_copy(alloc)?;
+                Ok(out.push_str("made")?)
+            }
+            "copy" => show_vars(out, &self.copy),
+            "is-copy" => Ok(show_yes(out, self.vars.same(&self.copy))?),
+            "owners" => Ok(write!(out, "{}", self.shape.owners())?),
             "is-empty" => Ok(show_yes(out, self.vars.is_empty())?),
             "len" => Ok(write!(out, "{}", self.vars.len())?),
             "entry" => show_entry(&self.vars, rest, out),
