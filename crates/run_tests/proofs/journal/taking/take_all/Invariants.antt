@@ -1,0 +1,5 @@
+use Rattle.step_journal.proofs.Taking.{IsTaking}
+use Rattle.run_tests.proofs.journal.taking.take_all.Given as goal
+
+abbrev pub invariant-loop-frame : goal.invariant-loop-frame
+invariant-loop-frame l = IsTaking l.initial.node l.node l.frame-iterator.rest.items

@@ -1,0 +1,227 @@
+//! Deeds on a journal. A call that is refused for memory must leave all as it was, and is made again.
+ghost use Rattle.std.specs.Prelude.{◌≡◌, ◌<◌, ◌≤◌, IfSome, OnErr};
+ghost use Rattle.step_machine.specs.Nodes.{algorithm_in};
+
+use crate::fault::Fault;
+use crate::journal::act::Deed;
+use crate::journal::seen::{Answer, Seen, tell};
+use crate::journal::taking::receive;
+use round_lang::NoMemory;
+use slot_plans::Known;
+use step_journal::{CloseFault, IdleFault, Journal, SendFault};
+use step_machine::{Name, Node, Prepared};
+
+/// What the node has for another.
+fn prepare(node: &mut Node, to: u32) -> Option<Prepared>
+    requires { to < node.old.setup.nodes }
+    ensures ready { IfSome result (λ p. p ≡ record {
+      name = record { from = node.old.me; to = to; round = node.old.round };
+      state = node.old.state;
+      message = (algorithm_in node.old).send node.old.round node.old.state node.old.me to;
+    }) }
+    ensures node { node.new ≡ node.old }
+{
+    match node.prepare(to) {
+        Ok(prepared) => Some(prepared),
+        Err(_) => node.prepare(to).ok(),
+    }
+}
+
+/// The number of the node.
+pub fn number_of(journal: &Journal<Known>, node: &mut Node) -> Option<u32>
+    requires setup { node.old.setup ≡ journal.now.log.setup }
+    ensures node { node.new ≡ node.old }
+    ensures me { IfSome result (λ me. me ≡ node.old.me) }
+    ensures within { IfSome result (λ me. me < journal.now.log.setup.nodes) }
+{
+    let nodes = journal.book().setup().nodes;
+    if nodes == 0 {
+        return None;
+    }
+    let me = prepare(node, 0)?.name().from;
+    if me < nodes { Some(me) } else { None }
+}
+
+/// A send that isn't refused for memory, or is then made again with the work that came back.
+fn send(journal: &mut Journal<Known>, node: &mut Node, to: u32) -> Answer<SendFault>
+    requires program { node.old.program ≡ journal.old.log.program }
+    requires setup { node.old.setup ≡ journal.old.log.setup }
+    ensures program { journal.new.log.program ≡ journal.old.log.program }
+    ensures setup { journal.new.log.setup ≡ journal.old.log.setup }
+    ensures node { node.new ≡ node.old }
+{
+    let setup = journal.book().setup();
+    if to >= setup.nodes || node.round() == 0 || node.round() > setup.rounds {
+        return Answer::Outside;
+    }
+    let Some(me) = number_of(journal, node) else {
+        return Answer::Outside;
+    };
+    let Some(prepared) = prepare(node, to) else {
+        return Answer::NoMemory;
+    };
+    let before = Seen::of(journal, me);
+    let name = prepared.name();
+    match journal.send(prepared) {
+        Ok(()) => Answer::Done,
+        Err(refused) => {
+            if Seen::of(journal, me) != before || refused.prepared.name() != name {
+                return Answer::Changed;
+            }
+            if refused.fault != SendFault::NoMemory {
+                return Answer::Said(refused.fault);
+            }
+            match journal.send(refused.prepared) {
+                Ok(()) => Answer::Done,
+                Err(refused) => Answer::Said(refused.fault),
+            }
+        }
+    }
+}
+
+/// A node ends its round, and the journal closes it or says why not. Where only the node's memory was
+/// wanting, nothing is done.
+fn end_round(
+    journal: &mut Journal<Known>,
+    node: &mut Node,
+    me: u32,
+) -> Result<Answer<CloseFault>, NoMemory>
+    requires me { me < journal.old.log.setup.nodes }
+    requires round { node.old.round ≤ node.old.setup.rounds }
+    requires program { node.old.program ≡ journal.old.log.program }
+    requires setup { node.old.setup ≡ journal.old.log.setup }
+    ensures program { journal.new.log.program ≡ journal.old.log.program }
+    ensures setup { journal.new.log.setup ≡ journal.old.log.setup }
+    ensures node_program { node.new.program ≡ node.old.program }
+    ensures node_setup { node.new.setup ≡ node.old.setup }
+    ensures again { OnErr result (node.new.round ≡ node.old.round) }
+{
+    let before = Seen::of(journal, me);
+    let finished = node.finish()?;
+    let mut closed = journal.close(&finished);
+    if closed == Err(CloseFault::NoMemory) && Seen::of(journal, me) == before {
+        closed = journal.close(&finished);
+    }
+    match closed {
+        Ok(()) => {
+            node.settle();
+            Ok(Answer::Done)
+        }
+        Err(fault) => {
+            if Seen::of(journal, me) != before {
+                return Ok(Answer::Changed);
+            }
+            Ok(Answer::Said(fault))
+        }
+    }
+}
+
+fn close(journal: &mut Journal<Known>, node: &mut Node) -> Answer<CloseFault>
+    requires program { node.old.program ≡ journal.old.log.program }
+    requires setup { node.old.setup ≡ journal.old.log.setup }
+    ensures program { journal.new.log.program ≡ journal.old.log.program }
+    ensures setup { journal.new.log.setup ≡ journal.old.log.setup }
+    ensures node_program { node.new.program ≡ node.old.program }
+    ensures node_setup { node.new.setup ≡ node.old.setup }
+{
+    if node.round() > journal.book().setup().rounds {
+        return Answer::Outside;
+    }
+    let Some(me) = number_of(journal, node) else {
+        return Answer::Outside;
+    };
+    if let Ok(answer) = end_round(journal, node, me) {
+        return answer;
+    }
+    end_round(journal, node, me).unwrap_or(Answer::NoMemory)
+}
+
+fn idle(journal: &mut Journal<Known>, node: &mut Node) -> Answer<IdleFault>
+    requires setup { node.old.setup ≡ journal.old.log.setup }
+    ensures program { journal.new.log.program ≡ journal.old.log.program }
+    ensures setup { journal.new.log.setup ≡ journal.old.log.setup }
+    ensures node { node.new ≡ node.old }
+{
+    let Some(me) = number_of(journal, node) else {
+        return Answer::Outside;
+    };
+    let before = Seen::of(journal, me);
+    let Err(fault) = journal.idle_step(me) else {
+        return Answer::Done;
+    };
+    if Seen::of(journal, me) != before {
+        return Answer::Changed;
+    }
+    if fault != IdleFault::NoMemory {
+        return Answer::Said(fault);
+    }
+    match journal.idle_step(me) {
+        Ok(()) => Answer::Done,
+        Err(fault) => Answer::Said(fault),
+    }
+}
+
+/// A release, which answers whether it moved a message.
+fn release(journal: &mut Journal<Known>, name: Name) -> Answer<bool>
+    ensures program { journal.new.log.program ≡ journal.old.log.program }
+    ensures setup { journal.new.log.setup ≡ journal.old.log.setup }
+{
+    let setup = journal.book().setup();
+    if name.from >= setup.nodes
+        || name.to >= setup.nodes
+        || name.round == 0
+        || name.round > setup.rounds
+    {
+        return Answer::Outside;
+    }
+    let before = Seen::of(journal, name.to);
+    if let Ok(moved) = journal.release(name) {
+        return Answer::Said(moved);
+    }
+    if Seen::of(journal, name.to) != before {
+        return Answer::Changed;
+    }
+    match journal.release(name) {
+        Ok(moved) => Answer::Said(moved),
+        Err(_) => Answer::NoMemory,
+    }
+}
+
+fn skip(journal: &Journal<Known>, node: &mut Node) -> Answer<NoMemory>
+    requires { node.old.setup ≡ journal.now.log.setup }
+    ensures program { node.new.program ≡ node.old.program }
+    ensures setup { node.new.setup ≡ node.old.setup }
+{
+    if node.round() > journal.book().setup().rounds {
+        return Answer::Outside;
+    }
+    if node.finish().is_err() && node.finish().is_err() {
+        return Answer::NoMemory;
+    }
+    node.settle();
+    Answer::Done
+}
+
+/// Does it, and writes what the journal answers.
+pub fn perform(
+    journal: &mut Journal<Known>,
+    node: &mut Node,
+    deed: Deed,
+    out: &mut String,
+) -> Result<(), Fault>
+    requires program { node.old.program ≡ journal.old.log.program }
+    requires setup { node.old.setup ≡ journal.old.log.setup }
+    ensures program { journal.new.log.program ≡ journal.old.log.program }
+    ensures setup { journal.new.log.setup ≡ journal.old.log.setup }
+    ensures node_program { node.new.program ≡ node.old.program }
+    ensures node_setup { node.new.setup ≡ node.old.setup }
+{
+    match deed {
+        Deed::Send(to) => tell(out, send(journal, node, to), "sent"),
+        Deed::Receive => receive(journal, node, out),
+        Deed::Close => tell(out, close(journal, node), "closed"),
+        Deed::Idle => tell(out, idle(journal, node), "idle"),
+        Deed::Skip => tell(out, skip(journal, node), "skipped"),
+        Deed::Release(name) => tell(out, release(journal, name), ""),
+    }
+}

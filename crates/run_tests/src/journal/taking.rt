@@ -1,0 +1,55 @@
+//! A receive, and what becomes of each frame.
+ghost use Rattle.std.specs.Prelude.{◌≡◌, All};
+ghost use Rattle.step_journal.specs.Stock.{IsMail};
+ghost use Rattle.step_machine.specs.Nodes.{algorithm_in};
+
+use crate::fault::Fault;
+use crate::journal::doing::number_of;
+use crate::journal::seen::{Answer, Seen, tell};
+use slot_plans::Known;
+use step_journal::{Journal, ReceiveFault};
+use step_machine::{Name, Node, Sealed};
+
+/// The node takes frames, and what becomes of each is told.
+fn take_all(node: &mut Node, frames: Vec<Sealed>, out: &mut String) -> Result<(), Fault>
+    requires { All (IsMail (algorithm_in node.old) node.old.setup.nodes node.old.me) frames.items }
+    ensures program { node.new.program ≡ node.old.program }
+    ensures setup { node.new.setup ≡ node.old.setup }
+{
+    out.push_str("took")?;
+    for frame in frames {
+        let Name { from, to, round } = frame.name();
+        let taken = node.take(frame);
+        write!(out, " {from}>{to}:{round} {taken:?}")?;
+    }
+    Ok(())
+}
+
+/// A receive step; where it is refused for memory, it's made again.
+pub fn receive(journal: &mut Journal<Known>, node: &mut Node, out: &mut String) -> Result<(), Fault>
+    requires program { node.old.program ≡ journal.old.log.program }
+    requires setup { node.old.setup ≡ journal.old.log.setup }
+    ensures program { journal.new.log.program ≡ journal.old.log.program }
+    ensures setup { journal.new.log.setup ≡ journal.old.log.setup }
+    ensures node_program { node.new.program ≡ node.old.program }
+    ensures node_setup { node.new.setup ≡ node.old.setup }
+{
+    let Some(me) = number_of(journal, node) else {
+        return tell::<ReceiveFault>(out, Answer::Outside, "");
+    };
+    let before = Seen::of(journal, me);
+    let fault = match journal.receive(me) {
+        Ok(took) => return take_all(node, took.frames, out),
+        Err(fault) => fault,
+    };
+    if Seen::of(journal, me) != before {
+        return tell::<ReceiveFault>(out, Answer::Changed, "");
+    }
+    if fault != ReceiveFault::NoMemory {
+        return tell(out, Answer::Said(fault), "");
+    }
+    match journal.receive(me) {
+        Ok(took) => take_all(node, took.frames, out),
+        Err(fault) => tell(out, Answer::Said(fault), ""),
+    }
+}

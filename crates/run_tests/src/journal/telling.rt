@@ -1,0 +1,163 @@
+//! What a journal tells.
+ghost use Rattle.std.specs.Prelude.{◌<◌};
+ghost use Rattle.step_journal.specs.Log.{IsName};
+
+use crate::fault::Fault;
+use crate::journal::act::Question;
+use round_lang::ValueSet;
+use slot_plans::Known;
+use step_journal::Journal;
+use step_machine::Name;
+
+const OUTSIDE: &str = "not within its limits";
+
+/// The members, with braces.
+fn tell_set(out: &mut String, set: ValueSet) -> Result<(), Fault> {
+    out.push_str("{")?;
+    for value in 0..64 {
+        if set.has(64, value) {
+            write!(out, " {value}")?;
+        }
+    }
+    out.push_str(" }")?;
+    Ok(())
+}
+
+fn tell_name(out: &mut String, name: Name) -> Result<(), Fault> {
+    let Name { from, to, round } = name;
+    write!(out, " {from}>{to}:{round}")?;
+    Ok(())
+}
+
+fn tell_names(out: &mut String, names: &[Name]) -> Result<(), Fault> {
+    if names.is_empty() {
+        out.push_str(" none")?;
+    }
+    for name in names {
+        tell_name(out, *name)?;
+    }
+    Ok(())
+}
+
+/// The run, and how many events it has; of its releases how many moved a message.
+fn tell_book(journal: &Journal<Known>, out: &mut String) -> Result<(), Fault> {
+    let book = journal.book();
+    journal.agrees();
+    let values = book.program().program().values();
+    let nodes = book.setup().nodes;
+    let rounds = book.setup().rounds;
+    let delta = book.plan().delta();
+    let events = book.trace().len();
+    let moved = book.answers().iter().filter(|moved| **moved).count();
+    write!(
+        out,
+        "values {values} nodes {nodes} rounds {rounds} delta {delta} events {events} moved {moved}"
+    )?;
+    Ok(())
+}
+
+fn tell_event(journal: &Journal<Known>, place: u32, out: &mut String) -> Result<(), Fault> {
+    match journal.book().trace().get(place as usize) {
+        Some(event) => write!(out, "{event:?}")?,
+        None => out.push_str("none")?,
+    }
+    Ok(())
+}
+
+/// What the node has seen: the second variable of its last state.
+fn seen_by(journal: &Journal<Known>, node: u32) -> ValueSet
+    requires { node < journal.now.log.setup.nodes }
+{
+    match journal.book().states(node).last() {
+        Some(state) => state.set(1),
+        None => ValueSet::empty(),
+    }
+}
+
+fn tell_node(journal: &Journal<Known>, node: u32, out: &mut String) -> Result<(), Fault>
+    requires { node < journal.now.log.setup.nodes }
+{
+    let book = journal.book();
+    let steps = book.count_of(node);
+    let round = book.round_of(node);
+    let is_due = book.is_due(node);
+    let receives = book.mail(node).receives();
+    write!(
+        out,
+        "steps {steps} round {round} due {is_due} receives {receives} seen "
+    )?;
+    tell_set(out, seen_by(journal, node))
+}
+
+/// The names that wait by the record, and how many frames do.
+fn tell_waiting(journal: &Journal<Known>, node: u32, out: &mut String) -> Result<(), Fault>
+    requires { node < journal.now.log.setup.nodes }
+{
+    let frames = journal.waiting(node).len();
+    write!(out, "{frames}:")?;
+    tell_names(out, journal.book().waiting(node))
+}
+
+fn tell_handed(journal: &Journal<Known>, node: u32, at: u32, out: &mut String) -> Result<(), Fault>
+    requires { node < journal.now.log.setup.nodes }
+{
+    out.push_str("handed")?;
+    tell_names(out, journal.book().mail(node).handed(at as usize))
+}
+
+fn tell_mark(journal: &Journal<Known>, name: Name, out: &mut String) -> Result<(), Fault>
+    requires { IsName journal.now.log.setup name }
+{
+    let mark = journal.book().mark(name);
+    write!(out, "{mark:?}")?;
+    Ok(())
+}
+
+/// The frame in flight: its name, and the first set of its message.
+fn tell_flight(journal: &Journal<Known>, name: Name, out: &mut String) -> Result<(), Fault>
+    requires { IsName journal.now.log.setup name }
+{
+    let is_flying = journal.book().is_flying(name);
+    write!(out, "{is_flying}:")?;
+    match journal.in_flight(name) {
+        Some(frame) => {
+            tell_name(out, frame.name())?;
+            out.push_str(" ")?;
+            tell_set(out, frame.message().set(0))
+        }
+        None => Ok(out.push_str(" none")?),
+    }
+}
+
+fn tell_of_node(journal: &Journal<Known>, asked: Question, out: &mut String) -> Result<(), Fault> {
+    let nodes = journal.book().setup().nodes;
+    match asked {
+        Question::Node(node) if node < nodes => tell_node(journal, node, out),
+        Question::Waiting(node) if node < nodes => tell_waiting(journal, node, out),
+        Question::Handed(node, at) if node < nodes => tell_handed(journal, node, at, out),
+        _ => Ok(out.push_str(OUTSIDE)?),
+    }
+}
+
+/// Whether the run has a message of this name.
+fn within(journal: &Journal<Known>, name: Name) -> bool {
+    let setup = journal.book().setup();
+    name.from < setup.nodes && name.to < setup.nodes && 0 < name.round && name.round <= setup.rounds
+}
+
+fn tell_of_name(journal: &Journal<Known>, asked: Question, out: &mut String) -> Result<(), Fault> {
+    match asked {
+        Question::Mark(name) if within(journal, name) => tell_mark(journal, name, out),
+        Question::Flight(name) if within(journal, name) => tell_flight(journal, name, out),
+        _ => tell_of_node(journal, asked, out),
+    }
+}
+
+/// Answers a question.
+pub fn answer(journal: &Journal<Known>, asked: Question, out: &mut String) -> Result<(), Fault> {
+    match asked {
+        Question::Book => tell_book(journal, out),
+        Question::Event(place) => tell_event(journal, place, out),
+        _ => tell_of_name(journal, asked, out),
+    }
+}

@@ -1,0 +1,120 @@
+//! What the libraries of runs answer, asked by texts.
+//!
+//! ```text
+//! run_tests plans
+//! run_tests known NODES DELTA
+//! run_tests growing NODES
+//! run_tests journal SOURCE INPUTS ROUNDS [DELTA]
+//! run_tests schedule
+//! run_tests report | writers NAME
+//! run_tests lists
+//! ```
+//!
+//! SOURCE is the file of a program, or `gather:K` or `gather_from_ones:K` for K values; INPUTS has
+//! commas. But for a schedule, which is read whole, each line of standard input is an act, and a
+//! line of standard output its answer.
+#![tactic(auto)]
+
+mod fault;
+mod journal;
+mod plans;
+mod reading;
+mod reports;
+mod schedules;
+mod writers;
+
+use fault::Fault;
+use std::alloc::Global;
+use std::io::Write;
+use std::process::ExitCode;
+use std::rt::Files;
+use std::{env, fs, io};
+
+/// The room for answers, so that giving one takes no memory.
+const ROOM: usize = 65_536;
+
+/// The words after the program's own name.
+fn texts<'a>(alloc: Global, words: &'a [String]) -> Result<Vec<&'a str>, Fault> {
+    let mut texts = Vec::new(alloc);
+    for word in words.iter().skip(1) {
+        texts.push(word.as_str())?;
+    }
+    Ok(texts)
+}
+
+/// The source in which each node tells what it has seen where the condition holds.
+fn gathering(alloc: Global, values: &str, condition: &str) -> Result<String, Fault> {
+    Ok(format!(in alloc;
+        "values {values} period 1 input x state seen: set = single(x) decide seen
+        at 1: message (s: set) send when {condition}: (seen)
+        on message: seen := seen union s; end:"
+    )?)
+}
+
+fn source<R: Files + AllocGlobal>(rt: &R, alloc: Global, name: &str) -> Result<String, Fault> {
+    match name.split_once(':') {
+        Some(("gather", values)) => gathering(alloc, values, "true"),
+        Some(("gather_from_ones", values)) => gathering(alloc, values, "x = 1"),
+        _ => Ok(fs::read_to_string(rt, name)?),
+    }
+}
+
+/// Acts on a journal.
+fn ask_journal(
+    rt: &HostRuntime,
+    words: &[&str],
+    input: &str,
+    out: &mut String,
+) -> Result<(), Fault> {
+    let alloc = rt.alloc();
+    let [name, words @ ..] = words else {
+        return Err(Fault::Unreadable);
+    };
+    let text = source(rt, alloc, name)?;
+    journal::ask(alloc, text.as_str(), words, input, out)
+}
+
+/// Answers what needs standard input.
+fn answer_input(rt: &HostRuntime, words: &[&str], out: &mut String) -> Result<(), Fault> {
+    let alloc = rt.alloc();
+    let input = io::read_to_string(alloc, rt.reader())?;
+    let input = input.as_str();
+    match words {
+        ["plans"] => plans::make_plans(input, out),
+        ["known", words @ ..] => plans::ask_known(words, input, out),
+        ["growing", words @ ..] => plans::ask_growing(words, input, out),
+        ["schedule"] => schedules::write_again(alloc, input, out),
+        ["journal", words @ ..] => ask_journal(rt, words, input, out),
+        _ => Err(Fault::Unreadable),
+    }
+}
+
+/// Answers what the words ask.
+fn answer(rt: &HostRuntime, words: &[&str], out: &mut String) -> Result<(), Fault> {
+    match words {
+        ["report", name] => reports::print(rt.alloc(), name, out),
+        ["writers", name] => writers::try_all(rt.alloc(), name, out),
+        ["lists"] => writers::list(rt.alloc(), out),
+        _ => answer_input(rt, words, out),
+    }
+}
+
+fn run(rt: &HostRuntime, alloc: Global) -> Result<(), Fault> {
+    let words = env::args(rt)?.collect::<Vec<String>>(alloc)?;
+    let words = texts(alloc, words.as_slice())?;
+    let mut out = String::with_capacity(alloc, ROOM)?;
+    answer(rt, words.as_slice(), &mut out)?;
+    rt.stdout().write_all(out.as_bytes())?;
+    Ok(())
+}
+
+fn main(rt: HostRuntime) -> ExitCode {
+    match run(&rt, rt.alloc()) {
+        Ok(()) => ExitCode::SUCCESS,
+        Err(fault) => {
+            // Where standard error fails too there is nobody left to tell.
+            let _ = writeln!(rt.stderr(), "{fault}");
+            ExitCode::from(fault.status())
+        }
+    }
+}

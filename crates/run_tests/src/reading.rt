@@ -1,0 +1,66 @@
+//! Texts of numbers, plans and setups.
+ghost use Rattle.std.specs.Prelude.{◌≡◌, IfOk};
+ghost use Rattle.slot_plans.specs.Known.{known_nodes};
+
+use crate::fault::Fault;
+use round_meaning::{Inputs, Setup};
+use slot_plans::{Known, PlanKind};
+use std::alloc::Global;
+
+/// The texts before and behind a blank, or the whole and an empty one.
+pub fn cut(text: &str) -> (&str, &str) {
+    text.split_once(' ').unwrap_or((text, ""))
+}
+
+pub fn number(text: &str) -> Result<u32, Fault> {
+    text.parse().map_err(|_| Fault::Unreadable)
+}
+
+/// Two numbers with a blank between them.
+pub fn two(text: &str) -> Result<(u32, u32), Fault> {
+    let (one, other) = cut(text);
+    Ok((number(one)?, number(other)?))
+}
+
+/// Three numbers with blanks between them.
+pub fn three(text: &str) -> Result<(u32, u32, u32), Fault> {
+    let (first, rest) = cut(text);
+    let (second, third) = two(rest)?;
+    Ok((number(first)?, second, third))
+}
+
+/// A plan's name: `growing`, or `known 3`.
+pub fn kind(text: &str) -> Result<PlanKind, Fault> {
+    match cut(text) {
+        ("growing", "") => Ok(PlanKind::Growing),
+        ("known", delta) => Ok(PlanKind::Known(number(delta)?)),
+        _ => Err(Fault::Unreadable),
+    }
+}
+
+/// Numbers with commas between them.
+fn numbers(alloc: Global, text: &str) -> Result<Vec<u32>, Fault> {
+    let mut numbers = Vec::new(alloc);
+    for word in text.split(',') {
+        numbers.push(number(word)?)?;
+    }
+    Ok(numbers)
+}
+
+/// A setup without faults, of as many nodes as there are inputs.
+pub fn setup(alloc: Global, inputs: &str, rounds: &str) -> Result<Setup, Fault> {
+    let inputs = numbers(alloc, inputs)?;
+    Ok(Setup {
+        nodes: inputs.len().min(16) as u32,
+        faults: 0,
+        inputs: Inputs::new(inputs),
+        rounds: number(rounds)?,
+    })
+}
+
+/// The plan for so many nodes in which the bound on the delay is known.
+pub fn known(nodes: u32, delta: u32) -> Result<Known, Fault>
+    ensures { IfOk result (λ p. known_nodes p ≡ nodes) }
+{
+    Known::new(nodes, delta).ok_or(Fault::Unreadable)
+}

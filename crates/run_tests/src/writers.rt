@@ -1,0 +1,81 @@
+//! Writers that fail, and lists.
+use crate::fault::Fault;
+use crate::reports::{report, text_of};
+use omission_explainer::{Listed, Report, omissions_give_inbox, sets_part_nodes, write_report};
+use std::alloc::Global;
+use std::io;
+use std::io::Write;
+
+/// The code with which writers fail.
+const CODE: i32 = 28;
+
+/// A writer that takes so many bytes, two at a time, and then fails with a code.
+#[derive(Drop)]
+struct Narrow {
+    room: usize,
+    taken: Vec<u8>,
+}
+
+impl Write for Narrow {
+    fn write(&mut self, bytes: &[u8]) -> io::Result<usize> {
+        if self.room == 0 {
+            return Err(io::Error::from_raw_os_error(CODE));
+        }
+        let count = bytes.len().min(self.room).min(2);
+        self.taken.extend_from_slice(&bytes[..count])?;
+        self.room -= count;
+        Ok(count)
+    }
+
+    fn flush(&mut self) -> io::Result<()> {
+        Ok(())
+    }
+}
+
+/// Whether a writer with so much room takes as much of the text, and its fault comes back.
+fn fails_well(alloc: Global, report: &Report, text: &[u8], room: usize) -> Result<bool, Fault> {
+    let taken = Vec::with_capacity(alloc, room)?;
+    let mut out = Narrow { room, taken };
+    let code = match write_report(report, &mut out) {
+        Ok(()) => None,
+        Err(fault) => fault.raw_os_error(),
+    };
+    let expected = if room < text.len() { Some(CODE) } else { None };
+    Ok(code == expected && out.taken.as_slice() == &text[..room.min(text.len())])
+}
+
+/// Gives a report to a writer that fails after each number of its bytes, and to one that takes all.
+pub fn try_all(alloc: Global, name: &str, out: &mut String) -> Result<(), Fault> {
+    let report = report(alloc, name)?;
+    let text = text_of(alloc, &report)?;
+    let length = text.len();
+    for room in 0..length {
+        if !fails_well(alloc, &report, &text, room)? {
+            writeln!(out, "WRONG AFTER {room}")?;
+            return Ok(());
+        }
+    }
+    if !fails_well(alloc, &report, &text, length)? {
+        out.push_str("WRONG WHERE ALL IS TAKEN\n")?;
+        return Ok(());
+    }
+    writeln!(
+        out,
+        "each of {length} writers that fail early took what it could, and its fault came back"
+    )?;
+    Ok(())
+}
+
+/// A list as it is seen, and the items that it gives back.
+pub fn list(alloc: Global, out: &mut String) -> Result<(), Fault> {
+    let mut counts = Vec::with_capacity(alloc, 2)?;
+    counts.push((1u64, 0u64))?;
+    counts.push((4, 2))?;
+    let counts = Listed::new(counts);
+    let length = counts.as_slice().len();
+    let counts = counts.into_vec();
+    writeln!(out, "{length} items: {:?}", counts.as_slice())?;
+    sets_part_nodes();
+    omissions_give_inbox();
+    Ok(())
+}
