@@ -19,6 +19,15 @@ fn show(schedule: &Schedule, out: &mut String) -> Result<(), Fault> {
     Ok(())
 }
 
+/// Why a text is no schedule; where memory is wanting the program gives up.
+fn tell_fault(fault: ScheduleFault, out: &mut String) -> Result<(), Fault> {
+    if fault == ScheduleFault::NoMemory {
+        return Err(Fault::NoMemory);
+    }
+    writeln!(out, "{fault:?}")?;
+    Ok(())
+}
+
 fn is_same(one: &Schedule, other: &Schedule) -> bool {
     one.setup.same(&other.setup)
         && one.plan == other.plan
@@ -30,11 +39,14 @@ fn write_back(alloc: Global, schedule: &Schedule, out: &mut String) -> Result<()
     let events = schedule.events.as_slice();
     let text = write_schedule(alloc, &schedule.setup, schedule.plan, events)?;
     out.push_str(text.as_str())?;
-    let answer = match read_schedule(alloc, text.as_str()) {
-        Ok(again) if is_same(schedule, &again) => "it is read back the same\n",
-        Ok(_) => "READ BACK AS ANOTHER\n",
-        Err(ScheduleFault::NoMemory) => return Err(Fault::NoMemory),
-        Err(_) => "NOT READ BACK\n",
+    let again = match read_schedule(alloc, text.as_str()) {
+        Ok(again) => again,
+        Err(fault) => return tell_fault(fault, out),
+    };
+    let answer = if is_same(schedule, &again) {
+        "it is read back the same\n"
+    } else {
+        "READ BACK AS ANOTHER\n"
     };
     out.push_str(answer)?;
     Ok(())
@@ -47,10 +59,6 @@ pub fn write_again(alloc: Global, input: &str, out: &mut String) -> Result<(), F
             show(&schedule, out)?;
             write_back(alloc, &schedule, out)
         }
-        Err(ScheduleFault::NoMemory) => Err(Fault::NoMemory),
-        Err(fault) => {
-            writeln!(out, "{fault:?}")?;
-            Ok(())
-        }
+        Err(fault) => tell_fault(fault, out),
     }
 }
