@@ -1,0 +1,81 @@
+//! A command over a desk in memory, with a writer that no real output is.
+//!
+//! ```text
+//! command_tests WRITER WORD ..
+//! ```
+//!
+//! WRITER is `whole`, which takes all, `full`, which takes nothing, or `stuck`, which takes all and
+//! fails when it's flushed. The words are those of the program; standard input is the desk's file
+//! `s`. What a whole writer took is printed, and the exit status is the command's.
+#![tactic(auto)]
+
+mod fault;
+mod writers;
+
+use command_runs::{Desk, MemoryDesk, run_words};
+use fault::Fault;
+use std::alloc::Global;
+use std::env;
+use std::io::{Read, Write};
+use std::process::ExitCode;
+use writers::{Full, Stuck};
+
+/// The words after the program's own name.
+fn texts<'a>(alloc: Global, words: &'a [String]) -> Result<Vec<&'a str>, Fault> {
+    let mut texts = Vec::new(alloc);
+    for word in words.iter().skip(1) {
+        texts.push(word.as_str())?;
+    }
+    Ok(texts)
+}
+
+/// The desk whose file `s` is standard input.
+fn desk(rt: &HostRuntime, alloc: Global) -> Result<MemoryDesk, Fault> {
+    let mut bytes = Vec::new(alloc);
+    rt.reader().read_to_end(&mut bytes)?;
+    let mut desk = MemoryDesk::new(alloc);
+    desk.write("s", bytes.as_slice())?;
+    Ok(desk)
+}
+
+/// Runs the words with a writer that takes all, and prints what it took.
+fn run_whole(rt: &HostRuntime, alloc: Global, words: &[&str]) -> Result<u8, Fault> {
+    let mut desk = desk(rt, alloc)?;
+    let mut out = Vec::new(alloc);
+    let status = run_words(alloc, words, &mut desk, &mut out, &mut rt.stderr());
+    rt.stdout().write_all(out.as_slice())?;
+    Ok(status)
+}
+
+/// Runs the words with another writer.
+fn run_into<O: Write>(
+    rt: &HostRuntime,
+    alloc: Global,
+    words: &[&str],
+    out: &mut O,
+) -> Result<u8, Fault> {
+    let mut desk = desk(rt, alloc)?;
+    Ok(run_words(alloc, words, &mut desk, out, &mut rt.stderr()))
+}
+
+fn run(rt: &HostRuntime, alloc: Global) -> Result<u8, Fault> {
+    let words = env::args(rt)?.collect::<Vec<String>>(alloc)?;
+    let words = texts(alloc, words.as_slice())?;
+    match words.as_slice() {
+        ["whole", words @ ..] => run_whole(rt, alloc, words),
+        ["full", words @ ..] => run_into(rt, alloc, words, &mut Full),
+        ["stuck", words @ ..] => run_into(rt, alloc, words, &mut Stuck),
+        _ => Err(Fault::Unreadable),
+    }
+}
+
+fn main(rt: HostRuntime) -> ExitCode {
+    match run(&rt, rt.alloc()) {
+        Ok(status) => ExitCode::from(status),
+        Err(fault) => {
+            // Where standard error fails too there is nobody left to tell.
+            let _ = writeln!(rt.stderr(), "{fault}");
+            ExitCode::from(fault.status())
+        }
+    }
+}
