@@ -1,5 +1,5 @@
 //! What a journal tells.
-ghost use Rattle.std.specs.Prelude.{◌<◌};
+ghost use Rattle.std.specs.Prelude.{◌<◌, IsTrue};
 ghost use Rattle.step_journal.specs.Log.{IsName};
 
 use crate::fault::Fault;
@@ -140,7 +140,9 @@ fn tell_of_node(journal: &Journal<Known>, asked: Question, out: &mut String) -> 
 }
 
 /// Whether the run has a message of this name.
-fn within(journal: &Journal<Known>, name: Name) -> bool {
+fn within(journal: &Journal<Known>, name: Name) -> bool
+    ensures { IsTrue result → IsName journal.now.log.setup name }
+{
     let setup = journal.book().setup();
     name.from < setup.nodes && name.to < setup.nodes && 0 < name.round && name.round <= setup.rounds
 }
