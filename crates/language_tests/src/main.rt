@@ -15,6 +15,7 @@
 #![tactic(auto)]
 
 mod acts;
+mod equality;
 mod fault;
 mod list;
 mod nests;

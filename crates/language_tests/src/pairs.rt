@@ -1,5 +1,9 @@
 //! Which programs, and which of their parts, are the same, and which values and setups.
 use crate::acts::Answers;
+use crate::equality::{
+    are_one_assignments, are_one_fields, are_one_variables, is_one_program, is_one_setup,
+    is_one_value,
+};
 use crate::fault::Fault;
 use crate::reading::{cut_pair, setup_in, value};
 use crate::showing::show_same;
@@ -16,10 +20,14 @@ fn name_other(out: &mut String, part: &str, is_same: bool) -> Result<(), AllocEr
 fn name_other_blocks(out: &mut String, one: &Block, other: &Block) -> Result<(), AllocError> {
     name_other(out, " block", one == other)?;
     name_other(out, " at", one.number() == other.number())?;
-    name_other(out, " fields", one.fields() == other.fields())?;
+    name_other(out, " fields", are_one_fields(one.fields(), other.fields()))?;
     name_other(out, " condition", one.condition() == other.condition())?;
     name_other(out, " sent", one.sent() == other.sent())?;
-    name_other(out, " message", one.on_message() == other.on_message())?;
+    name_other(
+        out,
+        " message",
+        are_one_assignments(one.on_message(), other.on_message()),
+    )?;
     name_other(out, " end", one.end() == other.end())
 }
 
@@ -30,7 +38,11 @@ fn name_other_declarations(
 ) -> Result<(), AllocError> {
     name_other(out, " values", one.values() == other.values())?;
     name_other(out, " period", one.period() == other.period())?;
-    name_other(out, " variables", one.variables() == other.variables())?;
+    name_other(
+        out,
+        " variables",
+        are_one_variables(one.variables(), other.variables()),
+    )?;
     name_other(out, " decide", one.decides() == other.decides())
 }
 
@@ -56,7 +68,7 @@ fn if_checked(alloc: Global, program: Program) -> Result<Option<Checked>, Fault>
 
 /// Whether two checked programs are one, of which the first is copied.
 fn show_checked(out: &mut String, one: &Checked, other: &Checked) -> Result<(), Fault> {
-    show_same(out, " checked", one == other)?;
+    show_same(out, " checked", is_one_program(one, other))?;
     show_same(out, "", one.copy()? == *other)?;
     Ok(())
 }
@@ -112,7 +124,7 @@ fn show_rows(out: &mut String, one: &Value, other: &Value) -> Result<(), Fault> 
 
 fn show_values(alloc: Global, out: &mut String, one: &Value, other: &Value) -> Result<(), Fault> {
     show_same(out, "value", one.same(other))?;
-    show_same(out, "", one == other)?;
+    show_same(out, "", is_one_value(one, other))?;
     show_states(alloc, out, one, other)?;
     show_rows(out, one, other)
 }
@@ -127,7 +139,7 @@ pub fn pair(alloc: Global, act: &str, out: &mut String) -> Result<(), Fault> {
 
 fn show_setups(out: &mut String, one: &Setup, other: &Setup) -> Result<(), Fault> {
     show_same(out, "setup", one.same(&other.copy()?))?;
-    show_same(out, "", one == other)?;
+    show_same(out, "", is_one_setup(one, other))?;
     show_same(out, " inputs", one.inputs == other.inputs)?;
     Ok(())
 }
