@@ -7,11 +7,7 @@ use crate::identifier::Identifier;
 use crate::memory::NoMemory;
 use std::alloc::Global;
 
-pub(crate) fn unary(
-    alloc: Global,
-    operator: UnaryOperator,
-    operand: Expr,
-) -> Result<Expr, NoMemory>
+pub(crate) fn unary(alloc: Global, operator: UnaryOperator, operand: Expr) -> Result<Expr, NoMemory>
     ensures { IfOk result (λ e. tree_of e ≡ TUnary operator (tree_of operand)) }
 {
     Ok(Expr::Unary(operator, Box::new(alloc, operand)?))
