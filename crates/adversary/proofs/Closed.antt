@@ -9,9 +9,11 @@ use Rattle.round_meaning.specs.declared.setup.Setup.{Setup}
 use Rattle.round_meaning.specs.Rounds.{algorithm_of}
 use Rattle.step_journal.proofs.Hearing.{held_begins}
 use Rattle.step_journal.specs.Agreement.{row}
+use Rattle.step_journal.specs.Work.{AreCarried}
+use Rattle.step_journal.specs.World.{earliest}
 use Rattle.step_journal.specs.Log.{Log, closed, count_of, ended, history, round_of, state_before, world_of}
-use Rattle.step_machine.specs.Frames.{Frame}
-use Rattle.step_machine.specs.Nodes.{IsEnd, IsSameTurn, NodeView, held_at, inbox_of}
+use Rattle.step_machine.specs.Frames.{HeldRow, held_at}
+use Rattle.step_machine.specs.Nodes.{HasPlaces, HasSettled, IsEnd, IsSameTurn, NodeView, ahead, held_now, held_of, inbox_of}
 use Rattle.adversary.specs.Driving.{IsNodeOf}
 
 -- a node with a round has a row
@@ -32,23 +34,13 @@ state-closed v f h =
     let last : length (row v.rows f.me) ≡ round_of (closed v f) f.me - 1 = omega (arith, round-closed v f h) in
     ap (λ x. get_or x (round_of (closed v f) f.me - 1) []) (row_closed v f h) ∙ get_or_push (row v.rows f.me) (ended f) [] (round_of (closed v f) f.me - 1) last
 
-end_of_same : (p q : ProgramTree) (s t : Setup) (a b i j : ℕ) (h k : List (Option Frame)) (x y : List Value) → p ≡ q → s ≡ t → a ≡ b → i ≡ j → h ≡ k → x ≡ y → (algorithm_of p s).end a i (inbox_of h) x ≡ (algorithm_of q t).end b j (inbox_of k) y
+end_of_same : (p q : ProgramTree) (s t : Setup) (a b i j : ℕ) (h k : HeldRow) (x y : List Value) → p ≡ q → s ≡ t → a ≡ b → i ≡ j → h ≡ k → x ≡ y → (algorithm_of p s).end a i (inbox_of h) x ≡ (algorithm_of q t).end b j (inbox_of k) y
 end_of_same p q s t a b i j h k x y ps ss rounds nodes helds states = rw (ps, ss, rounds, nodes, helds, states) refl
 
 -- a turn ends alike wherever it's looked at
 ended_same : (n f : NodeView) → IsSameTurn n f → ended f ≡ ended n
 ended_same n f h =
-    end_of_same f.program n.program f.setup n.setup f.round n.round f.me n.me f.held n.held f.state n.state h.program h.setup h.round h.me h.held h.state
-
--- the node adopted the state that it ended its round with
-pub record HasSettled (old new : NodeView) : Type 0 where
-  pub state : Some new.state ≡ old.next
-  pub held : (j : ℕ) → held_at new.held j ≡ None
-  pub places : length new.held ≡ length old.held
-  pub round : new.round ≡ old.round + 1
-  pub program : new.program ≡ old.program
-  pub setup : new.setup ≡ old.setup
-  pub me : new.me ≡ old.me
+    end_of_same f.program n.program f.setup n.setup f.round n.round f.me n.me (held_now f) (held_now n) f.state n.state h.program h.setup h.round h.me (ap (λ x. get_or x 0 []) h.held) h.state
 
 -- a node n of a run that finished its due round, as f
 module _ (start : ℕ → ℕ) (v : Log) (n f : NodeView) (turn : IsSameTurn n f) (is : IsNodeOf start v n.me n) (first : 0 < round_of v n.me) (due : count_of v n.me ≡ start (round_of v n.me + 1)) where
@@ -72,8 +64,18 @@ module _ (start : ℕ → ℕ) (v : Log) (n f : NodeView) (turn : IsSameTurn n f
         me = settled.me ∙ same.me ∙ own.me;
         round = settled.round ∙ ap (λ x. x + 1) (same.round ∙ own.round) ∙ sym (round-closed v f some);
         state = same_Some m.state (ended r) (settled.state ∙ end) ∙ ended_same n r same ∙ sym (ended_same n f turn) ∙ sym (state-closed v f some);
-        places = settled.places ∙ ap length same.held ∙ own.places;
-        held = λ q at l.
-            let next : round_of v f.me + 1 ≡ suc q = omega (arith, at, round-closed v f some) in
-            held_begins (world_of start v) (history v) f.me q m.held (omega (arith, due_own, ap start next)) (λ j k. settled.held j);
+        places = settled.places v.setup.nodes (subst (λ x. HasPlaces v.setup.nodes x) (sym same.held) own.places);
+        held = λ k q b at l.
+            let next : round_of v f.me + 1 + k ≡ suc q = omega (arith, at, round-closed v f some) in
+            held_after k q b next l (cases_lt k ahead);
       })
+      where
+        -- what was held of the rounds after the one that ended, and nothing of the last that it keeps now
+        held_after : (k q : ℕ) → k ≤ ahead → round_of v f.me + 1 + k ≡ suc q → q < v.setup.rounds → (k < ahead) ⊎ (ahead ≤ k) → AreCarried (world_of start v) (history v) f.me q (held_of m k)
+        held_after k q b next l (inl before) =
+            let own : AreCarried (world_of start v) (history v) f.me q (held_of n (k + 1)) = at_own.held (k + 1) q (omega arith) (omega arith) l in
+            subst (λ x. AreCarried (world_of start v) (history v) f.me q x) (sym (settled.kept k before ∙ ap (λ x. get_or x (k + 1) []) same.held)) own
+        held_after k q b next l (inr past) =
+            let last : k ≡ ahead = omega arith in
+            let begin : earliest (suc q) ≡ round_of v f.me + 1 = omega arith in
+            held_begins (world_of start v) (history v) f.me q (held_of m k) (omega (arith, due_own, ap start begin)) (λ j c. ap (λ x. held_at (held_of m x) j) last ∙ settled.free j)

@@ -7,7 +7,7 @@ use Rattle.round_meaning.specs.declared.setup.Setup.{Setup}
 use Rattle.round_meaning.specs.Rounds.{algorithm_of}
 use Rattle.step_journal.proofs.Hearing.{IsTold, held_on, held_received}
 use Rattle.step_journal.proofs.Leaves.{happened_first}
-use Rattle.step_journal.proofs.Plans.{is_receive_at, lies_within}
+use Rattle.step_journal.proofs.Plans.{is_receive_at}
 use Rattle.step_journal.proofs.Reading.{nodes_are}
 use Rattle.step_journal.specs.Agreed.{IsSaid}
 use Rattle.step_journal.specs.Agreement.{IsBuffer, Row, row}
@@ -21,7 +21,7 @@ use Rattle.step_journal.specs.World.{IsPlan, World, is_receive, nodes_of}
 use Rattle.step_machine.specs.declared.event.Event.{Event}
 use Rattle.step_machine.specs.declared.event.Event.TheVariants.{Step}
 use Rattle.step_machine.specs.Frames.{Frame}
-use Rattle.step_machine.specs.Nodes.{NodeView}
+use Rattle.step_machine.specs.Nodes.{HasPlaces, NodeView, held_of}
 use Rattle.adversary.specs.Driving.{GoesOn, IsInRound, IsNodeOf}
 use Rattle.adversary.proofs.Settled.{newest, not_its_step}
 
@@ -60,11 +60,12 @@ module _ (start : ℕ → ℕ) (old new : Log) (i : ℕ) where
     me = h.me;
     round = h.round ∙ ap length (sym g.row);
     state = h.state ∙ ap last_of (sym g.row);
-    places = h.places ∙ ap (λ (s : Setup). s.nodes) (sym g.setup);
-    held = λ q at l.
-        let same : q + 1 ≡ round_of old i = at ∙ ap length g.row in
+    places = subst (λ (s : Setup). HasPlaces s.nodes n.held) (sym g.setup) h.places;
+    held = λ k q m at l.
+        let same : q + 1 ≡ round_of old i + k = at ∙ ap (λ x. length x + k) g.row in
         let within : q < old.setup.rounds = omega (arith, l, ap (λ (s : Setup). s.rounds) g.setup) in
-        held_moved e q n.held g (held_on (world_of start old) p e (history old) i q n.held (omega arith) (quiet (omega arith)) (h.held q same within));
+        held_moved e q (held_of n k) g
+        (held_on (world_of start old) p e (history old) i q (held_of n k) (omega arith) (quiet (omega arith)) (h.held k q m same within));
   }
 
   -- a send
@@ -85,16 +86,15 @@ module _ (start : ℕ → ℕ) (old new : Log) (i : ℕ) where
     me = took.same.me ∙ h.me;
     round = took.same.round ∙ h.round ∙ ap length (sym g.row);
     state = took.same.state ∙ h.state ∙ ap last_of (sym g.row);
-    places = took.places ∙ h.places ∙ ap (λ (s : Setup). s.nodes) (sym g.setup);
-    held = λ q at l.
-        let same : q + 1 ≡ round_of old i = at ∙ ap length g.row in
+    places = took.places new.setup.nodes (subst (λ (s : Setup). HasPlaces s.nodes n.held) (sym g.setup) h.places);
+    held = λ k q b at l.
+        let same : q + 1 ≡ round_of old i + k = at ∙ ap (λ x. length x + k) g.row in
         let within : q < old.setup.rounds = omega (arith, l, ap (λ (s : Setup). s.rounds) g.setup) in
-        let next : round_of old i ≡ suc q = omega arith in
+        let next : suc q ≡ round_of old i + k = omega arith in
         let w = world_of start old in
-        let told : All (IsTold w (history old) i) frames = λ k d b. record { to = (mail k d b).to; state = (said k d b).state } in
-        let lies = lies_within w (suc q) (count_of old i) (omega (arith, r.begun, ap start next)) (omega (arith, r.within, ap (λ x. start (x + 1)) next)) in
-        held_moved (Step i) q m.held g
-        (held_received w p (history old) i q n m frames (omega arith) fit.1 lies once told (h.round ∙ next) took (h.held q same within));
+        let told : All (IsTold w (history old) i) frames = λ x d z. record { to = (mail x d z).to; state = (said x d z).state } in
+        held_moved (Step i) q (held_of m k) g
+        (held_received w p (history old) i q k (round_of old i) n m frames b r.first next (omega arith) fit.1 r.begun r.within once told h.round took (h.held k q b same within));
   }
 
 -- another node's step

@@ -1,6 +1,6 @@
 -- Schedules whose runs compute from the definitions: which messages are carried, the states after the rounds, and the releases' answers.
-use Rattle.std.proofs.Common.{◌≡◌, ℕ, true, false, List, [], ◌∷◌, refl, map}
-use Rattle.std.specs.Prelude.{codes, slice_index, reverse}
+use Rattle.std.proofs.Common.{◌≡◌, ℕ, ◌-◌, ◌*◌, true, false, List, [], ◌∷◌, ◌++◌, refl, map}
+use Rattle.std.specs.Prelude.{codes, replicate, slice_index, reverse}
 use Rattle.round_lang.specs.declared.expr.BinaryOperator.TheVariants.{Equal, Union}
 use Rattle.round_lang.specs.declared.expr.Constant.TheVariants.{Empty, From}
 use Rattle.round_lang.specs.declared.expr.Ty.TheVariants.{Set as SetTy}
@@ -84,17 +84,33 @@ before_send_answers : answers_of (world (0 ∷ []) 1 1) before_send ≡ false �
 unfolding answers_of mark_of carried first steps algorithm inbox rounds set_of is_in
 before_send_answers = refl
 
--- a message of round 2 is taken in round 1, too early
+-- a message of round 2 is taken in round 1, and kept for its round
 abbrev early : List Event
 early = reverse (Step 1 ∷ Step 1 ∷ Step 1 ∷ Step 1 ∷ release 1 0 2 ∷ Step 0 ∷ Step 0 ∷ Step 0 ∷ Step 0 ∷ Step 0 ∷ Step 0 ∷ [])
 
-early_carried : map (λ r. carried (world (0 ∷ 1 ∷ []) 2 2) early 0 r 1) (1 ∷ 2 ∷ []) ≡ false ∷ false ∷ []
+early_carried : map (λ r. carried (world (0 ∷ 1 ∷ []) 2 2) early 0 r 1) (1 ∷ 2 ∷ []) ≡ false ∷ true ∷ []
 unfolding carried first steps algorithm
 early_carried = refl
 
-early_state : state (world (0 ∷ 1 ∷ []) 2 2) early 2 0 ≡ Num 0 ∷ of_set 1 ∷ []
+early_state : state (world (0 ∷ 1 ∷ []) 2 2) early 2 0 ≡ Num 0 ∷ of_set 3 ∷ []
 unfolding carried first steps algorithm inbox rounds set_of is_in
 early_state = refl
+
+-- a message is kept for three rounds, and not for four
+abbrev far_early : ℕ → ℕ → List Event
+far_early r last = reverse (replicate (3 * r - 2) (Step 1) ++ release 1 0 r ∷ replicate (3 * last) (Step 0))
+
+kept_for_three : map (λ r. carried (world (0 ∷ 1 ∷ []) 2 4) (far_early 4 4) 0 r 1) (3 ∷ 4 ∷ []) ≡ false ∷ true ∷ []
+unfolding carried first steps algorithm
+kept_for_three = refl
+
+kept_for_three_state : state (world (0 ∷ 1 ∷ []) 2 4) (far_early 4 4) 4 0 ≡ Num 0 ∷ of_set 3 ∷ []
+unfolding carried first steps algorithm inbox rounds set_of is_in
+kept_for_three_state = refl
+
+too_early_for_four : map (λ r. carried (world (0 ∷ 1 ∷ []) 2 5) (far_early 5 5) 0 r 1) (4 ∷ 5 ∷ []) ≡ false ∷ false ∷ []
+unfolding carried first steps algorithm
+too_early_for_four = refl
 
 -- only the node with the input 1 sends, and each node notes whom it heard
 abbrev speaks_of_one : ProgramTree

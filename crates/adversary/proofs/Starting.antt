@@ -1,5 +1,5 @@
 -- The nodes of a run before their first round.
-use Rattle.std.proofs.Common.{◌≡◌, ℕ, ◌+◌, ◌-◌, ◌<◌, ◌≤◌, List, [], ◌∷◌, ◌++◌, length, get_or, None, sym, ap, subst, ◌∙◌, arith, ◌⊎◌, inl, inr, length-append}
+use Rattle.std.proofs.Common.{◌≡◌, ℕ, suc, ◌+◌, ◌-◌, ◌<◌, ◌≤◌, List, [], ◌∷◌, ◌++◌, length, get_or, None, sym, ap, subst, ◌∙◌, arith, ◌⊎◌, inl, inr, length-append}
 use Rattle.std.specs.Prelude.{replicate}
 use Rattle.std.proofs.lemmas.Bool.{cases_lt}
 use Rattle.std.proofs.lemmas.List.{get_or-replicate, get_or_append_left, get_or_push, length-replicate}
@@ -11,7 +11,9 @@ use Rattle.step_journal.proofs.Hearing.{held_first}
 use Rattle.step_journal.proofs.Reading.{nodes_are}
 use Rattle.step_journal.specs.Agreement.{Row, row}
 use Rattle.step_journal.specs.Log.{Log, opened, world_of}
-use Rattle.step_machine.specs.Nodes.{NodeView, held_at}
+use Rattle.step_machine.proofs.HeldFrames.{no_rows, none_at}
+use Rattle.step_machine.specs.Frames.{held_at}
+use Rattle.step_machine.specs.Nodes.{HasPlaces, NodeView, ahead, held_of}
 use Rattle.adversary.specs.Driving.{IsNodeOf}
 
 -- the first m nodes of a run
@@ -24,16 +26,17 @@ row_opened : (p : ProgramTree) (s : Setup) (i : ℕ) → i < s.nodes → row (op
 row_opened p s i l = get_or-map-range_with_len (λ j. (algorithm_of p s).init j ∷ []) 0 s.nodes i i [] l (omega arith)
 
 -- a new node is one of the run's
-pub first_node : (start : ℕ → ℕ) (p : ProgramTree) (s : Setup) (i : ℕ) (n : NodeView) → i < s.nodes → n ≡ record { program = p; setup = s; me = i; round = 1; state = (algorithm_of p s).init i; held = replicate s.nodes None; next = None } → IsNodeOf start (opened p s) i n
+pub first_node : (start : ℕ → ℕ) (p : ProgramTree) (s : Setup) (i : ℕ) (n : NodeView) → i < s.nodes → n ≡ record { program = p; setup = s; me = i; round = 1; state = (algorithm_of p s).init i; held = replicate (suc ahead) (replicate s.nodes None); next = None } → IsNodeOf start (opened p s) i n
 first_node start p s i n l e = record {
   program = ap (λ (m : NodeView). m.program) e;
   setup = ap (λ (m : NodeView). m.setup) e;
   me = ap (λ (m : NodeView). m.me) e;
   round = ap (λ (m : NodeView). m.round) e ∙ sym (ap length (row_opened p s i l));
   state = ap (λ (m : NodeView). m.state) e ∙ sym (ap (λ (x : Row). get_or x (length x - 1) []) (row_opened p s i l));
-  places = ap (λ (m : NodeView). length m.held) e ∙ length-replicate s.nodes None;
-  held = λ q at k. held_first (world_of start (opened p s)) i q n.held (λ j b.
-      ap (λ (m : NodeView). held_at m.held j) e ∙ get_or-replicate s.nodes j None None (let w = nodes_are start (opened p s) in omega arith));
+  places = subst (λ (m : NodeView). HasPlaces s.nodes m.held) (sym e) (no_rows (algorithm_of p s) s.nodes i 1).places;
+  held = λ k q b at l. held_first (world_of start (opened p s)) i q (held_of n k) (λ j c.
+      ap (λ (m : NodeView). held_at (held_of m k) j) e ∙ ap (λ x. held_at x j) (none_at s.nodes k b)
+      ∙ get_or-replicate s.nodes j None None (let w = nodes_are start (opened p s) in omega arith));
 }
 
 pub one_more : (start : ℕ → ℕ) (v : Log) (m : ℕ) (old new : List NodeView) (n : NodeView) → AreFirst start v m old → IsNodeOf start v m n → new ≡ old ++ n ∷ [] → AreFirst start v (m + 1) new

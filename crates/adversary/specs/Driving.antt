@@ -6,19 +6,20 @@ use Rattle.step_journal.specs.Work.{AreCarried}
 use Rattle.round_meaning.specs.declared.setup.Setup.{Setup}
 use Rattle.step_machine.specs.declared.event.Event.{Event}
 use Rattle.step_machine.specs.declared.event.Event.TheVariants.{Step, Release}
-use Rattle.step_machine.specs.Nodes.{NodeView}
+use Rattle.step_machine.specs.Nodes.{HasPlaces, NodeView, ahead, held_of}
 use Rattle.adversary.specs.declared.fault.RunFault.{RunFault}
 use Rattle.adversary.specs.declared.fault.RunFault.TheVariants as fault
 
--- the node is node i of the run: in its round, with the state recorded before that, and, until the last round is over, holding what was carried to the round so far
+-- the node is node i of the run: in its round, with the state recorded before that, and holding
+-- what was carried so far to the round and to each kept round after it, up to the last
 pub record IsNodeOf (start : ℕ → ℕ) (v : Log) (i : ℕ) (n : NodeView) : Type 0 where
   pub program : n.program ≡ v.program
   pub setup : n.setup ≡ v.setup
   pub me : n.me ≡ i
   pub round : n.round ≡ round_of v i
   pub state : n.state ≡ state_before v i (round_of v i)
-  pub places : length n.held ≡ v.setup.nodes
-  pub held : (q : ℕ) → q + 1 ≡ round_of v i → q < v.setup.rounds → AreCarried (world_of start v) (history v) i q n.held
+  pub places : HasPlaces v.setup.nodes n.held
+  pub held : (k q : ℕ) → k ≤ ahead → q + 1 ≡ round_of v i + k → q < v.setup.rounds → AreCarried (world_of start v) (history v) i q (held_of n k)
 
 -- the next step of node i is one of its round
 pub record IsInRound (start : ℕ → ℕ) (v : Log) (i : ℕ) : Type 0 where

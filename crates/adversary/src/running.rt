@@ -1,11 +1,11 @@
 //! Running a schedule on one thread.
-ghost use Rattle.std.specs.Prelude.{◌≡◌, ℕ, ◌+◌, ◌<◌, ◌≤◌, ◌∷◌, ◌↔◌, [], All, Err, IfErr, IfOk, IfSome, IfNone, IsTrue, OnOk, length};
+ghost use Rattle.std.specs.Prelude.{◌≡◌, ℕ, ◌+◌, ◌<◌, ◌≤◌, ◌∷◌, ◌↔◌, [], All, Err, IfErr, IfOk, IfSome, IfNone, IsTrue, OnOk};
 ghost use Rattle.round_meaning.specs.Setups.{IsLawful, IsSized, max_rounds};
 ghost use Rattle.step_journal.specs.Agreement.{row};
 ghost use Rattle.step_journal.specs.Log.{IsName, count_of, happened, opened, round_of};
 ghost use Rattle.step_journal.specs.Stock.{IsMail};
 ghost use Rattle.step_journal.specs.Taking.{HasTaken};
-ghost use Rattle.step_machine.specs.Nodes.{algorithm_in};
+ghost use Rattle.step_machine.specs.Nodes.{HasPlaces, algorithm_in};
 ghost use Rattle.step_machine.specs.declared.event.Event.TheVariants as event;
 ghost use Rattle.adversary.specs.Driving.{AreNodesOf, ClosedAreDue, GoesOn, IsInRound, IsKnown, IsNodeOf, IsSettled, IsUnknownAt, RunCause};
 
@@ -249,7 +249,7 @@ fn receive<P: Plan>(journal: &mut Journal<P>, node: &mut Node, me: u32) -> Resul
 
 /// The node takes frames that were sent to it, in their order.
 fn take_all(node: &mut Node, frames: Vec<Sealed>)
-    requires places { length node.old.held ≡ node.old.setup.nodes }
+    requires places { HasPlaces node.old.setup.nodes node.old.held }
     requires mail { All (IsMail (algorithm_in node.old) node.old.setup.nodes node.old.me) frames.items }
     ensures { HasTaken node.old node.new frames.items }
 {

@@ -13,7 +13,7 @@ use Rattle.step_journal.specs.Trace.{carried, first, is_later, is_release, lies_
 use Rattle.step_journal.specs.World.{World, IsPlan, is_receive, nodes_of}
 use Rattle.step_journal.proofs.Carried.{carried_is, releases}
 use Rattle.step_journal.proofs.Moments.{At, Newest, Older, at_longer, at_within, is_first, none_passes}
-use Rattle.step_journal.proofs.Plans.{last_is_receive, lies_within, start_le}
+use Rattle.step_journal.proofs.Plans.{last_is_receive, lies_within, start_le, starts_early}
 use Rattle.step_journal.proofs.Reading.{nodes_are}
 use Rattle.step_journal.proofs.Starts.{plan_is}
 use Rattle.omission_explainer.specs.Printed.{is_omitted}
@@ -88,7 +88,8 @@ module _ (w : World) (t : List Event) (correct delta gst : ℕ) (plan : IsPlan w
           let m = slot_before.number in
           let n = last_step.number in
           let long = plan.next (suc q) (omega arith) in
-          lies_within w (suc q) (steps i b) (omega (arith, low, pace, m)) (omega (arith, high, n, long))
+          let early = starts_early w plan (suc q) (suc q) (omega arith) (omega arith) in
+          lies_within w (suc q) (steps i b) (omega (arith, low, pace, m, early)) (omega (arith, high, n, long))
 
   is_carried : is_some (message w t q j i) ≡ true → carried w t i (suc q) j ≡ true
   is_carried spoken =

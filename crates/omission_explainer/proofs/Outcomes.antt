@@ -12,7 +12,7 @@ use Rattle.step_journal.specs.History.{message, mark_by, mark_of}
 use Rattle.step_journal.specs.Log.{Log, IsFaithful, count_of, history, round_of, world_of}
 use Rattle.step_journal.specs.Trace.{carried, lies_at, released, sent, steps}
 use Rattle.step_journal.specs.Work.{is_within}
-use Rattle.step_journal.specs.World.{World, IsPlan, lies_in}
+use Rattle.step_journal.specs.World.{World, IsPlan, earliest, lies_near}
 use Rattle.step_journal.proofs.Carried.{carried_is}
 use Rattle.step_journal.proofs.Plans.{start_le}
 use Rattle.step_journal.proofs.Starts.{plan_is}
@@ -37,12 +37,12 @@ and_true : (b : Bool) → b ≡ (b && true)
 and_true true = refl
 and_true false = refl
 
-within_pure : (w : World) (i r : ℕ) (a : Option (List Event)) (m : Option (List Value)) (b : Option (List Event)) → (a ≡ None → b ≡ None) → is_within (mark_by i a m b) (w.start r) (w.start (r + 1)) ≡ (lies_at w i r b && is_some m)
+within_pure : (w : World) (i r : ℕ) (a : Option (List Event)) (m : Option (List Value)) (b : Option (List Event)) → (a ≡ None → b ≡ None) → is_within (mark_by i a m b) (w.start (earliest r)) (w.start (r + 1)) ≡ (lies_at w i r b && is_some m)
 within_pure w i r None m b h = rw (h refl) refl
 within_pure w i r (Some a) None None h = refl
-within_pure w i r (Some a) None (Some b) h = and_false (lies_in w r (steps i b))
+within_pure w i r (Some a) None (Some b) h = and_false (lies_near w r (steps i b))
 within_pure w i r (Some a) (Some m) None h = refl
-within_pure w i r (Some a) (Some m) (Some b) h = and_true (lies_in w r (steps i b))
+within_pure w i r (Some a) (Some m) (Some b) h = and_true (lies_near w r (steps i b))
 
 quiet_pure : (i : ℕ) (a : Option (List Event)) (m : Option (List Value)) (b : Option (List Event)) → is_quiet (mark_by i a m b) ≡ (is_some a && not (is_some m))
 quiet_pure i None m b = refl
@@ -54,7 +54,7 @@ unsent_unreleased : (w : World) (t : List Event) (j i r : ℕ) → sent w t j i 
 unsent_unreleased w t j i r h = rw h refl
 
 -- once a round is past, its mark tells whether a message was carried to it
-pub within_is : (w : World) → IsPlan w → (t : List Event) (i q j : ℕ) → suc q ≤ w.rounds → w.start (suc q + 1) ≤ steps i t → is_within (mark_of w t j i q) (w.start (suc q)) (w.start (suc q + 1)) ≡ (carried w t i (suc q) j && is_some (message w t q j i))
+pub within_is : (w : World) → IsPlan w → (t : List Event) (i q j : ℕ) → suc q ≤ w.rounds → w.start (suc q + 1) ≤ steps i t → is_within (mark_of w t j i q) (w.start (earliest (suc q))) (w.start (suc q + 1)) ≡ (carried w t i (suc q) j && is_some (message w t q j i))
 unfolding mark_of
 within_is w p t i q j l n =
     within_pure w i (suc q) (sent w t j i (suc q)) (message w t q j i) (released w t j i (suc q)) (unsent_unreleased w t j i (suc q))
@@ -163,7 +163,7 @@ module _ {start : ℕ → ℕ} {v : Log} (i q : ℕ) (plan : IsPlan (world_of st
   last_closed : suc q ≤ v.setup.rounds
   last_closed = let most = faithful.bounded i node in omega arith
 
-  heard_here : (j : ℕ) → is_within (mark_of (world_of start v) (history v) j i q) (start (suc q)) (start (suc q + 1)) ≡ is_heard (carried (world_of start v) (history v) i (suc q)) (λ k. is_some (message (world_of start v) (history v) q k i)) j
+  heard_here : (j : ℕ) → is_within (mark_of (world_of start v) (history v) j i q) (start (earliest (suc q))) (start (suc q + 1)) ≡ is_heard (carried (world_of start v) (history v) i (suc q)) (λ k. is_some (message (world_of start v) (history v) q k i)) j
   heard_here j = within_is (world_of start v) plan (history v) i q j last_closed past_closed
 
 -- a round and the one that its messages were made in
@@ -173,7 +173,7 @@ Shows start v i q r h s o =
     × (s ≡ set_of v.setup.nodes (is_silent (λ k. is_some (message (world_of start v) (history v) q k i)) (λ k. is_some (sent (world_of start v) (history v) k i r))))
     × (o ≡ set_of v.setup.nodes (is_omitted (carried (world_of start v) (history v) i r) (λ k. is_some (message (world_of start v) (history v) q k i)) (λ k. is_some (sent (world_of start v) (history v) k i r))))
 
-shows_suc : (start : ℕ → ℕ) (v : Log) (i q h s o : ℕ) → IsPlan (world_of start v) → IsFaithful start v → i < v.setup.nodes → suc q < round_of v i → Sorted (λ j. mark_of (world_of start v) (history v) j i q) (start (suc q)) (start (suc q + 1)) v.setup.nodes h s o → Shows start v i q (suc q) h s o
+shows_suc : (start : ℕ → ℕ) (v : Log) (i q h s o : ℕ) → IsPlan (world_of start v) → IsFaithful start v → i < v.setup.nodes → suc q < round_of v i → Sorted (λ j. mark_of (world_of start v) (history v) j i q) (start (earliest (suc q))) (start (suc q + 1)) v.setup.nodes h s o → Shows start v i q (suc q) h s o
 shows_suc start v i q h s o plan faithful node closed b =
     let heard = λ (j : ℕ). heard_here i q plan faithful node closed j in
     let quiet = λ (j : ℕ). quiet_is (world_of start v) (history v) j i q in
@@ -186,13 +186,13 @@ shows_suc start v i q h s o plan faithful node closed b =
     )
 
 -- the senders parted by their marks are the three sets of a closed round
-pub shows : (start receives : ℕ → ℕ) (nodes : ℕ) (v : Log) (i r : ℕ) (u : Setup) (k h s o : ℕ) → PlanLaws nodes receives start → nodes ≡ v.setup.nodes → IsFaithful start v → i < v.setup.nodes → 0 < r → r < round_of v i → u ≡ v.setup → u.nodes ≤ k → k ≤ u.nodes → (k ≤ 64 → Sorted (λ j. mark_of (world_of start v) (history v) j i (r - 1)) (start r) (start (r + 1)) k h s o) → Shows start v i (r - 1) r h s o
+pub shows : (start receives : ℕ → ℕ) (nodes : ℕ) (v : Log) (i r : ℕ) (u : Setup) (k h s o : ℕ) → PlanLaws nodes receives start → nodes ≡ v.setup.nodes → IsFaithful start v → i < v.setup.nodes → 0 < r → r < round_of v i → u ≡ v.setup → u.nodes ≤ k → k ≤ u.nodes → (k ≤ 64 → Sorted (λ j. mark_of (world_of start v) (history v) j i (r - 1)) (start (earliest r)) (start (r + 1)) k h s o) → Shows start v i (r - 1) r h s o
 shows start receives nodes v i r u k h s o laws n faithful node first closed setup low high made =
     let same : u.nodes ≡ v.setup.nodes = ap (λ (x : Setup). x.nodes) setup in
     let all : k ≡ v.setup.nodes = omega arith in
     let few = laws.few_nodes in
-    let b = subst (λ x. Sorted (λ j. mark_of (world_of start v) (history v) j i (r - 1)) (start r) (start (r + 1)) x h s o) all (made (omega arith)) in
+    let b = subst (λ x. Sorted (λ j. mark_of (world_of start v) (history v) j i (r - 1)) (start (earliest r)) (start (r + 1)) x h s o) all (made (omega arith)) in
     let e : r ≡ suc (r - 1) = omega arith in
-    let again = subst (λ x. Sorted (λ j. mark_of (world_of start v) (history v) j i (r - 1)) (start x) (start (x + 1)) v.setup.nodes h s o) e b in
+    let again = subst (λ x. Sorted (λ j. mark_of (world_of start v) (history v) j i (r - 1)) (start (earliest x)) (start (x + 1)) v.setup.nodes h s o) e b in
     subst (λ x. Shows start v i (r - 1) x h s o) (sym e)
     (shows_suc start v i (r - 1) h s o (plan_is start receives nodes v laws n) faithful node (omega arith) again)

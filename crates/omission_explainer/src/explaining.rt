@@ -18,7 +18,7 @@ use round_meaning::{NodeSet, decision_of};
 use slot_plans::Plan;
 use std::alloc::Global;
 use std::sync::Arc;
-use step_journal::{Book, Journal, Mark};
+use step_journal::{Book, Journal, Mark, earliest};
 use step_machine::Name;
 
 /// The report of a journal: its closed rounds, as rounds with omissions.
@@ -110,7 +110,8 @@ enum Outcome {
     Omitted,
 }
 
-/// A message is carried where its release came while its receiver was in its round.
+/// A message is carried where its release came while its receiver was in one of the rounds in which
+/// it's kept.
 fn outcome_of(mark: Mark, first: u64, end: u64) -> Outcome
     ensures heard { result ≡ Outcome.Heard ↔ is_within mark first end ≡ true }
     ensures silent { result ≡ Outcome.Silent ↔ mark ≡ Mark.Silent }
@@ -141,7 +142,7 @@ fn outcomes_of<P: Plan>(book: &Book<P>, node: u32, round: u32) -> Outcomes
     ensures omitted { result.omitted.bits ≡ omitted_in (P.start book.now.plan) book.now.log round node }
 {
     book.agrees();
-    let first = u64::from(book.plan().start(round));
+    let first = u64::from(book.plan().start(earliest(round)));
     let end = u64::from(book.plan().start(round + 1));
     let mut heard = NodeSet::empty();
     let mut silent = NodeSet::empty();

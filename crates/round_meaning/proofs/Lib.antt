@@ -2,6 +2,7 @@ pub mod Lists
 pub mod LookUps
 pub mod Decisions
 pub mod RoundLaws
+pub mod Inboxes
 pub mod OmissionLaws
 pub mod Rows
 pub mod Sound

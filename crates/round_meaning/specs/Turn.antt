@@ -1,5 +1,5 @@
 -- What a node sends in a round, and the state that the round ends with.
-use Rattle.std.specs.Prelude.{ℕ, ◌+◌, ◌-◌, ◌/◌, ◌%◌, List, [], ◌∷◌, map, Option, Some, None, if◌then◌else◌, position, slice_set, slice_get}
+use Rattle.std.specs.Prelude.{ℕ, ⊤, ◌+◌, ◌-◌, ◌≤◌, ◌/◌, ◌%◌, List, [], ◌∷◌, map, Option, Some, None, if◌then◌else◌, position, slice_set, slice_get}
 use Rattle.std.specs.Str.{bytes_eq}
 use Rattle.round_lang.specs.declared.block.Assignment.{Assignment}
 use Rattle.round_lang.specs.declared.block.Field.{Field}
@@ -68,6 +68,15 @@ abbrev pub sent : Option BlockTree → Env → Option (List Value)
 sent None env = None
 sent (Some b) env =
     if flag (value b.condition env) then Some (map (λ (e : Tree). value e env) b.sent) else None
+
+-- the senders rise, from one on
+abbrev pub RiseFrom : ℕ → List Received → Type 0
+RiseFrom low [] = ⊤
+RiseFrom low (m ∷ ms) = (low ≤ m.from) × RiseFrom (m.from + 1) ms
+
+-- an inbox has one message of a sender at most, and is in rising order of sender
+abbrev pub IsInbox : List Received → Type 0
+IsInbox ms = RiseFrom 0 ms
 
 -- `on message` once for each entry of the inbox, in its order
 abbrev pub folded : BlockTree → Env → List Received → List Value → List Value

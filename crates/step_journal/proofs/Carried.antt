@@ -3,7 +3,7 @@ use Rattle.std.proofs.Common.{◌≡◌, ℕ, ◌+◌, ◌-◌, ◌==◌, ◌<�
 use Rattle.std.proofs.lemmas.Bool.{cases_Bool, and_left, and_right, and_from, and_parts, lt-ltb, cases_lt, eq-eqb, ne_eqb}
 use Rattle.step_machine.specs.declared.event.Event.{Event}
 use Rattle.step_machine.specs.declared.event.Event.TheVariants.{Step, Release}
-use Rattle.step_journal.specs.World.{World, IsPlan, lies_in, is_receive}
+use Rattle.step_journal.specs.World.{World, IsPlan, earliest, lies_near, is_receive}
 use Rattle.step_journal.specs.Trace.{is_step, is_release, steps, or_else, first, is_later, from_moment, sent, released, lies_at, carried}
 use Rattle.step_journal.proofs.Plans.{last_is_receive, lies_before, lies_after, lies_within, late_round}
 use Rattle.step_journal.proofs.Places.{steps_at, steps_other, steps_grow, first_kept, first_new, first_skip, first_found, first_later_none, first_later_skip, Found, Here, Past, found_longer}
@@ -153,8 +153,9 @@ take_low w i b m test (e ∷ t) (Past e' t' f) h =
 
 -- ---- what is carried
 
--- the round, by where the receiver stood at the release: before the round, in it, or after it
-carried_early : (w : World) (i r : ℕ) (t b : List Event) (o : Option (List Event)) (x : ℕ) → x < w.start r → Outcome w i b x t → first (takes w i b) t ≡ o → lies_at w i r o ≡ false
+-- what is carried, by where the receiver stood at the release: before the rounds in which the
+-- message is kept, in them, or after them
+carried_early : (w : World) (i r : ℕ) (t b : List Event) (o : Option (List Event)) (x : ℕ) → x < w.start (earliest r) → Outcome w i b x t → first (takes w i b) t ≡ o → lies_at w i r o ≡ false
 carried_early w i r t b None x l c h = refl
 carried_early w i r t b (Some m) x l (Waits t' f low high) h = cc
 carried_early w i r t b (Some m) x l (Was t' m' f low high) h =
@@ -166,7 +167,7 @@ carried_late : (w : World) (i r : ℕ) (t b : List Event) (o : Option (List Even
 carried_late w i r t b None l h = refl
 carried_late w i r t b (Some m) l h = lies_after w r (steps i m) (let k = h m refl in omega arith)
 
-carried_here : (w : World) (i r : ℕ) (t b : List Event) (o : Option (List Event)) (x : ℕ) → w.start r ≤ steps i b → x < w.start (r + 1) → x < steps i t → Outcome w i b x t → first (takes w i b) t ≡ o → lies_at w i r o ≡ true
+carried_here : (w : World) (i r : ℕ) (t b : List Event) (o : Option (List Event)) (x : ℕ) → w.start (earliest r) ≤ steps i b → x < w.start (r + 1) → x < steps i t → Outcome w i b x t → first (takes w i b) t ≡ o → lies_at w i r o ≡ true
 carried_here w i r t b o x l k n (Waits t' f low high) h = absurd (omega arith)
 carried_here w i r t b None x l k n (Was t' m f low high) h = cc
 carried_here w i r t b (Some m') x l k n (Was t' m f low high) h =
@@ -174,13 +175,14 @@ carried_here w i r t b (Some m') x l k n (Was t' m f low high) h =
     let at = ap (steps i) same in
     lies_within w r (steps i m') (omega arith) (omega arith)
 
-carried_at : (w : World) → IsPlan w → (i r : ℕ) (t b : List Event) → 0 < r → r ≤ w.rounds → w.start (r + 1) ≤ steps i t → IsRelease i t b → (steps i b < w.start r) ⊎ (w.start r ≤ steps i b) → (steps i b < w.start (r + 1)) ⊎ (w.start (r + 1) ≤ steps i b) → lies_at w i r (first (takes w i b) t) ≡ lies_in w r (steps i b)
+carried_at : (w : World) → IsPlan w → (i r : ℕ) (t b : List Event) → 0 < r → r ≤ w.rounds → w.start (r + 1) ≤ steps i t → IsRelease i t b → (steps i b < w.start (earliest r)) ⊎ (w.start (earliest r) ≤ steps i b) → (steps i b < w.start (r + 1)) ⊎ (w.start (r + 1) ≤ steps i b) → lies_at w i r (first (takes w i b) t) ≡ lies_near w r (steps i b)
 carried_at w p i r t b z l n (By test q f) (inl early) d =
-    let two : 1 < r = late_round w p r (omega arith) z in
-    let e : (r - 1) + 1 ≡ r = omega arith in
+    let s = earliest r in
+    let two : 1 < s = late_round w p s (omega arith) (omega arith) in
+    let e : (s - 1) + 1 ≡ s = omega arith in
     let again = ap w.start e in
-    let x : is_receive w (w.start r - 1) ≡ true = last_is_receive w p (r - 1) (w.start r - 1) (omega arith) (omega arith) (omega arith) in
-    carried_early w i r t b (first (takes w i b) t) (w.start r - 1) (omega arith) (outcome w i b (w.start r - 1) test x (omega arith) q t f) refl
+    let x : is_receive w (w.start s - 1) ≡ true = last_is_receive w p (s - 1) (w.start s - 1) (omega arith) (omega arith) (omega arith) in
+    carried_early w i r t b (first (takes w i b) t) (w.start s - 1) (omega arith) (outcome w i b (w.start s - 1) test x (omega arith) q t f) refl
     ∙ sym (lies_before w r (steps i b) early)
 carried_at w p i r t b z l n (By test q f) (inr low) (inl high) =
     let x : is_receive w (w.start (r + 1) - 1) ≡ true = last_is_receive w p r (w.start (r + 1) - 1) z l (omega arith) in
@@ -194,7 +196,8 @@ carried_from : (w : World) → IsPlan w → (i r j : ℕ) (t : List Event) (o : 
 carried_from w p i r j t None z l n h = refl
 carried_from w p i r j t (Some b) z l n h = carried_at w p i r t b z l n (is_release_moment w j i r t b h) (cases_lt _ _) (cases_lt _ _)
 
--- once i's round r is past, a message is carried where it was released while i was in round r
+-- once i's round r is past, a message is carried where it was released while i was in one of the
+-- rounds in which it's kept
 pub carried_is : (w : World) → IsPlan w → (i r j : ℕ) (t : List Event) → 0 < r → r ≤ w.rounds → w.start (r + 1) ≤ steps i t → carried w t i r j ≡ lies_at w i r (released w t j i r)
 unfolding carried
 carried_is w p i r j t z l n = carried_from w p i r j t (released w t j i r) z l n refl

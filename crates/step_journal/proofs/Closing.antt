@@ -4,11 +4,12 @@ use Rattle.std.specs.Prelude.{option_map, Result, Ok, Err, OnErr, IfErr, IsErrAn
 use Rattle.std.specs.Option.{ForSome}
 use Rattle.round_lang.specs.declared.value.Value.{Value}
 use Rattle.round_meaning.specs.Rounds.{Algorithm, algorithm_of}
-use Rattle.step_machine.specs.Frames.{Frame}
-use Rattle.step_machine.specs.Nodes.{NodeView, IsHeld, IsFrom, algorithm_in, held_at, inbox_of}
+use Rattle.step_machine.specs.Frames.{Frame, held_at}
+use Rattle.step_machine.specs.Nodes.{NodeView, IsHeld, IsFrom, algorithm_in, held_now, inbox_of}
 use Rattle.step_machine.specs.declared.event.Name.{Name}
 use Rattle.step_journal.specs.declared.mark.Mark.{Mark}
 use Rattle.step_journal.specs.Trace.{steps}
+use Rattle.step_journal.specs.World.{earliest}
 use Rattle.step_journal.specs.History.{state, mark_of}
 use Rattle.step_journal.specs.Agreement.{Row, row}
 use Rattle.step_journal.specs.Log.{Log, Recorded, Holds, IsDue, closed, ended, world_of, history, round_of, mark_in, state_before}
@@ -49,7 +50,7 @@ rows_closed {P} {s} n k rows e a h =
 abbrev pub IsMet : (ℕ → ℕ) → Log → ℕ → ℕ → List Value → List (Option Frame) → Type 0
 IsMet start v r k old held = (state_before v k r ≡ old) × AreCarried (world_of start v) (history v) k (r - 1) held
 
-met_to : (start : ℕ → ℕ) (v : Log) (n : NodeView) (r k : ℕ) (old : List Value) (held : List (Option Frame)) → r ≡ n.round → k ≡ n.me → old ≡ n.state → held ≡ n.held → IsMet start v r k old held → IsKnown start v n
+met_to : (start : ℕ → ℕ) (v : Log) (n : NodeView) (r k : ℕ) (old : List Value) (held : List (Option Frame)) → r ≡ n.round → k ≡ n.me → old ≡ n.state → held ≡ held_now n → IsMet start v r k old held → IsKnown start v n
 met_to start v n r k old held a b d e h =
     let P : ℕ → Type 0 = λ x. IsMet start v x k old held in
     let Q : ℕ → Type 0 = λ x. IsMet start v n.round x old held in
@@ -57,7 +58,7 @@ met_to start v n r k old held a b d e h =
     let S : List (Option Frame) → Type 0 = λ x. IsMet start v n.round n.me n.state x in
     subst S e (subst R d (subst Q b (subst P a h)))
 
-met_from : (start : ℕ → ℕ) (v : Log) (n : NodeView) (r k : ℕ) (old : List Value) (held : List (Option Frame)) → r ≡ n.round → k ≡ n.me → old ≡ n.state → held ≡ n.held → IsKnown start v n → IsMet start v r k old held
+met_from : (start : ℕ → ℕ) (v : Log) (n : NodeView) (r k : ℕ) (old : List Value) (held : List (Option Frame)) → r ≡ n.round → k ≡ n.me → old ≡ n.state → held ≡ held_now n → IsKnown start v n → IsMet start v r k old held
 met_from start v n r k old held a b d e h =
     let P : ℕ → Type 0 = λ x. IsMet start v x k old held in
     let Q : ℕ → Type 0 = λ x. IsMet start v n.round x old held in
@@ -71,7 +72,7 @@ due_in start v n k r due a is on b d =
     let P : ℕ → Type 0 = λ x. IsDue start v x in
     (subst P a (is on), ap (round_of v) (sym a) ∙ sym b ∙ sym d)
 
-pub known_in : (start : ℕ → ℕ) (v : Log) (n : NodeView) (k : ℕ) (old : List Value) (held : List (Option Frame)) (known : Bool) → IsDueIn start v n → k ≡ n.me → old ≡ n.state → held ≡ n.held → (known ≡ true → IsMet start v (round_of v k) k old held) × (IsMet start v (round_of v k) k old held → known ≡ true) → (known ≡ true → IsKnown start v n) × (IsKnown start v n → known ≡ true)
+pub known_in : (start : ℕ → ℕ) (v : Log) (n : NodeView) (k : ℕ) (old : List Value) (held : List (Option Frame)) (known : Bool) → IsDueIn start v n → k ≡ n.me → old ≡ n.state → held ≡ held_now n → (known ≡ true → IsMet start v (round_of v k) k old held) × (IsMet start v (round_of v k) k old held → known ≡ true) → (known ≡ true → IsKnown start v n) × (IsKnown start v n → known ≡ true)
 known_in start v n k old held known due a b d is =
     let round : round_of v k ≡ n.round = ap (round_of v) a ∙ due.1 in (
       λ e. met_to start v n (round_of v k) k old held round a b d (is.0 e),
@@ -108,7 +109,7 @@ module _ {start : ℕ → ℕ} {nodes : ℕ} {v : Log} {counts : List ℕ} {mark
   }
 
   -- what was carried to a due round, by the marks
-  pub heard_read : (i j : ℕ) → i < v.setup.nodes → j < v.setup.nodes → IsDue start v i → heard_from (world_of start v) (history v) i (round_of v i - 1) j ≡ (if is_within (mark_in start v (record { from = j; to = i; round = round_of v i })) (start (round_of v i)) (start (round_of v i + 1)) then Some (record { name = record { from = j; to = i; round = round_of v i }; state = state_before v j (round_of v i) }) else None)
+  pub heard_read : (i j : ℕ) → i < v.setup.nodes → j < v.setup.nodes → IsDue start v i → heard_from (world_of start v) (history v) i (round_of v i - 1) j ≡ (if is_within (mark_in start v (record { from = j; to = i; round = round_of v i })) (start (earliest (round_of v i))) (start (round_of v i + 1)) then Some (record { name = record { from = j; to = i; round = round_of v i }; state = state_before v j (round_of v i) }) else None)
   heard_read i j l m due =
       let w = world_of start v in
       let t = history v in
@@ -116,48 +117,48 @@ module _ {start : ℕ → ℕ} {nodes : ℕ} {v : Log} {counts : List ℕ} {mark
       let within = due.0 in
       let q = round_of v i - 1 in
       let r : suc q ≡ round_of v i = omega arith in
-      let first = ap start r in
+      let first = ap (λ x. start (earliest x)) r in
       let end : start (suc q + 1) ≡ start (round_of v i + 1) = ap (λ x. start (x + 1)) r in
       let late : start (suc q + 1) ≤ steps i t = let d = due.1 in omega arith in
-      let same : is_within (mark_of w t j i q) (start (suc q)) (start (suc q + 1)) ≡ is_within (mark_of w t j i q) (start (round_of v i)) (start (round_of v i + 1)) =
-      ap (λ x. is_within (mark_of w t j i q) x (start (suc q + 1))) first ∙ ap (is_within (mark_of w t j i q) (start (round_of v i))) end in
-      let known : is_within (mark_of w t j i q) (start (round_of v i)) (start (round_of v i + 1)) ≡ true → ◌≡◌ {A = Tag} (tagged j i q (state w t q j)) (record { name = record { from = j; to = i; round = round_of v i }; state = state_before v j (round_of v i) }) =
+      let same : is_within (mark_of w t j i q) (start (earliest (suc q))) (start (suc q + 1)) ≡ is_within (mark_of w t j i q) (start (earliest (round_of v i))) (start (round_of v i + 1)) =
+      ap (λ x. is_within (mark_of w t j i q) x (start (suc q + 1))) first ∙ ap (is_within (mark_of w t j i q) (start (earliest (round_of v i)))) end in
+      let known : is_within (mark_of w t j i q) (start (earliest (round_of v i))) (start (round_of v i + 1)) ≡ true → ◌≡◌ {A = Tag} (tagged j i q (state w t q j)) (record { name = record { from = j; to = i; round = round_of v i }; state = state_before v j (round_of v i) }) =
       λ c.
-      let closed = sender_closed w h.plan t counts v.rows marks j i q (start (round_of v i)) (start (round_of v i + 1)) (one_of start v j m) (omega arith) c h.book in
+      let closed = sender_closed w h.plan t counts v.rows marks j i q (start (earliest (round_of v i))) (start (round_of v i + 1)) (one_of start v j m) (omega arith) c h.book in
       ap (λ x. record { name = record { from = j; to = i; round = x }; state = state w t q j }) r
       ∙ ap (λ x. record { name = record { from = j; to = i; round = round_of v i }; state = x }) (sym (h.book.stated j q (one_of start v j m) closed)) in
       heard_is w h.plan t i q j (omega arith) late
       ∙ ap (λ (c : Bool). if c then Some (tagged j i q (state w t q j)) else None) same
-      ∙ if_some (is_within (mark_of w t j i q) (start (round_of v i)) (start (round_of v i + 1))) known
+      ∙ if_some (is_within (mark_of w t j i q) (start (earliest (round_of v i))) (start (round_of v i + 1))) known
 
   -- the same by what the calls answer
-  pub heard_by : (i j r : ℕ) (m : Mark) (first end : ℕ) (b : Bool) → i < v.setup.nodes → j < v.setup.nodes → IsDue start v i → r ≡ round_of v i → m ≡ mark_in start v (record { from = j; to = i; round = r }) → first ≡ start r → end ≡ start (r + 1) → is_within m first end ≡ b → heard_from (world_of start v) (history v) i (round_of v i - 1) j ≡ (if b then Some (record { name = record { from = j; to = i; round = r }; state = state_before v j r }) else None)
+  pub heard_by : (i j r : ℕ) (m : Mark) (first end : ℕ) (b : Bool) → i < v.setup.nodes → j < v.setup.nodes → IsDue start v i → r ≡ round_of v i → m ≡ mark_in start v (record { from = j; to = i; round = r }) → first ≡ start (earliest r) → end ≡ start (r + 1) → is_within m first end ≡ b → heard_from (world_of start v) (history v) i (round_of v i - 1) j ≡ (if b then Some (record { name = record { from = j; to = i; round = r }; state = state_before v j r }) else None)
   heard_by i j r m first end b l k due e a x y is =
       let mark = mark_in start v (record { from = j; to = i; round = r }) in
-      let here : is_within mark (start r) (start (r + 1)) ≡ b =
-      ap (λ z. is_within z (start r) (start (r + 1))) (sym a) ∙ ap (λ z. is_within m z (start (r + 1))) (sym x) ∙ ap (is_within m first) (sym y) ∙ is in
+      let here : is_within mark (start (earliest r)) (start (r + 1)) ≡ b =
+      ap (λ z. is_within z (start (earliest r)) (start (r + 1))) (sym a) ∙ ap (λ z. is_within m z (start (r + 1))) (sym x) ∙ ap (is_within m first) (sym y) ∙ is in
       heard_read i j l k due
-      ∙ ap (λ (z : ℕ). if is_within (mark_in start v (record { from = j; to = i; round = z })) (start z) (start (z + 1)) then Some (record { name = record { from = j; to = i; round = z }; state = state_before v j z }) else None) (sym e)
+      ∙ ap (λ (z : ℕ). if is_within (mark_in start v (record { from = j; to = i; round = z })) (start (earliest z)) (start (z + 1)) then Some (record { name = record { from = j; to = i; round = z }; state = state_before v j z }) else None) (sym e)
       ∙ ap (λ (c : Bool). if c then Some (record { name = record { from = j; to = i; round = r }; state = state_before v j r }) else None) here
 
   -- the sender of what was carried to a due round has closed the round before
-  pub sender_in : (i j : ℕ) → i < v.setup.nodes → j < v.setup.nodes → IsDue start v i → is_within (mark_in start v (record { from = j; to = i; round = round_of v i })) (start (round_of v i)) (start (round_of v i + 1)) ≡ true → round_of v i - 1 < round_of v j
+  pub sender_in : (i j : ℕ) → i < v.setup.nodes → j < v.setup.nodes → IsDue start v i → is_within (mark_in start v (record { from = j; to = i; round = round_of v i })) (start (earliest (round_of v i))) (start (round_of v i + 1)) ≡ true → round_of v i - 1 < round_of v j
   sender_in i j l m due c =
       let low = h.book.began i (one_of start v i l) in
       let within = due.0 in
-      sender_closed (world_of start v) h.plan (history v) counts v.rows marks j i (round_of v i - 1) (start (round_of v i)) (start (round_of v i + 1)) (one_of start v j m) (omega arith) c h.book
+      sender_closed (world_of start v) h.plan (history v) counts v.rows marks j i (round_of v i - 1) (start (earliest (round_of v i))) (start (round_of v i + 1)) (one_of start v j m) (omega arith) c h.book
 
   -- the row of the sender of what was carried is long enough
-  pub sender_by : (i j r : ℕ) (m : Mark) (first end : ℕ) → i < v.setup.nodes → j < v.setup.nodes → IsDue start v i → r ≡ round_of v i → m ≡ mark_in start v (record { from = j; to = i; round = r }) → first ≡ start r → end ≡ start (r + 1) → is_within m first end ≡ true → r - 1 < round_of v j
+  pub sender_by : (i j r : ℕ) (m : Mark) (first end : ℕ) → i < v.setup.nodes → j < v.setup.nodes → IsDue start v i → r ≡ round_of v i → m ≡ mark_in start v (record { from = j; to = i; round = r }) → first ≡ start (earliest r) → end ≡ start (r + 1) → is_within m first end ≡ true → r - 1 < round_of v j
   sender_by i j r m first end l k due e a x y is =
-      let here : is_within (mark_in start v (record { from = j; to = i; round = r })) (start r) (start (r + 1)) ≡ true =
-      ap (λ z. is_within z (start r) (start (r + 1))) (sym a) ∙ ap (λ z. is_within m z (start (r + 1))) (sym x) ∙ ap (is_within m first) (sym y) ∙ is in
-      let P : ℕ → Type 0 = λ z. is_within (mark_in start v (record { from = j; to = i; round = z })) (start z) (start (z + 1)) ≡ true in
+      let here : is_within (mark_in start v (record { from = j; to = i; round = r })) (start (earliest r)) (start (r + 1)) ≡ true =
+      ap (λ z. is_within z (start (earliest r)) (start (r + 1))) (sym a) ∙ ap (λ z. is_within m z (start (r + 1))) (sym x) ∙ ap (is_within m first) (sym y) ∙ is in
+      let P : ℕ → Type 0 = λ z. is_within (mark_in start v (record { from = j; to = i; round = z })) (start (earliest z)) (start (z + 1)) ≡ true in
       let long = sender_in i j l k due (subst P e here) in
       omega arith
 
   -- what a node of the run finished from its recorded state with what was carried to it is the state of the run in rounds
-  ended_is : (n : NodeView) → n.me < v.setup.nodes → n.program ≡ v.program → n.setup ≡ v.setup → length n.held ≡ n.setup.nodes → IsHeld (algorithm_in n) n.setup.nodes n.me n.round n.held → IsDueIn start v n → IsKnown start v n → ended n ≡ state (world_of start v) (history v) (round_of v n.me) n.me
+  ended_is : (n : NodeView) → n.me < v.setup.nodes → n.program ≡ v.program → n.setup ≡ v.setup → length (held_now n) ≡ n.setup.nodes → IsHeld (algorithm_in n) n.setup.nodes n.me n.round (held_now n) → IsDueIn start v n → IsKnown start v n → ended n ≡ state (world_of start v) (history v) (round_of v n.me) n.me
   ended_is n l p s size held due known =
       let w = world_of start v in
       let t = history v in
@@ -169,15 +170,15 @@ module _ {start : ℕ → ℕ} {nodes : ℕ} {v : Log} {counts : List ℕ} {mark
       let setup_nodes : n.setup.nodes ≡ v.setup.nodes = ap (λ x. x.nodes) s in
       let m = nodes_are start v in
       let own : n.state ≡ state w t q n.me = sym known.0 ∙ h.book.stated n.me q (one_of start v n.me l) (omega arith) in
-      let P : Algorithm → Type 0 = λ a. (j : ℕ) → j < n.setup.nodes → ForSome (held_at n.held j) (IsFrom a j n.me n.round) in
-      let Q : ℕ → Type 0 = λ x. (j : ℕ) → j < n.setup.nodes → ForSome (held_at n.held j) (IsFrom w.algorithm j n.me x) in
+      let P : Algorithm → Type 0 = λ a. (j : ℕ) → j < n.setup.nodes → ForSome (held_at (held_now n) j) (IsFrom a j n.me n.round) in
+      let Q : ℕ → Type 0 = λ x. (j : ℕ) → j < n.setup.nodes → ForSome (held_at (held_now n) j) (IsFrom w.algorithm j n.me x) in
       let from = subst Q r (subst P same held.each) in
-      let end : ended n ≡ w.algorithm.end (suc q) n.me (inbox_of n.held) n.state =
-      ap (λ a. a.end n.round n.me (inbox_of n.held) n.state) same ∙ ap (λ x. w.algorithm.end x n.me (inbox_of n.held) n.state) r in
-      ends_with w t n.me q n.state (ended n) n.held own (size ∙ setup_nodes ∙ sym m) known.1 (λ j b. from j (omega arith)) end
+      let end : ended n ≡ w.algorithm.end (suc q) n.me (inbox_of (held_now n)) n.state =
+      ap (λ a. a.end n.round n.me (inbox_of (held_now n)) n.state) same ∙ ap (λ x. w.algorithm.end x n.me (inbox_of (held_now n)) n.state) r in
+      ends_with w t n.me q n.state (ended n) (held_now n) own (size ∙ setup_nodes ∙ sym m) known.1 (λ j b. from j (omega arith)) end
       ∙ ap (λ x. state w t x n.me) (sym r ∙ sym round_is)
 
-  pub close : (n : NodeView) (rows : List Row) → n.me < v.setup.nodes → n.program ≡ v.program → n.setup ≡ v.setup → length n.held ≡ n.setup.nodes → IsHeld (algorithm_in n) n.setup.nodes n.me n.round n.held → IsDueIn start v n → IsKnown start v n → rows ≡ (closed v n).rows → Holds start nodes (record v { rows = rows }) counts marks waiting handed answers
+  pub close : (n : NodeView) (rows : List Row) → n.me < v.setup.nodes → n.program ≡ v.program → n.setup ≡ v.setup → length (held_now n) ≡ n.setup.nodes → IsHeld (algorithm_in n) n.setup.nodes n.me n.round (held_now n) → IsDueIn start v n → IsKnown start v n → rows ≡ (closed v n).rows → Holds start nodes (record v { rows = rows }) counts marks waiting handed answers
   close n rows l p s size held due known e = record {
     lawful = h.lawful;
     sized = h.sized;

@@ -8,11 +8,11 @@ use Rattle.round_lang.specs.declared.value.Value.{Value}
 use Rattle.round_meaning.specs.declared.received.Received.{Received}
 use Rattle.round_meaning.specs.Rounds.{rounds, inbox, received}
 use Rattle.step_machine.specs.declared.event.Event.{Event}
-use Rattle.step_machine.specs.Frames.{Frame}
-use Rattle.step_machine.specs.Nodes.{held_at, inbox_of, IsFrom}
+use Rattle.step_machine.specs.Frames.{Frame, held_at}
+use Rattle.step_machine.specs.Nodes.{inbox_of, IsFrom}
 use Rattle.step_journal.specs.declared.mark.Mark.{Mark}
 use Rattle.step_journal.specs.declared.mark.Mark.TheVariants.{Unsent}
-use Rattle.step_journal.specs.World.{World, nodes_of, IsPlan, lies_in}
+use Rattle.step_journal.specs.World.{World, nodes_of, IsPlan, earliest, lies_near}
 use Rattle.step_journal.specs.Trace.{steps, sent, released, lies_at, carried, first}
 use Rattle.step_journal.specs.History.{message, state, mark_by, mark_of}
 use Rattle.step_journal.specs.Agreement.{Row, row, Agrees}
@@ -29,10 +29,10 @@ either false x = refl
 abbrev pub tagged : ℕ → ℕ → ℕ → List Value → Tag
 tagged j i q s = record { name = record { from = j; to = i; round = suc q }; state = s }
 
-heard_pure : (w : World) (j i q : ℕ) (s : List Value) (a : Option (List Event)) (m : Option (List Value)) (b : Option (List Event)) → (a ≡ None → b ≡ None) → ◌≡◌ {A = Option Tag} (if lies_at w i (suc q) b then tag_by m (record { from = j; to = i; round = suc q }) s else None) (if is_within (mark_by i a m b) (w.start (suc q)) (w.start (suc q + 1)) then Some (tagged j i q s) else None)
+heard_pure : (w : World) (j i q : ℕ) (s : List Value) (a : Option (List Event)) (m : Option (List Value)) (b : Option (List Event)) → (a ≡ None → b ≡ None) → ◌≡◌ {A = Option Tag} (if lies_at w i (suc q) b then tag_by m (record { from = j; to = i; round = suc q }) s else None) (if is_within (mark_by i a m b) (w.start (earliest (suc q))) (w.start (suc q + 1)) then Some (tagged j i q s) else None)
 heard_pure w j i q s None m b h = rw (h refl) refl
 heard_pure w j i q s (Some a) None None h = refl
-heard_pure w j i q s (Some a) None (Some b) h = either (lies_in w (suc q) (steps i b)) None
+heard_pure w j i q s (Some a) None (Some b) h = either (lies_near w (suc q) (steps i b)) None
 heard_pure w j i q s (Some a) (Some m) None h = refl
 heard_pure w j i q s (Some a) (Some m) (Some b) h = refl
 
@@ -40,7 +40,7 @@ unsent_unreleased : (w : World) (t : List Event) (j i r : ℕ) → sent w t j i 
 unsent_unreleased w t j i r h = rw h refl
 
 -- once the round is past, what was carried to it is answers by the mark
-pub heard_is : (w : World) → IsPlan w → (t : List Event) (i q j : ℕ) → suc q ≤ w.rounds → w.start (suc q + 1) ≤ steps i t → heard_from w t i q j ≡ (if is_within (mark_of w t j i q) (w.start (suc q)) (w.start (suc q + 1)) then Some (tagged j i q (state w t q j)) else None)
+pub heard_is : (w : World) → IsPlan w → (t : List Event) (i q j : ℕ) → suc q ≤ w.rounds → w.start (suc q + 1) ≤ steps i t → heard_from w t i q j ≡ (if is_within (mark_of w t j i q) (w.start (earliest (suc q))) (w.start (suc q + 1)) then Some (tagged j i q (state w t q j)) else None)
 unfolding mark_of
 heard_is w p t i q j l n =
     ap (λ c. if c then tag_by (message w t q j i) (record { from = j; to = i; round = suc q }) (state w t q j) else None) (carried_is w p i (suc q) j t (omega arith) l n)

@@ -9,19 +9,19 @@ use Rattle.std.proofs.lemmas.Option.{same_Some}
 use Rattle.round_lang.specs.declared.value.Value.{Value}
 use Rattle.step_machine.specs.declared.event.Event.{Event}
 use Rattle.step_machine.specs.declared.event.Event.TheVariants.{Step}
-use Rattle.step_machine.specs.Frames.{Frame}
-use Rattle.step_machine.specs.Nodes.{NodeView, held_at}
+use Rattle.step_machine.specs.Frames.{Frame, held_at}
+use Rattle.step_machine.specs.Nodes.{NodeView, ahead, held_of}
 use Rattle.step_journal.specs.Agreement.{IsBuffer, is_named}
 use Rattle.step_journal.specs.History.{is_buffered, message, state}
 use Rattle.step_journal.specs.Stock.{names_in}
 use Rattle.step_journal.specs.Taking.{HasTaken, frame_from, held_or}
 use Rattle.step_journal.specs.Trace.{carried, first, from_moment, is_step, lies_at, released, sent, steps, taken}
 use Rattle.step_journal.specs.Work.{AreCarried, Tag, heard_from, tag_by, tag_of}
-use Rattle.step_journal.specs.World.{IsPlan, World, is_receive, lies_in, nodes_of}
+use Rattle.step_journal.specs.World.{IsPlan, World, earliest, is_receive, lies_near, nodes_of}
 use Rattle.step_journal.proofs.Carried.{Before, By, IsRelease, NotIt, NotYet, Now, Once, ReleasedBy, SentBy, TooEarly, carried_sent, is_release_moment, released_by, sent_by, takes}
 use Rattle.step_journal.proofs.Kept.{state_kept}
 use Rattle.step_journal.proofs.Places.{Found, Here, Past, first_found, first_kept, first_later_none, first_new, first_skip, found_longer, steps_at, steps_grow}
-use Rattle.step_journal.proofs.Plans.{lies_before}
+use Rattle.step_journal.proofs.Plans.{lies_before, lies_within, start_le, starts_early}
 
 -- the moment of the first receive after a release
 abbrev taken_by : World → ℕ → List Event → Option (List Event) → Option (List Event)
@@ -66,11 +66,11 @@ heard_same : (w : World) → IsPlan w → (e : Event) (t : List Event) (i q j : 
 heard_same w p e t i q j l same =
     tag_same (carried w t i (suc q) j) (carried w (e ∷ t) i (suc q) j) _ _ same (λ c. tag_kept w p e t i q j l (carried_sent w t i (suc q) j c))
 
--- what a node holds of its round is still what was carried
+-- what a node holds of a round is still what was carried
 pub held_on : (w : World) → IsPlan w → (e : Event) (t : List Event) (i q : ℕ) (held : List (Option Frame)) → suc q ≤ w.rounds → (is_step i e && is_receive w (steps i t)) ≡ false → AreCarried w t i q held → AreCarried w (e ∷ t) i q held
 held_on w p e t i q held l quiet h = λ j k. h j k ∙ sym (heard_same w p e t i q j l (carried_on w i (suc q) j e t quiet))
 
--- ---- a round that begins
+-- ---- a round of which a node begins to hold frames
 
 taken_before : (w : World) (i : ℕ) (b m t : List Event) → Found (takes w i b) m t → steps i m < steps i t
 taken_before w i b m [] f = elim f [ ]
@@ -80,19 +80,19 @@ taken_before w i b m (e ∷ t) (Here e' h) =
     omega arith
 taken_before w i b m (e ∷ t) (Past e' t' f) = let up = steps_grow i e t in omega (arith, taken_before w i b m t f)
 
-before_round : (w : World) (i r : ℕ) (t b : List Event) (o : Option (List Event)) → steps i t ≤ w.start r → first (takes w i b) t ≡ o → lies_at w i r o ≡ false
+before_round : (w : World) (i r : ℕ) (t b : List Event) (o : Option (List Event)) → steps i t ≤ w.start (earliest r) → first (takes w i b) t ≡ o → lies_at w i r o ≡ false
 before_round w i r t b None l h = refl
 before_round w i r t b (Some m) l h = lies_before w r (steps i m) (omega (arith, taken_before w i b m t (first_found (takes w i b) m t h)))
 
-taken_none : (w : World) (i r : ℕ) (t : List Event) (o : Option (List Event)) → steps i t ≤ w.start r → lies_at w i r (taken_by w i t o) ≡ false
+taken_none : (w : World) (i r : ℕ) (t : List Event) (o : Option (List Event)) → steps i t ≤ w.start (earliest r) → lies_at w i r (taken_by w i t o) ≡ false
 taken_none w i r t None l = refl
 taken_none w i r t (Some b) l = before_round w i r t b (first (takes w i b) t) l refl
 
 heard_off : (w : World) (t : List Event) (i q j : ℕ) → carried w t i (suc q) j ≡ false → heard_from w t i q j ≡ None
 heard_off w t i q j h = ap (λ c. if c then tag_in w i q j (state w t q j) else None) h
 
--- nothing is carried to a round before its first step
-pub held_begins : (w : World) (t : List Event) (i q : ℕ) (held : List (Option Frame)) → steps i t ≤ w.start (suc q) → ((j : ℕ) → j < nodes_of w → held_at held j ≡ None) → AreCarried w t i q held
+-- nothing is carried to a round before the first step at which its messages are kept
+pub held_begins : (w : World) (t : List Event) (i q : ℕ) (held : List (Option Frame)) → steps i t ≤ w.start (earliest (suc q)) → ((j : ℕ) → j < nodes_of w → held_at held j ≡ None) → AreCarried w t i q held
 held_begins w t i q held l none = λ j k.
     ap (option_map tag_of) (none j k) ∙ sym (heard_off w t i q j (carried_by w t i (suc q) j ∙ taken_none w i (suc q) t (released w t j i (suc q)) l))
 
@@ -129,7 +129,7 @@ is_waiting o m c b h k = ap (λ x. is_some x && is_some m && is_none c) h ∙ ap
 own_step : (i : ℕ) → is_step i (Step i) ≡ true
 own_step i = eq-eqb i i refl
 
-module _ (w : World) (t : List Event) (i q j : ℕ) (receives : is_receive w (steps i t) ≡ true) (within : lies_in w (suc q) (steps i t) ≡ true) where
+module _ (w : World) (t : List Event) (i q j : ℕ) (receives : is_receive w (steps i t) ≡ true) (within : lies_near w (suc q) (steps i t) ≡ true) where
   hears_released : (b : List Event) → released w t j i (suc q) ≡ Some b → released w (Step i ∷ t) j i (suc q) ≡ Some b → length b < length t → (o : Option (List Event)) → first (takes w i b) t ≡ o → Hears w t i q j
   hears_released b s s2 l (Some m) f =
       let was : taken w t j i (suc q) ≡ Some m = ap (taken_by w i t) s ∙ f in
@@ -281,8 +281,19 @@ module _ (w : World) (t : List Event) (i q j : ℕ) (fs : List Frame) (answers :
       ∙ sym (tag_kept w p (Step i) t i q j l sent)
       ∙ sym (ap (λ c. if c then tag_in w i q j (state w (Step i ∷ t) q j) else None) now)
 
--- what a node holds of its round after a receive is what was carried
-pub held_received : (w : World) → IsPlan w → (t : List Event) (i q : ℕ) (old new : NodeView) (fs : List Frame) → suc q ≤ w.rounds → is_receive w (steps i t) ≡ true → lies_in w (suc q) (steps i t) ≡ true → IsBuffer w t i (names_in fs) → All (IsTold w t i) fs → old.round ≡ suc q → HasTaken old new fs → AreCarried w t i q old.held → AreCarried w (Step i ∷ t) i q new.held
-held_received w p t i q old new fs l receives within once answers round took h = λ j k.
-    ap (option_map tag_of) (took.held j ∙ ap (λ r. held_or (held_at old.held j) (frame_from r j fs)) round)
-    ∙ heard_by w t i q j fs answers (once j q (omega arith)) p l (held_at old.held j) (h j k) (hears w t i q j receives within)
+-- a step of round r is one at which the messages of the rounds after it are kept, up to `ahead`
+near_step : (w : World) → IsPlan w → (r k x : ℕ) → 0 < r → k ≤ ahead → w.start r ≤ x → x < w.start (r + 1) → lies_near w (r + k) x ≡ true
+near_step w p r k x z l low high =
+    let begun = starts_early w p (r + k) r z (omega arith) in
+    let past : w.start (r + 1) ≤ w.start (r + k + 1) = start_le w p (r + 1) (r + k + 1) (omega arith) (omega arith) in
+    lies_within w (r + k) x (omega arith) (omega arith)
+
+-- what a node holds after a receive, of its round and of each that it keeps, is what was carried
+pub held_received : (w : World) → IsPlan w → (t : List Event) (i q k r : ℕ) (old new : NodeView) (fs : List Frame) → k ≤ ahead → 0 < r → suc q ≡ r + k
+    → suc q ≤ w.rounds → is_receive w (steps i t) ≡ true → w.start r ≤ steps i t → steps i t < w.start (r + 1) → IsBuffer w t i (names_in fs) → All (IsTold w t i) fs
+    → old.round ≡ r → HasTaken old new fs → AreCarried w t i q (held_of old k) → AreCarried w (Step i ∷ t) i q (held_of new k)
+held_received w p t i q k r old new fs m z e l receives low high once answers round took h = λ j n.
+    let next : old.round + k ≡ suc q = ap (λ x. x + k) round ∙ sym e in
+    let within : lies_near w (suc q) (steps i t) ≡ true = ap (λ x. lies_near w x (steps i t)) e ∙ near_step w p r k (steps i t) z m low high in
+    ap (option_map tag_of) (took.held k j m ∙ ap (λ x. held_or (held_at (held_of old k) j) (frame_from x j fs)) next)
+    ∙ heard_by w t i q j fs answers (once j q (omega arith)) p l (held_at (held_of old k) j) (h j n) (hears w t i q j receives within)

@@ -7,7 +7,7 @@ use Rattle.step_machine.specs.declared.event.Event.TheVariants.{Step, Release}
 use Rattle.step_machine.specs.declared.event.Name.{Name}
 use Rattle.step_journal.specs.Places.{IsCarried, IsFirstAfter, IsReceiveAt, IsReceiveOf, IsReleaseAt, IsSlotAt, steps_before}
 use Rattle.step_journal.specs.Trace.{carried, first, from_moment, is_later, is_release, is_step, lies_at, released, sent, steps, taken}
-use Rattle.step_journal.specs.World.{World, is_receive, nodes_of, receives_by, receives_in}
+use Rattle.step_journal.specs.World.{World, earliest, is_receive, nodes_of, receives_by, receives_in}
 use Rattle.step_journal.proofs.Carried.{releases, sends, takes}
 use Rattle.step_journal.proofs.Leaves.{name_same}
 use Rattle.step_journal.proofs.Moments.{At, IsFirst, at_place, at_steps, at_within, is_first, none_passes, place_at, step_rises}
@@ -204,7 +204,7 @@ carried_by w t n (Some a) None (Some c) s r x h =
 carried_by w t n (Some a) (Some b) (Some c) s r x h =
     let both : (◌≡◌ {A = Bool} _ true) × (◌≡◌ {A = Bool} _ true) = and_parts _ _ h in
     let count = taken_steps w t n b c r x in
-    let low = leb-true (w.start n.round) (steps n.to c) both.0 in
+    let low = leb-true (w.start (earliest n.round)) (steps n.to c) both.0 in
     let high = ltb-true (steps n.to c) (w.start (n.round + 1)) both.1 in
     record {
       a = length a;

@@ -2,7 +2,7 @@
 use Rattle.std.proofs.Common.{◌≡◌, ℕ, zero, suc, ◌+◌, ◌-◌, ◌<◌, ◌≤◌, true, false, ltb, leb, refl, ap, arith, ◌⊎◌, inl, inr}
 use Rattle.std.proofs.lemmas.Bool.{cases_lt, cases_eq, le-leb, lt-leb, lt-ltb, le-ltb, and_left, and_right, and_from, or_right}
 use Rattle.std.proofs.lemmas.Bool.Decides.{nat_tests}
-use Rattle.step_journal.specs.World.{World, nodes_of, IsPlan, lies_in, receives_in, receives_by, is_receive}
+use Rattle.step_journal.specs.World.{World, nodes_of, IsPlan, earliest, lies_near, receives_in, receives_by, is_receive}
 
 pub start_rises : (w : World) → IsPlan w → (a d : ℕ) → 0 < a → w.start a ≤ w.start (a + d)
 start_rises w p a zero h = let e : a + 0 ≡ a = omega arith in omega (arith, ap w.start e)
@@ -59,14 +59,18 @@ last_is_receive w p r x z l e =
     let high : ltb x (w.start (r + 1)) ≡ true = lt-ltb x (w.start (r + 1)) (omega arith) in
     receives_by_in w w.rounds r x z l (cases_lt w.rounds (suc r)) (rw (low, high) refl)
 
-pub lies_before : (w : World) (r x : ℕ) → x < w.start r → lies_in w r x ≡ false
-lies_before w r x h = and_left _ _ (lt-leb (w.start r) x h)
+pub lies_before : (w : World) (r x : ℕ) → x < w.start (earliest r) → lies_near w r x ≡ false
+lies_before w r x h = and_left _ _ (lt-leb (w.start (earliest r)) x h)
 
-pub lies_after : (w : World) (r x : ℕ) → w.start (r + 1) ≤ x → lies_in w r x ≡ false
+pub lies_after : (w : World) (r x : ℕ) → w.start (r + 1) ≤ x → lies_near w r x ≡ false
 lies_after w r x h = and_right _ _ (le-ltb x (w.start (r + 1)) h)
 
-pub lies_within : (w : World) (r x : ℕ) → w.start r ≤ x → x < w.start (r + 1) → lies_in w r x ≡ true
-lies_within w r x h k = and_from _ _ (le-leb (w.start r) x h) (lt-ltb x (w.start (r + 1)) k)
+pub lies_within : (w : World) (r x : ℕ) → w.start (earliest r) ≤ x → x < w.start (r + 1) → lies_near w r x ≡ true
+lies_within w r x h k = and_from _ _ (le-leb (w.start (earliest r)) x h) (lt-ltb x (w.start (r + 1)) k)
+
+-- a message is kept from its earliest round on
+pub starts_early : (w : World) → IsPlan w → (r q : ℕ) → 0 < q → earliest r ≤ q → w.start (earliest r) ≤ w.start q
+starts_early w p r q z l = start_le w p (earliest r) q (omega arith) l
 
 -- a round that doesn't start at 0 isn't the first
 late_round_at : (w : World) → IsPlan w → (r : ℕ) → 0 < w.start r → (r ≡ 1) ⊎ (r ≡ 1 → ⊥) → 0 < r → 1 < r

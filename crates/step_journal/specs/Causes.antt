@@ -11,7 +11,7 @@ use Rattle.step_journal.specs.declared.fault.IdleFault.TheVariants as idle
 use Rattle.step_journal.specs.Log.{Log, IsDue, IsSlot, IsReceive, history, round_of, state_before, world_of}
 use Rattle.step_journal.specs.Work.{AreCarried}
 use Rattle.step_machine.specs.Frames.{Ready}
-use Rattle.step_machine.specs.Nodes.{NodeView}
+use Rattle.step_machine.specs.Nodes.{NodeView, held_now}
 
 -- the sender has no open due round, the slot is its next step, and the state is the recorded one
 abbrev pub IsSendFit : (ℕ → ℕ) → Log → Ready → Type 0
@@ -42,7 +42,7 @@ IsDueIn start v n = IsDue start v n.me × (round_of v n.me ≡ n.round)
 -- it finished from its recorded state with what was carried to it
 abbrev pub IsKnown : (ℕ → ℕ) → Log → NodeView → Type 0
 IsKnown start v n =
-    (state_before v n.me n.round ≡ n.state) × AreCarried (world_of start v) (history v) n.me (n.round - 1) n.held
+    (state_before v n.me n.round ≡ n.state) × AreCarried (world_of start v) (history v) n.me (n.round - 1) (held_now n)
 
 -- why a round isn't closed
 abbrev pub CloseCause : (ℕ → ℕ) → Log → NodeView → CloseFault → Type 0

@@ -17,7 +17,7 @@ use Rattle.step_journal.specs.Trace.{steps}
 use Rattle.step_journal.specs.World.{World, IsPlan, is_receive}
 use Rattle.step_machine.specs.declared.event.Event.{Event}
 use Rattle.step_machine.specs.declared.event.Name.{Name}
-use Rattle.step_machine.specs.Nodes.{NodeView, algorithm_in, inbox_of}
+use Rattle.step_machine.specs.Nodes.{NodeView, algorithm_in, held_now, inbox_of}
 
 -- a run so far: its program and setup, the events in their order, and the states of each node after 0, 1, .. closed rounds
 pub record Log : Type 0 where
@@ -54,7 +54,7 @@ happened v e = record v { trace = v.trace ++ e ∷ [] }
 
 -- the state that a node ended its round with
 abbrev pub ended : NodeView → List Value
-ended n = (algorithm_in n).end n.round n.me (inbox_of n.held) n.state
+ended n = (algorithm_in n).end n.round n.me (inbox_of (held_now n)) n.state
 
 -- the run with one round of that node closed
 abbrev pub closed : Log → NodeView → Log

@@ -4,7 +4,7 @@ use Rattle.step_machine.specs.declared.event.Event.{Event}
 use Rattle.step_machine.specs.declared.event.Event.TheVariants.{Step, Release}
 use Rattle.step_machine.specs.declared.event.Name.{Name}
 use Rattle.step_journal.specs.Trace.{is_step}
-use Rattle.step_journal.specs.World.{World, nodes_of}
+use Rattle.step_journal.specs.World.{World, earliest, nodes_of}
 
 -- how many steps of node i stand before a place
 abbrev pub steps_before : List Event → ℕ → ℕ → ℕ
@@ -43,7 +43,9 @@ pub record IsFirstAfter (Is : ℕ → Type 0) (before place : ℕ) : Type 0 wher
 abbrev pub IsSlotAt : World → List Event → Name → ℕ → Type 0
 IsSlotAt w trace n place = IsStepAt trace n.from (w.start n.round + n.to) place
 
--- the message's slot, then the first release of it after that, then the receiver's first receive after that; and this is in the message's round
+-- the message's slot, then the first release of it after that, then the receiver's first receive
+-- after that; and this is in the message's round, or in one of the rounds before it in which the
+-- message is kept
 pub record IsCarried (w : World) (trace : List Event) (n : Name) : Type 0 where
   pub a : ℕ
   pub b : ℕ
@@ -51,5 +53,5 @@ pub record IsCarried (w : World) (trace : List Event) (n : Name) : Type 0 where
   pub slot : IsSlotAt w trace n a
   pub release : IsFirstAfter (IsReleaseAt trace n) a b
   pub receive : IsFirstAfter (IsReceiveAt w trace n.to) b c
-  pub from_start : w.start n.round ≤ steps_before trace n.to c
+  pub from_start : w.start (earliest n.round) ≤ steps_before trace n.to c
   pub before_end : steps_before trace n.to c < w.start (n.round + 1)

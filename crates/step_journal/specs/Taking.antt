@@ -1,7 +1,7 @@
 -- A node that takes frames.
-use Rattle.std.specs.Prelude.{◌≡◌, ℕ, ◌&&◌, ◌==◌, if◌then◌else◌, List, [], ◌∷◌, Option, Some, None, length}
-use Rattle.step_machine.specs.Frames.{Frame}
-use Rattle.step_machine.specs.Nodes.{NodeView, held_at}
+use Rattle.std.specs.Prelude.{◌≡◌, ℕ, ◌+◌, ◌≤◌, ◌&&◌, ◌==◌, if◌then◌else◌, List, [], ◌∷◌, Option, Some, None}
+use Rattle.step_machine.specs.Frames.{Frame, held_at}
+use Rattle.step_machine.specs.Nodes.{HasPlaces, NodeView, ahead, held_of}
 
 -- all but the frames held and the next state is as it was
 pub record IsSameBut (old new : NodeView) : Type 0 where
@@ -21,8 +21,9 @@ abbrev pub held_or : Option Frame → Option Frame → Option Frame
 held_or None f = f
 held_or (Some h) f = Some h
 
--- the node holds what it held, and of each other sender the first frame of its round
+-- the node holds what it held, and of each other sender the first frame of each round that it keeps
 pub record HasTaken (old new : NodeView) (frames : List Frame) : Type 0 where
   pub same : IsSameBut old new
-  pub places : length new.held ≡ length old.held
-  pub held : (j : ℕ) → held_at new.held j ≡ held_or (held_at old.held j) (frame_from old.round j frames)
+  pub places : (n : ℕ) → HasPlaces n old.held → HasPlaces n new.held
+  pub held : (k j : ℕ) → k ≤ ahead
+      → held_at (held_of new k) j ≡ held_or (held_at (held_of old k) j) (frame_from (old.round + k) j frames)

@@ -2,7 +2,7 @@
 use Rattle.std.specs.Prelude.{ℕ, ◌+◌, Bool, false, ◌&&◌, ◌==◌, nat_lt, if◌then◌else◌, List, [], ◌∷◌, length, Option, Some, None}
 use Rattle.step_machine.specs.declared.event.Event.{Event}
 use Rattle.step_machine.specs.declared.event.Event.TheVariants.{Step, Release}
-use Rattle.step_journal.specs.World.{World, is_receive, lies_in}
+use Rattle.step_journal.specs.World.{World, is_receive, lies_near}
 
 abbrev pub is_step : ℕ → Event → Bool
 is_step i (Step k) = k == i
@@ -48,8 +48,9 @@ taken w t j i r = from_moment (released w t j i r) (λ b. first (λ e past. (is_
 
 abbrev pub lies_at : World → ℕ → ℕ → Option (List Event) → Bool
 lies_at w i r None = false
-lies_at w i r (Some m) = lies_in w r (steps i m)
+lies_at w i r (Some m) = lies_near w r (steps i m)
 
--- the message of round r from j to i is taken in round r
+-- the message of round r from j to i is taken in round r, or in one of the rounds before it in
+-- which it is kept
 unfoldable pub carried : World → List Event → ℕ → ℕ → ℕ → Bool
 carried w t i r j = lies_at w i r (taken w t j i r)

@@ -8,8 +8,7 @@ use Rattle.step_journal.specs.Trace.{carried}
 use Rattle.step_journal.specs.World.{World, nodes_of}
 use Rattle.step_machine.specs.declared.event.Event.{Event}
 use Rattle.step_machine.specs.declared.event.Name.{Name}
-use Rattle.step_machine.specs.Frames.{Frame}
-use Rattle.step_machine.specs.Nodes.{held_at}
+use Rattle.step_machine.specs.Frames.{Frame, HeldRow, held_at}
 
 -- a frame by its name and its sender's state
 pub record Tag : Type 0 where
@@ -30,7 +29,7 @@ heard_from w t i q j =
     if carried w t i (suc q) j then tag_by (message w t q j i) (record { from = j; to = i; round = suc q }) (state w t q j) else None
 
 -- the frames are, by name and sender's state, those that were carried to round q + 1 of node i
-abbrev pub AreCarried : World → List Event → ℕ → ℕ → List (Option Frame) → Type 0
+abbrev pub AreCarried : World → List Event → ℕ → ℕ → HeldRow → Type 0
 AreCarried w t i q held = (j : ℕ) → j < nodes_of w → option_map tag_of (held_at held j) ≡ heard_from w t i q j
 
 -- it was released while its receiver's step count stood in these steps

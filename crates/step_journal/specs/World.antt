@@ -1,6 +1,7 @@
 -- An algorithm with the number of its rounds and the plan of its steps.
-use Rattle.std.specs.Prelude.{◌≡◌, ℕ, zero, suc, ◌+◌, ◌<◌, Bool, false, ◌&&◌, ◌||◌, nat_le, nat_lt}
+use Rattle.std.specs.Prelude.{◌≡◌, ℕ, zero, suc, ◌+◌, ◌-◌, ◌<◌, Bool, false, ◌&&◌, ◌||◌, nat_le, nat_lt}
 use Rattle.round_meaning.specs.Rounds.{Algorithm}
+use Rattle.step_machine.specs.Nodes.{ahead}
 
 -- what a run is of: an algorithm, the last round, and the step at which each round starts
 pub record World : Type 0 where
@@ -16,9 +17,13 @@ pub record IsPlan (w : World) : Type 0 where
   pub first : w.start 1 ≡ 0
   pub next : (r : ℕ) → 0 < r → w.start r + nodes_of w < w.start (r + 1)
 
--- step number x lies in round r
-abbrev pub lies_in : World → ℕ → ℕ → Bool
-lies_in w r x = nat_le (w.start r) x && nat_lt x (w.start (r + 1))
+-- the first of the rounds in which a message of round r is kept: r - 3, or round 1
+abbrev pub earliest : ℕ → ℕ
+earliest r = r - (ahead + 1) + 1
+
+-- step number x lies in one of the rounds in which a message of round r is kept
+abbrev pub lies_near : World → ℕ → ℕ → Bool
+lies_near w r x = nat_le (w.start (earliest r)) x && nat_lt x (w.start (r + 1))
 
 -- step number x is a receive of round r
 abbrev pub receives_in : World → ℕ → ℕ → Bool

@@ -17,7 +17,7 @@ use crate::notes::{
     note_close, note_idle_release, note_receive, note_release, note_send, note_step,
 };
 use crate::opening::{first_rows, no_mail, no_steps};
-use crate::tags::{is_tagged, is_within};
+use crate::tags::{earliest, is_tagged, is_within};
 use round_check::Checked;
 use round_lang::{NoMemory, Vars};
 use round_meaning::Setup;
@@ -457,7 +457,8 @@ impl<P: Plan> Book<P> {
             to: node,
             round,
         };
-        if !is_within(self.mark(name), self.start(round), self.start(round + 1)) {
+        let first = self.start(earliest(round));
+        if !is_within(self.mark(name), first, self.start(round + 1)) {
             return frame.is_none();
         }
         is_tagged(frame, name, &row[round as usize - 1])

@@ -17,3 +17,4 @@ pub use fault::{CloseFault, IdleFault, ReceiveFault, Refused, SendFault};
 pub use journal::{Journal, Took};
 pub use mail::Mail;
 pub use mark::Mark;
+pub use tags::earliest;

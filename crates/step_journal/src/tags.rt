@@ -1,10 +1,18 @@
 //! Frames by name and sender's state, and when a message was carried.
 ghost use Rattle.std.specs.Prelude.{◌≡◌, ◌↔◌, IsTrue, Some, option_map};
 ghost use Rattle.step_journal.specs.Work.{is_within, tag_of};
+ghost use Rattle.step_journal.specs.World.{earliest};
 
 use crate::mark::Mark;
 use round_lang::Vars;
-use step_machine::{Name, Sealed};
+use step_machine::{Name, ROUNDS_HELD, Sealed};
+
+/// The first of the rounds in which a message of this round is kept.
+pub fn earliest(round: u32) -> u32
+    ensures { result ≡ earliest round }
+{
+    round.saturating_sub(ROUNDS_HELD) + 1
+}
 
 /// Whether a message was released while its receiver's step count stood in these steps.
 pub(crate) fn is_within(mark: Mark, first: u64, end: u64) -> bool

@@ -1,5 +1,5 @@
 -- Messages on their way, and what a node has ready for a send slot.
-use Rattle.std.specs.Prelude.{◌≡◌, List, [], Option, Some, option_map}
+use Rattle.std.specs.Prelude.{◌≡◌, ℕ, List, [], Option, Some, None, option_map, slice_index_or}
 use Rattle.std.specs.Option.{unwrap_or}
 use Rattle.round_lang.specs.declared.value.Value.{Value}
 use Rattle.round_meaning.specs.Rounds.{Algorithm}
@@ -41,3 +41,11 @@ pub record Spells (a : Algorithm) (f : Frame) : Type 0 where
 -- the message or silence is what the state sends
 pub record IsPrepared (a : Algorithm) (p : Ready) : Type 0 where
   pub says : sent_under a p.name p.state ≡ p.message
+
+-- the frames held of one round, by sender
+abbrev pub HeldRow : Type 0
+HeldRow = List (Option Frame)
+
+-- the frame of a sender, none where none is held
+abbrev pub held_at : HeldRow → ℕ → Option Frame
+held_at held j = slice_index_or held j None

@@ -2,12 +2,13 @@
 #![tactic(auto)]
 
 mod event;
+mod held;
 mod node;
 mod prepared;
 mod said;
 mod sealed;
 
 pub use event::{Event, InFlight, Name};
-pub use node::{Finished, Node, Taken};
+pub use node::{Finished, Node, ROUNDS_HELD, Taken};
 pub use prepared::Prepared;
 pub use sealed::Sealed;

@@ -1,15 +1,16 @@
 //! A node.
 ghost use Rattle.std.specs.Arc.{arc_value};
 ghost use Rattle.std.specs.Borrow.{sem};
-ghost use Rattle.std.specs.Prelude.{◌≡◌, ◌≢◌, ℕ, ◌+◌, ◌<◌, ◌≤◌, ◌↔◌, IfOk, IsSome, Some, None, length, option_map, replicate, slice_set};
+ghost use Rattle.std.specs.Prelude.{◌≡◌, ◌≢◌, suc, ◌+◌, ◌<◌, ◌≤◌, ◌↔◌, IfOk, IsSome, None, option_map, replicate};
 ghost use Rattle.round_meaning.specs.Rounds.{algorithm_of};
 ghost use Rattle.round_meaning.specs.Setups.{IsSized};
 ghost use Rattle.step_machine.specs.Frames.{Spells};
-ghost use Rattle.step_machine.specs.Nodes.{IsDoubled, IsEnd, IsHeld, IsSameTurn, ahead, algorithm_in, held_at, inbox_of, said_to};
+ghost use Rattle.step_machine.specs.Nodes.{HasSettled, IsDoubled, IsEnd, IsSameTurn, ahead, algorithm_in, held_now, held_with, inbox_of, said_to};
 
 mod finished;
 
 use crate::event::Name;
+use crate::held::Held;
 use crate::prepared::Prepared;
 use crate::said::Said;
 use crate::sealed::Sealed;
@@ -21,21 +22,26 @@ use std::alloc::Global;
 use std::marker::Model;
 use std::sync::Arc;
 
+/// How many rounds' frames a node holds: those of its own, and of three rounds after it.
+pub const ROUNDS_HELD: u32 = 4;
+
 /// What became of a frame that was handed to a node.
 #[derive(Clone, Copy, PartialEq, Eq, Debug)]
 pub enum Taken {
+    /// It is of the node's round, or of one of the three rounds after it.
     Kept,
     /// It is of an earlier round, and was dropped.
     Late,
-    /// It is of a later round, and was dropped.
+    /// It is of a round further ahead than the node keeps frames of, and was dropped.
     Early,
-    /// A message of its sender is held already, and it was dropped.
+    /// A frame of its sender and of its round is held already, and it was dropped.
     Doubled,
 }
 
 /// One node, outside of all locks: its program and setup, its round (from 1), its state after the
-/// round before, the frames of its round that it holds, by sender, and room for the next state. What it
-/// sends in its round is kept where it's the same for all, so that it's computed once.
+/// round before, the frames that it holds of its round and of the three after it, and room for the
+/// next state. What it sends in its round is kept where it's the same for all, so that it's
+/// computed once.
 #[derive(Drop)]
 pub struct Node {
     alloc: Global,
@@ -44,7 +50,7 @@ pub struct Node {
     me: u32,
     round: u32,
     state: Arc<Vars>,
-    held: Vec<Option<Sealed>>,
+    held: Vec<Held>,
     next: Option<Arc<Vars>>,
     spoken: Option<Arc<Said>>,
 }
@@ -80,16 +86,13 @@ impl Node {
           me = me;
           round = 1;
           state = (algorithm_of program.now setup.now).init me;
-          held = replicate setup.now.nodes None;
+          held = replicate (suc ahead) (replicate setup.now.nodes None);
           next = None;
         }) }
     {
         let state = initial_of(alloc, program, setup, me)?;
         let state = Arc::new(alloc, state)?;
-        let mut held = Vec::new(alloc);
-        for _sender in 0..setup.nodes {
-            held.push(None)?;
-        }
+        let held = none_held(alloc, setup.nodes)?;
         Ok(Node {
             alloc,
             program: program.copy()?,
@@ -168,25 +171,27 @@ impl Node {
         ensures late { (result ≡ Taken.Late) ↔ (frame.name.round < self.old.round) }
         ensures early { (result ≡ Taken.Early) ↔ (self.old.round + ahead < frame.name.round) }
         ensures doubled { (result ≡ Taken.Doubled) ↔ IsDoubled self.old frame }
-        ensures kept { (result ≡ Taken.Kept) → self.new ≡ record self.old { held = slice_set self.old.held frame.name.from (Some frame) } }
+        ensures kept { (result ≡ Taken.Kept) → self.new ≡ record self.old { held = held_with self.old frame } }
         ensures dropped { (result ≢ Taken.Kept) → self.new ≡ self.old }
     {
         let name = frame.name();
         if name.round < self.round {
             return Taken::Late;
         }
-        if name.round > self.round {
+        let ahead = name.round - self.round;
+        if ahead >= ROUNDS_HELD {
             return Taken::Early;
         }
-        let place = &mut self.held[name.from as usize];
-        if place.is_some() {
+        let held = &mut self.held[ahead as usize];
+        if held.has(name.from) {
             return Taken::Doubled;
         }
-        *place = Some(frame);
+        held.put(name.from, frame);
         Taken::Kept
     }
 
-    /// Ends the round: computes the next state from the frames held, and leaves the node as it is.
+    /// Ends the round: computes the next state from the frames held of it, and leaves the node as
+    /// it is.
     pub fn finish(&mut self) -> Result<Finished<'_>, NoMemory>
         ensures* leaves { sem 𝓛 (LeavesEnded self.entry result) }
         ensures ended { IfOk result (λ f. IsSameTurn self.old f.node.now) }
@@ -199,9 +204,9 @@ impl Node {
     /// The state after the round.
     fn next_state(&self) -> Result<Arc<Vars>, NoMemory>
         ensures { IfOk result (λ s. arc_value s
-            ≡ (algorithm_in self.now).end self.now.round self.now.me (inbox_of self.now.held) self.now.state) }
+            ≡ (algorithm_in self.now).end self.now.round self.now.me (inbox_of (held_now self.now)) self.now.state) }
     {
-        let inbox = inbox_of(self.alloc, &self.held)?;
+        let inbox = inbox_of(self.alloc, self.held[0].frames())?;
         let next = end_of(
             self.alloc,
             &self.program,
@@ -214,36 +219,33 @@ impl Node {
         Ok(Arc::new(self.alloc, next)?)
     }
 
-    /// Adopts the state of the last `finish`, drops the frames, and goes on to the next round.
+    /// Adopts the state of the last `finish`, drops the frames of the round that ended, and goes on
+    /// to the next round, whose frames it holds already.
     pub fn settle(&mut self)
         requires ended { IsSome self.old.next }
         requires within { self.old.round ≤ self.old.setup.rounds }
-        ensures state { Some self.new.state ≡ self.old.next }
-        ensures held { (j : ℕ) → held_at self.new.held j ≡ None }
-        ensures places { length self.new.held ≡ length self.old.held }
-        ensures round { self.new.round ≡ self.old.round + 1 }
-        ensures next { self.new.next ≡ None }
-        ensures program { self.new.program ≡ self.old.program }
-        ensures setup { self.new.setup ≡ self.old.setup }
-        ensures me { self.new.me ≡ self.old.me }
+        ensures { HasSettled self.old self.new }
     {
         match self.next.take() {
             Some(next) => self.state = next,
             None => unreachable!(),
         }
-        let_go_of_all(&mut self.held);
+        self.held[0].clear();
+        self.held.rotate_left(1);
         self.spoken = None;
         self.round += 1;
     }
 }
 
-/// Drops the frames.
-fn let_go_of_all(held: &mut [Option<Sealed>])
-    ensures { (j : ℕ) → held_at held.new j ≡ None }
+/// No frames, with a place for each of so many senders in each round.
+fn none_held(alloc: Global, senders: u32) -> Result<Vec<Held>, NoMemory>
+    ensures { IfOk result (λ held. held.items ≡ replicate (suc ahead) (replicate senders None)) }
 {
-    for place in held.iter_mut() {
-        *place = None;
+    let mut held = Vec::with_capacity(alloc, ROUNDS_HELD as usize)?;
+    for _round in 0..ROUNDS_HELD {
+        held.push(Held::new(alloc, senders)?)?;
     }
+    Ok(held)
 }
 
 /// The frames as an inbox, in rising order of sender.

@@ -1,7 +1,7 @@
 //! The end of a node's round.
 ghost use Rattle.std.specs.Arc.{arc_value};
 ghost use Rattle.std.specs.Prelude.{◌≡◌, ◌<◌, IfOk, Some, length};
-ghost use Rattle.step_machine.specs.Nodes.{IsEnd, IsHeld, algorithm_in};
+ghost use Rattle.step_machine.specs.Nodes.{IsEnd, IsHeld, algorithm_in, held_now};
 
 use crate::node::Node;
 use crate::sealed::Sealed;
@@ -40,14 +40,14 @@ impl<'a> Finished<'a> {
         &node.state
     }
 
-    /// The frames that it was computed from, by sender.
+    /// The frames of the round, from which the new state was computed, by sender.
     pub fn frames(&self) -> &'a [Option<Sealed>]
-        ensures value { result.now ≡ self.now.node.now.held }
+        ensures value { result.now ≡ held_now self.now.node.now }
         ensures sized { length result.now ≡ self.now.node.now.setup.nodes }
         ensures held { IsHeld (algorithm_in self.now.node.now) self.now.node.now.setup.nodes self.now.node.now.me self.now.node.now.round result.now }
     {
         let node = self.node;
-        &node.held
+        node.held[0].frames()
     }
 
     /// The state after the round, to be shared.

@@ -14,5 +14,4 @@ returns-in-Ok-clause-node g c =
     let kept = c.finish.follows.holds-at-none in
     subst (λ (z : Recorded _). IsNodeOf (g.P.Plan.start z.plan) z.log c.args.node.now.me c.settle.new.self) (sym c.in-Ok.ensures.ok)
     (node_closed start j.log c.args.node.now c.in_ok-finished.finished.node.now c.in_ok-finished.ensures.ended c.requires.node c.requires.first c.requires.due
-    c.finish.follows.lender-at-none c.settle.new.self kept.0 (IfOk-at_ok (λ _. IsEnd c.finish.follows.lender-at-none) c.in_ok-finished.was kept.1)
-    (record { state = e.state; held = e.held; places = e.places; round = e.round; program = e.program; setup = e.setup; me = e.me }))
+    c.finish.follows.lender-at-none c.settle.new.self kept.0 (IfOk-at_ok (λ _. IsEnd c.finish.follows.lender-at-none) c.in_ok-finished.was kept.1) e)

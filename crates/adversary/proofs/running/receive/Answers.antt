@@ -1,9 +1,10 @@
-use Rattle.std.proofs.Common.{◌∙◌, ap, subst, sym}
+use Rattle.std.proofs.Common.{subst, sym}
 use Rattle.round_meaning.specs.declared.setup.Setup.{Setup}
 use Rattle.step_journal.proofs.Starts.{plan_is}
 use Rattle.step_journal.specs.Causes.{ReceiveCause}
 use Rattle.step_journal.specs.Log.{Recorded, happened}
 use Rattle.step_machine.specs.declared.event.Event.TheVariants.{Step}
+use Rattle.step_machine.specs.Nodes.{HasPlaces}
 use Rattle.adversary.specs.Driving.{IsNodeOf}
 use Rattle.adversary.proofs.Nodes.{is_receive_step, node_received, noted}
 use Rattle.adversary.proofs.running.receive.Goals as goal
@@ -18,7 +19,7 @@ take_all-requires-clause-mail g c =
 
 pub take_all-requires-clause-places : goal.take_all-requires-clause-places
 take_all-requires-clause-places g c =
-    c.requires.node.places ∙ ap (λ (s : Setup). s.nodes) (sym c.requires.node.setup)
+    subst (λ (s : Setup). HasPlaces s.nodes c.args.node.now.held) (sym c.requires.node.setup) c.requires.node.places
 
 pub unreachable-requires-in-Err-NotItsSlot : goal.unreachable-requires-in-Err-NotItsSlot
 unreachable-requires-in-Err-NotItsSlot g c =

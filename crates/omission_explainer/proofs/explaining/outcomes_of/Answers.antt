@@ -19,7 +19,7 @@ loop-from-preserved g c = λ few.
     let k : c.loop-from.from < 64 = omega arith in
     let before = c.loop-from.invariant (omega arith) in
     let bits = λ (s : NodeSet). s.bits in
-    let first = c.from-first.ensures ∙ c.start.ensures ∙ ap (λ p. g.P.Plan.start p c.args.round) c.plan.ensures in
+    let first = c.from-first.ensures ∙ c.start.ensures ∙ ap (λ p. g.P.Plan.start p c.earliest.result) c.plan.ensures ∙ ap (g.P.Plan.start c.args.book.now.plan) c.earliest.ensures in
     let end = c.from-end.ensures ∙ c.start-2.ensures ∙ ap (λ p. g.P.Plan.start p (c.args.round + 1)) c.plan-2.ensures in
     elim c.match-outcome_of.branch [
       | in-Heard w ↦ sorted_heard _ _ _ _ _ _ k c.mark.ensures first end before (w.in-Heard.ensures.heard.0 refl) (ap bits w.heard-is ∙ w.with-heard.ensures) (ap bits w.silent-is) (ap bits w.omitted-is)

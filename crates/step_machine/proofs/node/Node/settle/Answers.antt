@@ -1,17 +1,21 @@
-use Rattle.std.proofs.Common.{◌≡◌, ap, ◌∙◌, arith, length}
-use Rattle.std.proofs.lemmas.List.{with_items_is}
-use Rattle.step_machine.specs.Nodes.{held_at}
-use Rattle.step_machine.proofs.Held.{held_none}
+use Rattle.std.proofs.Common.{◌≡◌, ◌+◌, ◌++◌, [], length, get_or, set, drop, take, ap, refl, ◌∙◌, arith, sym, subst}
+use Rattle.std.proofs.lemmas.List.{get_or_read_under}
+use Rattle.step_machine.specs.Nodes.{AreHeld}
+use Rattle.step_machine.specs.NodeInside.{node_seen}
+use Rattle.step_machine.specs.Nodes.{algorithm_in}
+use Rattle.step_machine.proofs.HeldFrames.{turned_held}
 use Rattle.step_machine.proofs.node.Node.settle.Goals as goal
 
 pub invariant_of-self : goal.invariant_of-self
 invariant_of-self c =
-    let same : length c.deref_mut.result.now ≡ length c.self.inside.held.items = ap length c.deref_mut.ensures.value in
-    let written = with_items_is c.self.inside.held c.let_go_of_all.new.held (omega (arith, same)) in
+    let s = c.self.inside in
+    let was = c.self.invariant.held in
+    let first : c.index_mut.result.now ≡ get_or s.held.items 0 [] = get_or_read_under s.held.items 0 _ _ _ c.index_mut.ensures.value (omega (arith, was.places.rows)) refl in
+    let same : length c.clear.new.self ≡ length (get_or s.held.items 0 []) = c.clear.ensures.places ∙ ap length first in
     record {
       setup = c.self.invariant.setup;
       me = c.self.invariant.me;
-      sized = ap length written ∙ omega (arith, same, c.self.invariant.sized);
-      held = held_none _ _ _ _ _ (λ j. ap (λ l. held_at l j) written ∙ c.let_go_of_all.ensures j);
+      held = subst (AreHeld (algorithm_in (node_seen s)) s.setup.nodes s.me (s.round + 1)) (sym c.rotate_left.ensures.items)
+      (turned_held (algorithm_in (node_seen s)) s.setup.nodes s.me s.round (s.round + 1) s.held.items c.clear.new.self refl same c.clear.ensures.frames was);
       spoken = λ m is. absurd cc;
     }

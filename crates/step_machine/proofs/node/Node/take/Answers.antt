@@ -1,9 +1,10 @@
-use Rattle.std.proofs.Common.{◌≡◌, ◌<◌, ap, ◌∙◌, arith, length-set, sym, subst}
+use Rattle.std.proofs.Common.{◌≡◌, ◌+◌, ◌-◌, ◌<◌, ◌≤◌, Some, [], length, get_or, set, ap, refl, ◌∙◌, arith, sym, subst}
+use Rattle.std.proofs.lemmas.List.{get_or_read_under}
 use Rattle.step_machine.specs.declared.event.Name.{Name}
-use Rattle.step_machine.specs.Frames.{Spells}
-use Rattle.step_machine.specs.Nodes.{IsFrom, NodeView, algorithm_in}
+use Rattle.step_machine.specs.Frames.{HeldRow, Spells}
+use Rattle.step_machine.specs.Nodes.{AreHeld, IsFrom, NodeView, ahead, algorithm_in}
 use Rattle.step_machine.specs.NodeInside.{node_seen}
-use Rattle.step_machine.proofs.Held.{one_held}
+use Rattle.step_machine.proofs.HeldFrames.{one_row}
 use Rattle.step_machine.proofs.node.Node.take.Goals as goal
 
 pub invariant_of-self-2 : goal.invariant_of-self-2
@@ -13,17 +14,24 @@ invariant_of-self-2 c =
     let from : c.name-name.result.from ≡ c.args.frame.name.from = ap (λ (n : Name). n.from) name in
     let round : c.name-name.result.round ≡ c.args.frame.name.round = ap (λ (n : Name). n.round) name in
     let nodes = ap (λ (n : NodeView). n.setup.nodes) seen in
-    let here : c.name-name.result.from < c.self.inside.setup.nodes = omega (arith, nodes, c.requires.from) in
-    let new : IsFrom (algorithm_in (node_seen c.self.inside)) c.name-name.result.from c.self.inside.me c.self.inside.round c.args.frame = record {
+    let here : c.name-name.result.from < c.self.inside.setup.nodes = omega (arith, nodes, c.requires.from, from) in
+    let row = c.name-name.result.round - c.self.inside.round in
+    let begun = c.if-name-self.false in
+    let near : row ≤ ahead = omega (arith, c.if-ahead-ge-ROUNDS_HELD.false) in
+    let new : IsFrom (algorithm_in (node_seen c.self.inside)) c.name-name.result.from c.self.inside.me (c.self.inside.round + row) c.args.frame = record {
       from = sym from;
       to = c.requires.to ∙ sym (ap (λ (n : NodeView). n.me) seen);
-      round = omega arith;
+      round = omega (arith, round, begun);
       spells = subst (λ (n : NodeView). Spells (algorithm_in n) c.args.frame) (sym seen) c.requires.spells;
     } in
+    let rows = c.self.invariant.held.places.rows in
+    let there : c.index_mut-held.result.now ≡ get_or c.self.inside.held.items row [] = get_or_read_under c.self.inside.held.items row _ _ _ c.index_mut-held.ensures.value (omega (arith, rows, near)) refl in
+    let put : c.put.new.self ≡ set (get_or c.self.inside.held.items row []) c.name-name.result.from (Some c.args.frame) =
+    c.put.ensures ∙ ap (λ r. set r c.name-name.result.from (Some c.args.frame)) there in
     record {
       setup = c.self.invariant.setup;
       me = c.self.invariant.me;
-      sized = length-set _ _ _ ∙ c.self.invariant.sized;
-      held = one_held _ _ _ _ _ _ _ c.self.invariant.sized here new c.self.invariant.held;
+      held = subst (λ (r : HeldRow). AreHeld (algorithm_in (node_seen c.self.inside)) c.self.inside.setup.nodes c.self.inside.me c.self.inside.round (set c.self.inside.held.items row r)) (sym put)
+      (one_row _ _ _ _ row _ _ _ near here new c.self.invariant.held);
       spoken = c.self.invariant.spoken;
     }
