@@ -5,7 +5,9 @@ use crate::reading::{cut, number, vars};
 use crate::showing::{show_number, show_vars};
 use round_check::Checked;
 use round_lang::{Shape, Vars};
-use round_meaning::{Heard, Received, Setup, decision_of, end_of, initial_of, send_of};
+use round_meaning::{
+    Heard, Received, Setup, decision_of, end_of, initial_of, is_inbox, send_of,
+};
 use std::alloc::Global;
 
 /// A node of a program with its state, and what it has heard in its round.
@@ -63,6 +65,9 @@ impl<'a> Node<'a> {
     fn ended(&self, alloc: Global, round: u32) -> Result<Vars, Fault> {
         let inbox = lent(alloc, self.inbox.as_slice())?;
         let inbox = inbox.as_slice();
+        if !is_inbox(inbox) {
+            return Err(Fault::Unreadable);
+        }
         let state = end_of(
             alloc,
             self.program,

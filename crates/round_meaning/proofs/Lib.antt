@@ -5,6 +5,7 @@ pub mod RoundLaws
 pub mod Inboxes
 pub mod OmissionLaws
 pub mod Rows
+pub mod EveryOperator
 pub mod Sound
 pub mod TypedTurns
 pub mod TypedStarts

@@ -22,7 +22,7 @@ pub use laws::{
 };
 pub use nodes::NodeSet;
 pub use omissions::{Omission, OmissionTable};
-pub use received::{Heard, Received};
+pub use received::{Heard, Received, is_inbox};
 pub use rounds::run_rounds;
 pub use setup::{Inputs, MAX_FAULTS, MAX_NODES, MAX_ROUNDS, Setup};
 pub use states::StateTable;

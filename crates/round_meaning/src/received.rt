@@ -1,5 +1,6 @@
 //! Entries of an inbox.
-ghost use Rattle.std.specs.Prelude.{◌≡◌};
+ghost use Rattle.std.specs.Prelude.{◌≡◌, ◌↔◌, IsTrue};
+ghost use Rattle.round_meaning.specs.Turn.{IsInbox};
 
 use round_lang::Message;
 use std::marker::Model;
@@ -45,4 +46,18 @@ impl<'a> Heard<'a> {
     {
         self.message
     }
+}
+
+/// Whether entries are an inbox: in rising order of sender, with one message of a sender at most.
+pub fn is_inbox(entries: &[Heard<'_>]) -> bool
+    ensures { IsTrue result ↔ IsInbox entries.now }
+{
+    let mut low = 0;
+    for heard in entries {
+        if u64::from(heard.from()) < low {
+            return false;
+        }
+        low = u64::from(heard.from()) + 1;
+    }
+    true
 }
