@@ -19,9 +19,11 @@ is_omitted carried sends stands j = not (is_heard carried sends j) && not (is_si
 abbrev pub heard_set : ℕ → (carried sends : ℕ → Bool) → ℕ
 heard_set n carried sends = set_of n (is_heard carried sends)
 
+-- the silent senders below n
 abbrev pub silent_set : ℕ → (sends stands : ℕ → Bool) → ℕ
 silent_set n sends stands = set_of n (is_silent sends stands)
 
+-- the omitted senders below n
 abbrev pub omitted_set : ℕ → (carried sends stands : ℕ → Bool) → ℕ
 omitted_set n carried sends stands = set_of n (is_omitted carried sends stands)
 

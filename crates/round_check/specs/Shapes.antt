@@ -15,5 +15,6 @@ state_kinds p = map (λ (v : Variable). kind_for p.values (kind_type v.kind)) p.
 abbrev pub block_kinds : ℕ → BlockTree → List Kind
 block_kinds k b = map (λ (f : Field). kind_for k f.ty) b.fields
 
+-- the kinds of each block's fields
 abbrev pub message_kinds : ProgramTree → List (List Kind)
 message_kinds p = map (block_kinds p.values) p.blocks

@@ -5,6 +5,7 @@ use Rattle.round_lang.specs.declared.token.Word.TheVariants as w
 use Rattle.round_lang.specs.declared.token.Token.{Token}
 use Rattle.round_lang.specs.Lexemes.{Lexeme, name, number, mark, kind, fixed, call, infix_word}
 
+-- the lexeme that a word of the lexer's is
 abbrev pub lexeme_of : Word → Lexeme
 lexeme_of (w.Name n) = name n.text.now
 lexeme_of (w.Number digits) = number digits.now
@@ -14,5 +15,6 @@ lexeme_of (w.Fixed c) = fixed c
 lexeme_of (w.Call op) = call op
 lexeme_of (w.Infix op) = infix_word op
 
+-- the lexemes that the lexer's tokens are, without their places
 abbrev pub lexemes : List Token → List Lexeme
 lexemes ts = map (λ t. lexeme_of t.word) ts

@@ -1,9 +1,11 @@
 -- The language's limits.
 use Rattle.std.specs.Prelude.{ℕ, ◌<◌, ◌≤◌}
 
+-- K is at most this
 abbrev pub max_values : ℕ
 max_values = 64
 
+-- the period is at most this
 abbrev pub max_period : ℕ
 max_period = 8
 

@@ -22,25 +22,32 @@ abbrev pub Fails : {Y : Type 0} → Fault → Option Y → Type 0
 Fails fault.NoMemory read = Unit {0}
 Fails _ read = read ≡ None
 
+-- an Ok is what the reading gives; an Err is a fault for which there is no reading, or NoMemory
 abbrev pub Gives : {X Y : Type 0} → (X → Y) → Result X Fault → Option Y → Type 0
 Gives view (Ok x) read = read ≡ Some (view x)
 Gives view (Err e) read = Fails e read
 
+-- an expression that was read, how deep its text nests, and the words behind it
 abbrev pub expr_found : Expr × ℕ × Bor (List Token) → Found
 expr_found x = (tree_of x.0, x.1, lexemes x.2.now)
 
+-- the words that are left
 abbrev pub rest_of : Bor (List Token) → List Lexeme
 rest_of r = lexemes r.now
 
+-- what was read, and the words behind it
 abbrev pub left_of : {X : Type 0} → X × Bor (List Token) → X × List Lexeme
 left_of x = (x.0, lexemes x.1.now)
 
+-- a name that was read, and the words behind it
 abbrev pub name_found : Name × Bor (List Token) → List ℕ × List Lexeme
 name_found x = (x.0.text.now, lexemes x.1.now)
 
+-- an operator that was read, and the words behind it
 abbrev pub operator_found : BinaryOperator × Bor (List Token) → BinaryOperator × List Lexeme
 operator_found x = (x.0, lexemes x.1.now)
 
+-- a list that was read, and the words behind it
 abbrev pub list_found : {X A : Type 0} → Vec X A × Bor (List Token) → List X × List Lexeme
 list_found x = (x.0.items, lexemes x.1.now)
 
@@ -50,6 +57,7 @@ head_found x = (x.0, x.1.items, lexemes x.2.now)
 abbrev pub sending_found : {A : Type 0} → Tree × Vec Tree A × Bor (List Token) → Tree × List Tree × List Lexeme
 sending_found x = (x.0, x.1.items, lexemes x.2.now)
 
+-- the variables and the decided names that were read, and the words behind them
 abbrev pub declared_found : Declared × Bor (List Token) → List Variable × List (List ℕ) × List Lexeme
 declared_found x = (x.0.variables.items, x.0.decides.items, lexemes x.1.now)
 

@@ -6,6 +6,8 @@ use Rattle.round_lang.specs.declared.expr.BinaryOperator.{BinaryOperator}
 use Rattle.round_lang.specs.declared.expr.Expr.{Expr}
 use Rattle.round_lang.specs.declared.expr.Expr.TheVariants.{Number, Fixed, Named, Unary', Binary', If', SetOf', RowOf'}
 
+-- an expression as pure data: a number, a constant, a name, an operator with its parts, `if`, a
+-- set {x : e}, a row [x : e]
 pub data Tree : Type 0 where
   TNumber : (n : ℕ) → Tree
   TFixed : (c : Constant) → Tree
@@ -16,6 +18,7 @@ pub data Tree : Type 0 where
   TSetOf : (x : List ℕ) (e : Tree) → Tree
   TRowOf : (x : List ℕ) (e : Tree) → Tree
 
+-- the tree of an expression in memory
 abbrev pub tree_of : Expr → Tree
 tree_of (Number n) = TNumber n
 tree_of (Fixed c) = TFixed c

@@ -60,6 +60,7 @@ pub record IsSpot (kinds : List Kind) (place : ℕ) (kind : Kind) (start : ℕ) 
   pub kind_is : kind ≡ slice_index_or kinds place kind
   pub begins : start ≡ start_of kinds place
 
+-- the kind of a value
 abbrev pub kind_of : Value → Kind
 kind_of (Num n) = NumKind
 kind_of (Flag b) = FlagKind

@@ -14,6 +14,7 @@ abbrev pub scope_of : Scope → List (List ℕ × ℕ)
 scope_of Outermost = []
 scope_of (Inner' x v p s) = (x.now, v) ∷ scope_of s
 
+-- the environment that the evaluator's is
 abbrev pub env_of : CodeEnv → Env
 env_of env = record {
   values = env.values;

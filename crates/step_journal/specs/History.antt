@@ -33,6 +33,7 @@ mark_by i (Some a) (Some m) (Some b) = Released (steps i b)
 unfoldable pub mark_of : World → List Event → ℕ → ℕ → ℕ → Mark
 mark_of w t j i q = mark_by i (sent w t j i (suc q)) (message w t q j i) (released w t j i (suc q))
 
+-- what a release adds to its receiver's buffer: the message, where it was in flight
 abbrev pub arrival : Name → Mark → List Name
 arrival n Flying = n ∷ []
 arrival n Unsent = []

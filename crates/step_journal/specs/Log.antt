@@ -141,6 +141,7 @@ pub record Holds (start : ℕ → ℕ) (nodes : ℕ) (v : Log) (counts : List �
 abbrev pub states_of : {A : Type 0} → List (Arc (List Value) A) → Row
 states_of xs = map (λ a. arc_value a) xs
 
+-- the states of the rows that a book holds
 abbrev pub rows_of : {A B : Type 0} → List (Vec (Arc (List Value) A) B) → List Row
 rows_of xs = map (λ v. states_of v.items) xs
 

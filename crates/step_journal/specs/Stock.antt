@@ -33,6 +33,7 @@ flying_at b k = slice_index_or b.flying k None
 abbrev pub SameFlying : Stock → Stock → Type 0
 SameFlying old new = (k : ℕ) → flying_at new k ≡ flying_at old k
 
+-- the names of frames
 abbrev pub names_in : List Frame → List Name
 names_in fs = map (λ f. f.name) fs
 

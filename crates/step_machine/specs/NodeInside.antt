@@ -6,6 +6,7 @@ use Rattle.round_meaning.specs.Setups.{IsSized}
 use Rattle.step_machine.specs.declared.node.Node.TheInside.{Inside}
 use Rattle.step_machine.specs.Nodes.{NodeView, AreHeld, IsToldToAll, algorithm_in}
 
+-- the node that its fields make
 abbrev pub node_seen : Inside → NodeView
 node_seen s = record {
   program = s.program;

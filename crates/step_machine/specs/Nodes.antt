@@ -24,6 +24,7 @@ pub record NodeView : Type 0 where
   pub held : List HeldRow
   pub next : Option (List Value)
 
+-- the algorithm of a node's program and setup
 abbrev pub algorithm_in : NodeView → Algorithm
 algorithm_in n = algorithm_of n.program n.setup
 
