@@ -1,3 +1,4 @@
 pub mod Explained
 pub mod Library
 pub mod Served
+pub mod Desks

@@ -45,8 +45,9 @@ impl<'a> Run<'a> {
         question: Question<'_>,
         desk: &mut D,
     ) -> Result<Answer, Refusal>
-        ensures { IfOk result (λ answer. (p : ProgramTree) × IsProgramOf self.now.source (D.files desk.old) p
+        ensures answer { IfOk result (λ answer. (p : ProgramTree) × IsProgramOf self.now.source (D.files desk.old) p
             × AnswersRun p (D.files desk.old self.now.schedule.now) question.entry answer) }
+        ensures written { D.written desk.new ≡ D.written desk.old }
     {
         let opened = Opened::open(alloc, self.source, desk)?;
         let schedule = schedule_in(alloc, self.schedule, desk)?;
@@ -66,8 +67,9 @@ impl<'a> Run<'a> {
 
 /// The schedule in a file; its text is let go before the run.
 fn schedule_in<D: Desk>(alloc: Global, name: &str, desk: &mut D) -> Result<Schedule, Refusal>
-    ensures { IfOk result (λ schedule. IfSome (D.files desk.old name.now)
+    ensures schedule { IfOk result (λ schedule. IfSome (D.files desk.old name.now)
         (λ text. IsSchedule text schedule.setup schedule.plan schedule.events.items)) }
+    ensures written { D.written desk.new ≡ D.written desk.old }
 {
     match Text::read(alloc, name, MAX_TEXT, desk)? {
         Text::Whole(bytes) => match str::from_utf8(&bytes) {

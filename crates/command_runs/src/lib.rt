@@ -10,10 +10,12 @@ mod refusal;
 mod run;
 mod sources;
 mod texts;
+mod written;
 
 pub use desk::{Desk, DeskFault};
 pub use explained::{Terms, explained_run, judged_run};
 pub use library::{LibraryFault, gather};
 pub use memory_desk::MemoryDesk;
+pub use written::Written;
 pub use refusal::Refusal;
 pub use run::run_words;

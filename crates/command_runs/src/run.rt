@@ -31,7 +31,9 @@ pub fn run_words<'a, D: Desk, O: Write, E: Write>(
     // words ask for help or the version, of whose text nothing is said.
     ensures served { result ≡ 0 → IsServed (map (λ s. s.now) words.entry.now) (D.files desk.old)
         (O.contents out.old) (O.contents out.new) ⊎ AsksForHelp (map (λ s. s.now) words.entry.now) }
-    // And nothing was written to `err`.
+    // No command writes a file.
+    ensures written { D.written desk.new ≡ D.written desk.old }
+    // With status 0 nothing was written to `err`.
     ensures quiet { result ≡ 0 → Keeps (E.contents err.old) (E.contents err.new) }
 {
     match serve(alloc, words, desk, out) {
@@ -50,8 +52,9 @@ fn serve<'a, D: Desk, O: Write>(
     desk: &mut D,
     out: &mut O,
 ) -> Result<(), Refusal>
-    ensures { OnOk result (IsServed (map (λ s. s.now) words.entry.now) (D.files desk.old)
+    ensures served { OnOk result (IsServed (map (λ s. s.now) words.entry.now) (D.files desk.old)
         (O.contents out.old) (O.contents out.new) ⊎ AsksForHelp (map (λ s. s.now) words.entry.now)) }
+    ensures written { D.written desk.new ≡ D.written desk.old }
 {
     match read_words(alloc, words) {
         Ok(command) => carry_out(alloc, command, desk, out),
@@ -69,8 +72,9 @@ fn carry_out<'a, D: Desk, O: Write>(
     desk: &mut D,
     out: &mut O,
 ) -> Result<(), Refusal>
-    ensures { OnOk result (Serves command.entry (D.files desk.old)
+    ensures served { OnOk result (Serves command.entry (D.files desk.old)
         (O.contents out.old) (O.contents out.new)) }
+    ensures written { D.written desk.new ≡ D.written desk.old }
 {
     match command {
         Words::Check { source } => {

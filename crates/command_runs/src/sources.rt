@@ -30,6 +30,7 @@ impl<'a> Opened<'a> {
     ) -> Result<Opened<'a>, Refusal>
         ensures opened { IfOk result (Opens source.entry (D.files desk.old)) }
         ensures files { (name : List ℕ) → D.files desk.new name ≡ D.files desk.old name }
+        ensures written { D.written desk.new ≡ D.written desk.old }
     {
         match source {
             Source::File(name) => {

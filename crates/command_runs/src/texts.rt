@@ -25,6 +25,7 @@ impl Text {
     ) -> Result<Text, DeskFault>
         ensures held { IfOk result (λ text. IfSome (D.files desk.old name.now) (IsTextOf limit text)) }
         ensures files { (other : List ℕ) → D.files desk.new other ≡ D.files desk.old other }
+        ensures written { D.written desk.new ≡ D.written desk.old }
     {
         let bytes = desk.read(alloc, name, limit)?;
         if bytes.len() > limit {

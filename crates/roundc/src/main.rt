@@ -25,7 +25,7 @@ fn texts<'a>(alloc: Global, words: &'a [String]) -> Result<Vec<&'a str>, AllocEr
 fn run(rt: &HostRuntime, alloc: Global) -> Result<u8, Unread> {
     let words = env::args(rt)?.collect::<Vec<String>>(alloc)?;
     let words = texts(alloc, words.as_slice())?;
-    let mut desk = HostDesk::new(rt);
+    let mut desk = HostDesk::new(rt, alloc);
     let mut out = BufWriter::new(alloc, rt.stdout())?;
     let mut err = rt.stderr();
     let status = run_words(alloc, words.as_slice(), &mut desk, &mut out, &mut err);
