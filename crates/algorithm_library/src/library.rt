@@ -1,5 +1,5 @@
 //! The programs of the library.
-ghost use Rattle.std.specs.Prelude.{◌≡◌, ◌≢◌, ◌↔◌, Err, IfOk, IsTrue};
+ghost use Rattle.std.specs.Prelude.{◌≡◌, ◌≢◌, ◌+◌, ◌*◌, ◌≤◌, ◌↔◌, Err, IfOk, IsTrue, OnOk};
 ghost use Rattle.algorithm_library.specs.declared.fault.LibraryFault.TheVariants as fault;
 ghost use Rattle.algorithm_library.specs.Programs.{count_votes_tree, gather_tree};
 ghost use Rattle.algorithm_library.specs.Refusals.{IsCount, IsTooFew, IsWithin};
@@ -51,6 +51,7 @@ pub fn dls1(alloc: Global, nodes: u32, faults: u32, values: u32) -> Result<Check
     ensures bad { (result ≡ Err fault.BadValues) ↔ (¬ (IsWithin nodes faults values)) }
     ensures few { (result ≡ Err fault.TooFew)
         ↔ (IsWithin nodes faults values × IsTooFew nodes faults) }
+    ensures majority { OnOk result (2 * faults + 1 ≤ nodes) }
     ensures program { IfOk result (λ p. p ≡ dls1_tree values) }
     ensures text { IfOk result (λ p. IsSource (text_of dls1_rest values) p) }
 {

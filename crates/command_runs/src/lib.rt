@@ -4,7 +4,6 @@
 mod asking;
 mod desk;
 mod explained;
-mod library;
 mod memory_desk;
 mod refusal;
 mod run;
@@ -13,7 +12,6 @@ mod texts;
 
 pub use desk::{Desk, DeskFault};
 pub use explained::{Terms, explained_run, judged_run};
-pub use library::{LibraryFault, gather};
 pub use memory_desk::MemoryDesk;
 pub use refusal::Refusal;
 pub use run::run_words;
