@@ -9,7 +9,7 @@ use Rattle.round_lang.specs.Source.{IsSource}
 use Rattle.round_lang.specs.Syntax.{ProgramTree}
 use Rattle.slot_plans.specs.declared.kind.PlanKind.{PlanKind}
 use Rattle.command_runs.specs.Explained.{IsReportOf, IsVerdictOf}
-use Rattle.command_runs.specs.Library.{gather_tree}
+use Rattle.command_runs.specs.Library.{Offers}
 use Rattle.command_runs.specs.Served.{Answered, AnswersRun, Files, Holds, IsProgramOf, IsSchedule, Opens, file_name, receives_of, start_of}
 use Rattle.command_runs.specs.declared.asking.Answer.{Answer}
 use Rattle.command_runs.specs.declared.asking.Answer.TheVariants as answer
@@ -19,36 +19,41 @@ use Rattle.command_runs.specs.declared.sources.Opened.{Opened}
 use Rattle.command_runs.specs.declared.sources.Opened.TheVariants as opened
 
 -- the program of what was opened is the source's
-pub program_of : (s : Source) (files : Files) (o : Opened) (p : ProgramTree) → Opens s files o → Holds o p → IsProgramOf s files p
-program_of (source.File name) files (opened.File q) p opens holds =
+pub program_of : (s : Source) (files : Files) (o : Opened) (n t : ℕ) (p : ProgramTree) → Opens s files o → Holds o n t p → IsProgramOf s files n t p
+program_of (source.File name) files (opened.File q) n t p opens holds =
     subst (λ (r : ProgramTree). IfSome (files (file_name name.now)) (λ text. IsSource text r)) (sym holds) opens
-program_of (source.Library name values) files (opened.Library n k) p opens holds =
-    (sym (ap (λ t. t.now) opens.0) ∙ holds.0, holds.1 ∙ ap gather_tree opens.1)
-program_of (source.File name) files (opened.Library n k) p opens holds = absurd opens
-program_of (source.Library name values) files (opened.File q) p opens holds = absurd opens
+program_of (source.Library name values) files (opened.Library m k) n t p opens holds =
+    subst (λ x. Offers x values n t p) (ap (λ t. t.now) opens.0) (subst (λ k. Offers m.now k n t p) opens.1 holds)
+program_of (source.File name) files (opened.Library m k) n t p opens holds = absurd opens
+program_of (source.Library name values) files (opened.File q) n t p opens holds = absurd opens
 
 -- an answer on a schedule that was read is one on its file
-pub answers_run : (start receives : ℕ → ℕ) (p : ProgramTree) (k : PlanKind) (s : Schedule) (q : Question) (file : Option (List ℕ)) (a : Answer) → s.plan ≡ k → start ≡ start_of k s.setup.nodes → receives ≡ receives_of k
-    → IfSome file (λ text. IsSchedule text s.setup s.plan s.events.items) → Answered start receives p s q a → AnswersRun p file q a
-answers_run start receives p k s question.Report None (answer.Report r) kind starts waits read said = tt
-answers_run start receives p k s question.Report (Some text) (answer.Report r) kind starts waits read said = (
+pub answers_run : (source : Source) (files : Files) (start receives : ℕ → ℕ) (p : ProgramTree) (k : PlanKind) (s : Schedule) (q : Question) (file : Option (List ℕ)) (a : Answer)
+    → IsProgramOf source files s.setup.nodes s.setup.faults p → s.plan ≡ k → start ≡ start_of k s.setup.nodes → receives ≡ receives_of k
+    → IfSome file (λ text. IsSchedule text s.setup s.plan s.events.items) → Answered start receives p s q a → AnswersRun source files file q a
+answers_run source files start receives p k s question.Report None (answer.Report r) is kind starts waits read said = tt
+answers_run source files start receives p k s question.Report (Some text) (answer.Report r) is kind starts waits read said = (
   s.setup,
   k,
   s.events.items,
+  p,
   subst (λ (l : PlanKind). IsSchedule text s.setup l s.events.items) kind read,
+  is,
   subst (λ f. IsReportOf f p s.setup s.events.items r) starts said,
 )
-answers_run start receives p k s (question.Verdict t) None (answer.Verdict v) kind starts waits read said = tt
-answers_run start receives p k s (question.Verdict t) (Some text) (answer.Verdict v) kind starts waits read said = (
+answers_run source files start receives p k s (question.Verdict t) None (answer.Verdict v) is kind starts waits read said = tt
+answers_run source files start receives p k s (question.Verdict t) (Some text) (answer.Verdict v) is kind starts waits read said = (
   s.setup,
   k,
   s.events.items,
+  p,
   subst (λ (l : PlanKind). IsSchedule text s.setup l s.events.items) kind read,
+  is,
   subst (λ f. IsVerdictOf (start_of k s.setup.nodes) f p s.setup s.events.items t.correct.now t.delta t.gst v) waits
       (subst (λ f. IsVerdictOf f receives p s.setup s.events.items t.correct.now t.delta t.gst v) starts said),
 )
-answers_run start receives p k s question.Report file (answer.Verdict v) kind starts waits read said = absurd said
-answers_run start receives p k s (question.Verdict t) file (answer.Report r) kind starts waits read said = absurd said
+answers_run source files start receives p k s question.Report file (answer.Verdict v) is kind starts waits read said = absurd said
+answers_run source files start receives p k s (question.Verdict t) file (answer.Report r) is kind starts waits read said = absurd said
 
 -- what was written and then kept was written
 appends_kept : (a b c : Option (List ℕ)) (text : List ℕ) → Appends a b text → Keeps b c → Appends a c text

@@ -1,30 +1,12 @@
--- The programs that come with the product.
-use Rattle.std.specs.Prelude.{ℕ, [], ◌∷◌, codes}
-use Rattle.round_lang.specs.declared.expr.BinaryOperator.TheVariants.{Union}
-use Rattle.round_lang.specs.declared.expr.Constant.TheVariants.{True}
-use Rattle.round_lang.specs.declared.expr.Ty.TheVariants.{Set}
-use Rattle.round_lang.specs.declared.expr.UnaryOperator.TheVariants.{Single}
-use Rattle.round_lang.specs.declared.program.VariableKind.TheVariants.{Input, State}
-use Rattle.round_lang.specs.Syntax.{BlockTree, ProgramTree}
-use Rattle.round_lang.specs.Tree.{TBinary, TFixed, TNamed, TUnary}
+-- The programs of the library, by their names.
+use Rattle.std.specs.Prelude.{◌≡◌, ◌⊎◌, ◌+◌, ◌*◌, ◌≤◌, ℕ, List, codes}
+use Rattle.algorithm_library.specs.Programs.{count_votes_tree, gather_tree}
+use Rattle.round_lang.specs.Syntax.{ProgramTree}
+use Rattle.round_meaning.specs.Algorithm1.{dls1}
 
--- at 1: message (s: set) send when true: (seen) on message: seen := seen union s; end:
-abbrev pub gather_round : BlockTree
-gather_round = record {
-  number = 1;
-  fields = record { name = codes "s"; ty = Set } ∷ [];
-  condition = TFixed True;
-  sent = TNamed (codes "seen") ∷ [];
-  on_message = record { target = codes "seen"; formula = TBinary Union (TNamed (codes "seen")) (TNamed (codes "s")) } ∷ [];
-  end = [];
-}
-
--- values k period 1 input x state seen: set = single(x) decide seen, and this round
-abbrev pub gather_tree : ℕ → ProgramTree
-gather_tree k = record {
-  values = k;
-  period = 1;
-  variables = record { name = codes "x"; kind = Input } ∷ record { name = codes "seen"; kind = State Set (TUnary Single (TNamed (codes "x"))) } ∷ [];
-  decides = codes "seen" ∷ [];
-  blocks = gather_round ∷ [];
-}
+-- the library's program under a name, for K values and where it runs on so many nodes with so many faults
+abbrev pub Offers : (name : List ℕ) (k nodes faults : ℕ) → ProgramTree → Type 0
+Offers name k nodes faults p =
+    ((name ≡ codes "gather") × (p ≡ gather_tree k))
+    ⊎ (((name ≡ codes "count_votes") × (p ≡ count_votes_tree k))
+    ⊎ ((name ≡ codes "dls1") × (p ≡ dls1 k) × (2 * faults + 1 ≤ nodes)))

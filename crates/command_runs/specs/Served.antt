@@ -14,7 +14,7 @@ use Rattle.command_runs.specs.declared.sources.Opened.TheVariants as opened
 use Rattle.command_runs.specs.declared.texts.Text.{Text}
 use Rattle.command_runs.specs.declared.texts.Text.TheVariants as text
 use Rattle.command_runs.specs.Explained.{IsReportOf, IsVerdictOf}
-use Rattle.command_runs.specs.Library.{gather_tree}
+use Rattle.command_runs.specs.Library.{Offers}
 use Rattle.clap.specs.Words.{IsAmong, fault_of}
 use Rattle.clap.specs.declared.error.ErrorKind.TheVariants as kind
 use Rattle.command_words.specs.Commands.{roundc_app}
@@ -54,10 +54,10 @@ abbrev pub SpellsProgram : Text → ProgramTree → Type 0
 SpellsProgram (text.Whole bytes) p = IsSource bytes.items p
 SpellsProgram (text.Longer bytes) p = ⊥
 
--- the program of a source: what the file's text is, or the library's
-abbrev pub IsProgramOf : Source → Files → ProgramTree → Type 0
-IsProgramOf (File name) files p = IfSome (files (file_name name.now)) (λ text. IsSource text p)
-IsProgramOf (Library name values) files p = (name.now ≡ codes "gather") × (p ≡ gather_tree values)
+-- the program of a source, for so many nodes and faults: what the file's text is, or the library's
+abbrev pub IsProgramOf : Source → Files → (nodes faults : ℕ) → ProgramTree → Type 0
+IsProgramOf (File name) files nodes faults p = IfSome (files (file_name name.now)) (λ text. IsSource text p)
+IsProgramOf (Library name values) files nodes faults p = Offers name.now values nodes faults p
 
 -- a source that was opened: the program of its file, or what it names of the library
 abbrev pub Opens : Source → Files → Opened → Type 0
@@ -65,10 +65,10 @@ Opens (File name) files (opened.File p) = IfSome (files (file_name name.now)) (�
 Opens (Library name values) files (opened.Library n k) = (n ≡ name) × (k ≡ values)
 Opens _ files _ = ⊥
 
--- the program of an opened source
-abbrev pub Holds : Opened → ProgramTree → Type 0
-Holds (opened.File q) p = p ≡ q
-Holds (opened.Library name values) p = (name.now ≡ codes "gather") × (p ≡ gather_tree values)
+-- the program of an opened source, for so many nodes and faults
+abbrev pub Holds : Opened → (nodes faults : ℕ) → ProgramTree → Type 0
+Holds (opened.File q) nodes faults p = p ≡ q
+Holds (opened.Library name values) nodes faults p = Offers name.now values nodes faults p
 
 -- at which step each round starts, by the plan's name
 abbrev pub start_of : PlanKind → ℕ → ℕ → ℕ
@@ -90,21 +90,23 @@ summary_text p =
     codes "ok values " ++ decimal p.values ++ codes " period " ++ decimal p.period ++ codes " variables "
     ++ decimal (length p.variables) ++ codes "\n"
 
--- the report of the program's run under the schedule in a file
-abbrev pub ReportsRun : ProgramTree → Option (List ℕ) → Report → Type 0
-ReportsRun p file report = IfSome file (λ text. (s : Setup) × (k : PlanKind) × (events : List Event)
-    × IsSchedule text s k events × IsReportOf (start_of k s.nodes) p s events report)
+-- the report of the source's run under the schedule in a file
+abbrev pub ReportsRun : Source → Files → Option (List ℕ) → Report → Type 0
+ReportsRun source files file report = IfSome file (λ text. (s : Setup) × (k : PlanKind) × (events : List Event) × (p : ProgramTree)
+    × IsSchedule text s k events × IsProgramOf source files s.nodes s.faults p × IsReportOf (start_of k s.nodes) p s events report)
 
--- the verdict on the program's run under the schedule in a file
-abbrev pub JudgesRun : ProgramTree → Option (List ℕ) → List ℕ → ℕ → ℕ → Verdict → Type 0
-JudgesRun p file correct delta gst verdict = IfSome file (λ text. (s : Setup) × (k : PlanKind) × (events : List Event)
-    × IsSchedule text s k events × IsVerdictOf (start_of k s.nodes) (receives_of k) p s events correct delta gst verdict)
+-- the verdict on the source's run under the schedule in a file
+abbrev pub JudgesRun : Source → Files → Option (List ℕ) → List ℕ → ℕ → ℕ → Verdict → Type 0
+JudgesRun source files file correct delta gst verdict = IfSome file (λ text. (s : Setup) × (k : PlanKind) × (events : List Event) × (p : ProgramTree)
+    × IsSchedule text s k events × IsProgramOf source files s.nodes s.faults p
+    × IsVerdictOf (start_of k s.nodes) (receives_of k) p s events correct delta gst verdict)
 
 -- the answer to a question on a run
-abbrev pub AnswersRun : ProgramTree → Option (List ℕ) → Question → Answer → Type 0
-AnswersRun p file question.Report (answer.Report report) = ReportsRun p file report
-AnswersRun p file (question.Verdict terms) (answer.Verdict verdict) = JudgesRun p file terms.correct.now terms.delta terms.gst verdict
-AnswersRun p file _ _ = ⊥
+abbrev pub AnswersRun : Source → Files → Option (List ℕ) → Question → Answer → Type 0
+AnswersRun source files file question.Report (answer.Report report) = ReportsRun source files file report
+AnswersRun source files file (question.Verdict terms) (answer.Verdict verdict) =
+    JudgesRun source files file terms.correct.now terms.delta terms.gst verdict
+AnswersRun source files file _ _ = ⊥
 
 -- the same of a schedule that was read, under a plan
 abbrev pub Answered : (start receives : ℕ → ℕ) → ProgramTree → Schedule → Question → Answer → Type 0
@@ -117,13 +119,13 @@ abbrev pub answer_text : Answer → List ℕ
 answer_text (answer.Report report) = report_text report
 answer_text (answer.Verdict verdict) = verdict_text verdict ++ codes "\n"
 
--- what `out` gained is what the command prints
+-- what `out` gained is what the command prints; a program is checked as for one node without faults
 abbrev pub Serves : Words → Files → Option (List ℕ) → Option (List ℕ) → Type 0
-Serves (Check source) files old new = (p : ProgramTree) × IsProgramOf source files p × Appends old new (summary_text p)
-Serves (Run source schedule) files old new = (p : ProgramTree) × IsProgramOf source files p
-    × ((report : Report) × ReportsRun p (files schedule.now) report × Appends old new (report_text report))
-Serves (Judge source schedule correct delta gst) files old new = (p : ProgramTree) × IsProgramOf source files p
-    × ((verdict : Verdict) × JudgesRun p (files schedule.now) correct.items delta gst verdict × Appends old new (verdict_text verdict ++ codes "\n"))
+Serves (Check source) files old new = (p : ProgramTree) × IsProgramOf source files 1 0 p × Appends old new (summary_text p)
+Serves (Run source schedule) files old new =
+    (report : Report) × ReportsRun source files (files schedule.now) report × Appends old new (report_text report)
+Serves (Judge source schedule correct delta gst) files old new =
+    (verdict : Verdict) × JudgesRun source files (files schedule.now) correct.items delta gst verdict × Appends old new (verdict_text verdict ++ codes "\n")
 
 -- the words mean a command, and it was served
 abbrev pub IsServed : List (List ℕ) → Files → Option (List ℕ) → Option (List ℕ) → Type 0

@@ -1,7 +1,6 @@
 //! What is asked of the run of a schedule.
 ghost use Rattle.std.specs.Prelude.{◌≡◌, IfOk, IfSome};
-ghost use Rattle.command_runs.specs.Served.{Answered, AnswersRun, IsProgramOf, IsSchedule};
-ghost use Rattle.round_lang.specs.Syntax.{ProgramTree};
+ghost use Rattle.command_runs.specs.Served.{Answered, AnswersRun, IsSchedule};
 
 use crate::desk::Desk;
 use crate::explained::{Terms, explained_run, judged_run};
@@ -45,13 +44,14 @@ impl<'a> Run<'a> {
         question: Question<'_>,
         desk: &mut D,
     ) -> Result<Answer, Refusal>
-        ensures answer { IfOk result (λ answer. (p : ProgramTree) × IsProgramOf self.now.source (D.files desk.old) p
-            × AnswersRun p (D.files desk.old self.now.schedule.now) question.entry answer) }
+        ensures answer { IfOk result (AnswersRun self.now.source (D.files desk.old)
+            (D.files desk.old self.now.schedule.now) question.entry) }
         ensures written { D.written desk.new ≡ D.written desk.old }
     {
         let opened = Opened::open(alloc, self.source, desk)?;
         let schedule = schedule_in(alloc, self.schedule, desk)?;
-        let program = opened.program(alloc)?;
+        let setup = &schedule.setup;
+        let program = opened.program(alloc, setup.nodes, setup.faults)?;
         match schedule.plan {
             PlanKind::Known(delta) => match Known::new(schedule.setup.nodes, delta) {
                 Some(plan) => answer_of(alloc, &program, &schedule, plan, question),

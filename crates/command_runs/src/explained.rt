@@ -2,6 +2,8 @@
 ghost use Rattle.std.specs.Prelude.{◌≡◌, ◌<◌, ◌⊎◌, ◌↔◌, All, Err, IfErr, IfNone, IfOk, IfSome};
 ghost use Rattle.adversary.specs.Driving.{IsKnown, RunCause};
 ghost use Rattle.command_runs.specs.Explained.{AreListed, IsReportOf, IsVerdictOf};
+ghost use Rattle.omission_explainer.specs.Decided.{AreAgreed, AreInputs};
+ghost use Rattle.round_meaning.specs.Agreement.{RunsAlgorithm1};
 ghost use Rattle.round_meaning.specs.Setups.{IsLawful};
 
 use adversary::{RunFault, run_schedule};
@@ -13,7 +15,9 @@ use slot_plans::Plan;
 use std::alloc::Global;
 use step_machine::Event;
 
-/// The report of running a schedule's events in single steps: the run explained in rounds.
+/// The report of running a schedule's events in single steps: the run explained in rounds. Where the
+/// program is Algorithm 1, for a setup with fewer than half of the nodes faulty, all decisions in it
+/// are equal, and each is some node's input.
 ///
 /// Refusals are those of `run_schedule`.
 pub fn explained_run<P: Plan>(
@@ -28,6 +32,10 @@ pub fn explained_run<P: Plan>(
     ensures cause { IfErr result (RunCause setup.now events.now) }
     ensures known { IfOk result (λ _answer. All (IsKnown setup.now) events.now) }
     ensures explained { IfOk result (IsReportOf (P.start plan) program.now setup.now events.now) }
+    ensures agreement { IfOk result
+        (λ report. RunsAlgorithm1 program.now setup.now → AreAgreed report.rows) }
+    ensures validity { IfOk result
+        (λ report. RunsAlgorithm1 program.now setup.now → AreInputs setup.now report.rows) }
 {
     let journal = run_schedule(alloc, program, setup, plan, events)?;
     match explain(alloc, &journal) {

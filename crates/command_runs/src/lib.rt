@@ -4,7 +4,6 @@
 mod asking;
 mod desk;
 mod explained;
-mod library;
 mod memory_desk;
 mod refusal;
 mod run;
@@ -14,7 +13,6 @@ mod written;
 
 pub use desk::{Desk, DeskFault};
 pub use explained::{Terms, explained_run, judged_run};
-pub use library::{LibraryFault, gather};
 pub use memory_desk::MemoryDesk;
 pub use written::Written;
 pub use refusal::Refusal;

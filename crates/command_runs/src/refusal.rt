@@ -2,8 +2,8 @@
 ghost use Rattle.std.specs.Prelude.{◌≡◌, ◌<◌, ◌≤◌};
 
 use crate::desk::DeskFault;
-use crate::library::LibraryFault;
 use adversary::{RunFault, ScheduleFault};
+use algorithm_library::LibraryFault;
 use command_words::WordsFault;
 use round_check::CheckFault;
 use round_lang::{LangFault, NoMemory, Span};
@@ -52,6 +52,8 @@ pub enum Refusal {
     Library {
         kind: u8,
     },
+    #[error("refused library 3\n")]
+    NoSuchProgram,
     #[error("refused run 1\n")]
     BadSetup,
     #[error("refused run {kind} at {position}\n")]
@@ -153,7 +155,6 @@ impl From<LibraryFault> for Refusal {
         match fault {
             LibraryFault::TooFew => Refusal::Library { kind: 1 },
             LibraryFault::BadValues => Refusal::Library { kind: 2 },
-            LibraryFault::NoSuchName => Refusal::Library { kind: 3 },
             LibraryFault::NoMemory => Refusal::NoMemory,
         }
     }

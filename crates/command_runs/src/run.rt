@@ -78,7 +78,7 @@ fn carry_out<'a, D: Desk, O: Write>(
 {
     match command {
         Words::Check { source } => {
-            let program = Opened::open(alloc, source, desk)?.program(alloc)?;
+            let program = Opened::open(alloc, source, desk)?.program(alloc, 1, 0)?;
             written(write_summary(&program, out), out)
         }
         Words::Run { source, schedule } => {

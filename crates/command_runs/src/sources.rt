@@ -1,12 +1,12 @@
 //! Programs, from source files and from the library.
-ghost use Rattle.std.specs.Prelude.{◌≡◌, ℕ, List, IfOk, codes};
-ghost use Rattle.command_runs.specs.Library.{gather_tree};
+ghost use Rattle.std.specs.Prelude.{◌≡◌, ℕ, List, IfOk};
+ghost use Rattle.command_runs.specs.Library.{Offers};
 ghost use Rattle.command_runs.specs.Served.{Holds, Opens, SpellsProgram, file_name};
 
 use crate::desk::Desk;
-use crate::library::{LibraryFault, gather};
 use crate::refusal::Refusal;
 use crate::texts::{Text, begin_utf8};
+use algorithm_library::{count_votes, dls1, gather};
 use command_words::Source;
 use round_check::{Checked, check};
 use round_lang::{LangFault, MAX_TEXT, parse};
@@ -41,13 +41,13 @@ impl<'a> Opened<'a> {
         }
     }
 
-    /// The program.
-    pub fn program(self, alloc: Global) -> Result<Checked, Refusal>
-        ensures { IfOk result (Holds self.entry) }
+    /// The program, for a run on so many nodes of which up to `faults` may fail.
+    pub fn program(self, alloc: Global, nodes: u32, faults: u32) -> Result<Checked, Refusal>
+        ensures { IfOk result (Holds self.entry nodes faults) }
     {
         match self {
             Opened::File(program) => Ok(program),
-            Opened::Library { name, values } => Ok(library_program(alloc, name, values)?),
+            Opened::Library { name, values } => offered(alloc, name, values, nodes, faults),
         }
     }
 }
@@ -73,11 +73,19 @@ fn file_name(name: &str) -> &str
     if name == "-" { "./-" } else { name }
 }
 
-fn library_program(alloc: Global, name: &str, values: u32) -> Result<Checked, LibraryFault>
-    ensures { IfOk result (λ p. (name.now ≡ codes "gather") × (p ≡ gather_tree values)) }
+fn offered(
+    alloc: Global,
+    name: &str,
+    values: u32,
+    nodes: u32,
+    faults: u32,
+) -> Result<Checked, Refusal>
+    ensures { IfOk result (Offers name.now values nodes faults) }
 {
     match name {
-        "gather" => gather(alloc, values),
-        _ => Err(LibraryFault::NoSuchName),
+        "gather" => Ok(gather(alloc, values)?),
+        "count_votes" => Ok(count_votes(alloc, values)?),
+        "dls1" => Ok(dls1(alloc, nodes, faults, values)?),
+        _ => Err(Refusal::NoSuchProgram),
     }
 }

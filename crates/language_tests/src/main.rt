@@ -8,10 +8,12 @@
 //! language_tests same FILE
 //! language_tests node FILE NODE NODES FAULTS ROUNDS INPUT ..
 //! language_tests rounds FILE NODES FAULTS ROUNDS INPUT ..
+//! language_tests library NAME VALUES NODES FAULTS ROUNDS INPUT ..
 //! ```
 //!
-//! FILE has a program. But for `program` and `checked`, each line of standard input is an act, and a line
-//! of standard output its answer.
+//! FILE has a program; `library` does with a program of the library what `rounds` does with a file's.
+//! But for `program` and `checked`, each line of standard input is an act, and a line of standard
+//! output its answer.
 #![tactic(auto)]
 
 mod acts;
@@ -34,7 +36,7 @@ use fault::Fault;
 use list::List;
 use node::Node;
 use pairs::Changes;
-use reading::{checked_of, number, setup_of};
+use reading::{checked_of, number, offered, setup_of};
 use rounds::Run;
 use std::alloc::Global;
 use std::io::Write;
@@ -82,6 +84,23 @@ fn act_in_rounds(
     answer_all(alloc, &mut run, input, out)
 }
 
+/// Acts on the nodes in rounds, of a program of the library.
+fn act_in_library(
+    alloc: Global,
+    name: &str,
+    words: &[&str],
+    input: &str,
+    out: &mut String,
+) -> Result<(), Fault> {
+    let [values, setup @ ..] = words else {
+        return Err(Fault::Unreadable);
+    };
+    let setup = setup_of(alloc, setup)?;
+    let program = offered(alloc, name, number(values)?, &setup)?;
+    let mut run = Run::new(alloc, &program, &setup)?;
+    answer_all(alloc, &mut run, input, out)
+}
+
 /// Answers about the program of a text.
 fn answer_of_program(
     alloc: Global,
@@ -118,6 +137,9 @@ fn answer(rt: &HostRuntime, alloc: Global) -> Result<String, Fault> {
     let mut out = String::new(alloc);
     match words.as_slice() {
         [command] => answer_acts(alloc, command, input.as_str(), &mut out)?,
+        ["library", name, words @ ..] => {
+            act_in_library(alloc, name, words, input.as_str(), &mut out)?;
+        }
         [command, file, words @ ..] => {
             let text = fs::read_to_string(rt, *file)?;
             answer_of_program(

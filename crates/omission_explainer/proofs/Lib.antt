@@ -11,3 +11,4 @@ pub mod Keeping
 pub mod PrintedRounds
 pub mod Verdicts
 pub mod Clear
+pub mod Summaries

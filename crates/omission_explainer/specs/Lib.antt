@@ -6,3 +6,4 @@ pub mod Verdict
 pub mod Lateness
 pub mod InRounds
 pub mod Short
+pub mod Decided

@@ -1,17 +1,21 @@
 //! A run of single steps explained as a run in rounds with omissions: the report and its text.
 #![tactic(auto)]
 
+mod deciding;
 mod explaining;
 mod judging;
 mod listed;
 mod printed;
 mod report;
 mod short_text;
+mod summary;
 mod writing;
 
+pub use deciding::decided;
 pub use explaining::explain;
 pub use judging::{Verdict, judge};
 pub use listed::Listed;
 pub use printed::{omissions_give_inbox, sets_part_nodes};
 pub use report::{Report, ReportRow};
+pub use summary::Decided;
 pub use writing::write_report;

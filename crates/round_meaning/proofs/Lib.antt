@@ -11,3 +11,14 @@ pub mod TypedTurns
 pub mod TypedStarts
 mod Broadcasts
 pub mod EqualityLaws
+pub mod PhaseSteps
+pub mod SetReading
+pub mod Hearing
+pub mod LockInvariant
+pub mod ProposalRound
+pub mod LockRound
+pub mod DecisionRound
+pub mod ReleaseRound
+pub mod PhaseRuns
+pub mod PhaseProgram
+pub mod Consensus

@@ -13,3 +13,5 @@ pub mod States
 pub mod Laws
 pub mod Typed
 pub mod Broadcast
+pub mod Algorithm1
+pub mod Agreement

@@ -1,5 +1,6 @@
 //! Laws of the definitions; the functions do nothing.
 ghost use Rattle.round_meaning.specs.Typed.{EndsAreStates, SendsAreMessages, StartsAreStates, TypedValuesFit};
+ghost use Rattle.round_meaning.specs.Agreement.{Agreement, DecisionsAreLocked, NoOtherLocks, Validity};
 ghost use Rattle.round_meaning.specs.Laws.{DifferencesAreExact, DifferencesStop, OnlyPastCounts, OnlySendersCount, OnlySendersCountInRuns, SumsAreExact, SumsStop};
 
 use round_check::Checked;
@@ -38,3 +39,17 @@ pub fn types_are_kept(program: &Checked)
     program.typed();
     let _values = program.program().values();
 }
+
+/// Algorithm 1 under every omission table: any two decisions, of any nodes at any rounds, are equal,
+/// and each is some node's input.
+pub fn decisions_agree()
+    ensures agreement { Agreement }
+    ensures validity { Validity }
+{}
+
+/// The invariant behind it: from the round on in which v is decided in phase k, more than t nodes
+/// hold a lock on v of phase k or later, and no lock on another value has phase k or later.
+pub fn decisions_are_locked()
+    ensures holders { DecisionsAreLocked }
+    ensures others { NoOtherLocks }
+{}

@@ -4,6 +4,7 @@ use Rattle.omission_explainer.specs.InRounds.{IsOfRounds, printed_omits}
 use Rattle.omission_explainer.specs.Reported.{IsReported, names_in, types_in}
 use Rattle.round_lang.specs.Syntax.{ProgramTree}
 use Rattle.round_meaning.specs.Rounds.{algorithm_of}
+use Rattle.command_runs.proofs.Agreeing.{report_agrees}
 use Rattle.command_runs.proofs.explained.explained_run.Goals as goal
 
 pub returns-in-Ok-clause-explained : goal.returns-in-Ok-clause-explained
@@ -26,3 +27,11 @@ returns-in-Ok-clause-explained g c =
       in_rounds = subst (λ s. All (IsOfRounds (algorithm_of c.args.program.now s) (printed_omits rows)) rows) ran.setup of_program;
       counted = said.counted;
     }
+
+pub returns-in-Ok-clause-agreement : goal.returns-in-Ok-clause-agreement
+returns-in-Ok-clause-agreement g c runs =
+    (report_agrees _ c.args.program.now c.args.setup.now c.args.events.now c.in-Ok.report (returns-in-Ok-clause-explained g c) runs).0
+
+pub returns-in-Ok-clause-validity : goal.returns-in-Ok-clause-validity
+returns-in-Ok-clause-validity g c runs =
+    (report_agrees _ c.args.program.now c.args.setup.now c.args.events.now c.in-Ok.report (returns-in-Ok-clause-explained g c) runs).1

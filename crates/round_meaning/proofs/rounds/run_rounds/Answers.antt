@@ -5,6 +5,7 @@ use Rattle.std.proofs.lemmas.List.FromFn.{length-map-range_with_len}
 use Rattle.round_meaning.specs.Omissions.{is_omitted}
 use Rattle.round_meaning.specs.Rounds.{algorithm, algorithm_of}
 use Rattle.round_meaning.specs.States.{States, states_after}
+use Rattle.round_meaning.proofs.Consensus.{table_agrees, table_decides_inputs}
 use Rattle.round_meaning.proofs.Lists.{map_push}
 use Rattle.round_meaning.proofs.RoundLaws.{HasRun-from_rows, IsComplete-from_rows, row-states_after, rows_none}
 use Rattle.round_meaning.proofs.rounds.run_rounds.Goals as goal
@@ -52,3 +53,11 @@ returns-clause-states c =
     let omitted = is_omitted c.args.omissions.now in
     let all : c.loop-done.done ≡ c.new.result.rounds = omega (arith, ap (λ (t : States). t.rounds) c.new.ensures) in
     HasRun-from_rows c.new.result a omitted (ap (λ (t : States). t.nodes) c.new.ensures) (ap (λ (t : States). t.by_round) c.new.ensures ∙ c.loop-done.invariant ∙ ap (λ n. map (states_after a omitted) (range_with_len 0 (n + 1))) all)
+
+pub returns-clause-agreement : goal.returns-clause-agreement
+returns-clause-agreement c =
+    table_agrees c.args.program.now c.args.setup.now (is_omitted c.args.omissions.now) c.new.result (ap (λ (t : States). t.program) c.new.ensures ∙ c.in_ok-copy.ensures) (ap (λ (t : States). t.nodes) c.new.ensures) (returns-clause-states c)
+
+pub returns-clause-validity : goal.returns-clause-validity
+returns-clause-validity c =
+    table_decides_inputs c.args.program.now c.args.setup.now (is_omitted c.args.omissions.now) c.new.result (ap (λ (t : States). t.program) c.new.ensures ∙ c.in_ok-copy.ensures) (ap (λ (t : States). t.nodes) c.new.ensures) (returns-clause-states c)

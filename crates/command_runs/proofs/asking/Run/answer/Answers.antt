@@ -13,13 +13,10 @@ returns-in-Some g c =
     let files = g.D.Desk.files c.args.desk.now in
     let s = c.in_ok-schedule.schedule in
     let read = subst (λ file. IfSome file (λ text. IsSchedule text s.setup s.plan s.events.items)) (c.open.ensures.files run.schedule.now) c.in_ok-schedule.ensures in
-    let is = program_of run.source files c.in_ok-opened.opened c.in_ok-program.program c.in_ok-opened.ensures.opened c.in_ok-program.ensures in
+    let is = program_of run.source files c.in_ok-opened.opened s.setup.nodes s.setup.faults c.in_ok-program.program c.in_ok-opened.ensures.opened c.in_ok-program.ensures in
     let made = c.in-Some.ensures.made in
-    IfOk-weaker c.answer_of.result _ _ (λ a h. (
-      c.in_ok-program.program,
-      is,
-      answers_run _ _ c.in_ok-program.program _ s c.args.question (files run.schedule.now) a c.in-Known.is (ap₂ known_start made.0 made.1) (ap (λ d r. d) made.1) read h,
-    )) c.answer_of.ensures
+    IfOk-weaker c.answer_of.result _ _ (λ a h.
+    answers_run run.source files _ _ c.in_ok-program.program _ s c.args.question (files run.schedule.now) a is c.in-Known.is (ap₂ known_start made.0 made.1) (ap (λ d r. d) made.1) read h) c.answer_of.ensures
 
 pub returns-in-Some-new : goal.returns-in-Some-new
 returns-in-Some-new g c =
@@ -27,9 +24,6 @@ returns-in-Some-new g c =
     let files = g.D.Desk.files c.args.desk.now in
     let s = c.in_ok-schedule.schedule in
     let read = subst (λ file. IfSome file (λ text. IsSchedule text s.setup s.plan s.events.items)) (c.open.ensures.files run.schedule.now) c.in_ok-schedule.ensures in
-    let is = program_of run.source files c.in_ok-opened.opened c.in_ok-program.program c.in_ok-opened.ensures.opened c.in_ok-program.ensures in
-    IfOk-weaker c.answer_of-in-Some-new.result _ _ (λ a h. (
-      c.in_ok-program.program,
-      is,
-      answers_run _ _ c.in_ok-program.program _ s c.args.question (files run.schedule.now) a c.in-Growing.is (ap growing_start c.in-Some-new.ensures.made) refl read h,
-    )) c.answer_of-in-Some-new.ensures
+    let is = program_of run.source files c.in_ok-opened.opened s.setup.nodes s.setup.faults c.in_ok-program.program c.in_ok-opened.ensures.opened c.in_ok-program.ensures in
+    IfOk-weaker c.answer_of-in-Some-new.result _ _ (λ a h.
+    answers_run run.source files _ _ c.in_ok-program.program _ s c.args.question (files run.schedule.now) a is c.in-Growing.is (ap growing_start c.in-Some-new.ensures.made) refl read h) c.answer_of-in-Some-new.ensures

@@ -1,0 +1,4 @@
+pub mod Faults
+pub mod Scans
+pub mod Headers
+pub mod Sources

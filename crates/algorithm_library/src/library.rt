@@ -1,0 +1,77 @@
+//! The programs of the library.
+ghost use Rattle.std.specs.Prelude.{◌≡◌, ◌≢◌, ◌+◌, ◌*◌, ◌≤◌, ◌↔◌, Err, IfOk, IsTrue, OnOk};
+ghost use Rattle.algorithm_library.specs.declared.fault.LibraryFault.TheVariants as fault;
+ghost use Rattle.algorithm_library.specs.Programs.{count_votes_tree, gather_tree};
+ghost use Rattle.algorithm_library.specs.Refusals.{IsCount, IsTooFew, IsWithin};
+ghost use Rattle.algorithm_library.specs.Texts.{count_votes_rest, dls1_rest, gather_rest, text_of};
+ghost use Rattle.round_lang.specs.Source.{IsSource};
+ghost use Rattle.round_meaning.specs.Algorithm1.{dls1 as dls1_tree};
+
+use crate::fault::LibraryFault;
+use crate::source::program_of;
+use crate::texts::{count_votes_rest, dls1_rest, gather_rest};
+use round_check::Checked;
+use round_meaning::{MAX_FAULTS, MAX_NODES};
+use std::alloc::Global;
+
+/// The most values that a program has.
+const MAX_VALUES: u32 = 64;
+
+/// Each node tells all that it has seen, its own input first, and decides the least of it. There are
+/// 1 to 64 values.
+pub fn gather(alloc: Global, values: u32) -> Result<Checked, LibraryFault>
+    ensures bad { (result ≡ Err fault.BadValues) ↔ (¬ (IsCount values)) }
+    ensures never_few { result ≢ Err fault.TooFew }
+    ensures program { IfOk result (λ p. p ≡ gather_tree values) }
+    ensures text { IfOk result (λ p. IsSource (text_of gather_rest values) p) }
+{
+    if !is_count(values) {
+        return Err(LibraryFault::BadValues);
+    }
+    Ok(program_of(alloc, values, gather_rest())?)
+}
+
+/// In each round each node tells its input, counts what it hears, and decides a value of which more
+/// than half of the nodes told. There are 1 to 64 values.
+pub fn count_votes(alloc: Global, values: u32) -> Result<Checked, LibraryFault>
+    ensures bad { (result ≡ Err fault.BadValues) ↔ (¬ (IsCount values)) }
+    ensures never_few { result ≢ Err fault.TooFew }
+    ensures program { IfOk result (λ p. p ≡ count_votes_tree values) }
+    ensures text { IfOk result (λ p. IsSource (text_of count_votes_rest values) p) }
+{
+    if !is_count(values) {
+        return Err(LibraryFault::BadValues);
+    }
+    Ok(program_of(alloc, values, count_votes_rest())?)
+}
+
+/// Algorithm 1. There are 1 to 16 nodes of which up to `faults`, 0 to 15, may fail, and 1 to 64
+/// values; more than half of the nodes must be correct.
+pub fn dls1(alloc: Global, nodes: u32, faults: u32, values: u32) -> Result<Checked, LibraryFault>
+    ensures bad { (result ≡ Err fault.BadValues) ↔ (¬ (IsWithin nodes faults values)) }
+    ensures few { (result ≡ Err fault.TooFew)
+        ↔ (IsWithin nodes faults values × IsTooFew nodes faults) }
+    ensures majority { OnOk result (2 * faults + 1 ≤ nodes) }
+    ensures program { IfOk result (λ p. p ≡ dls1_tree values) }
+    ensures text { IfOk result (λ p. IsSource (text_of dls1_rest values) p) }
+{
+    if !is_within(nodes, faults, values) {
+        return Err(LibraryFault::BadValues);
+    }
+    if nodes < 2 * faults + 1 {
+        return Err(LibraryFault::TooFew);
+    }
+    Ok(program_of(alloc, values, dls1_rest())?)
+}
+
+fn is_count(values: u32) -> bool
+    ensures { IsTrue result ↔ IsCount values }
+{
+    1 <= values && values <= MAX_VALUES
+}
+
+fn is_within(nodes: u32, faults: u32, values: u32) -> bool
+    ensures { IsTrue result ↔ IsWithin nodes faults values }
+{
+    is_count(values) && 1 <= nodes && nodes <= MAX_NODES && faults <= MAX_FAULTS
+}

@@ -1,0 +1,6 @@
+use Rattle.std.proofs.Common.{take}
+use Rattle.omission_explainer.specs.Decided.{IsSummary}
+use Rattle.omission_explainer.proofs.deciding.decided.Given as goal
+
+abbrev pub invariant-loop-row : goal.invariant-loop-row
+invariant-loop-row l = IsSummary (take l.row-index l.report.rows) l.all
