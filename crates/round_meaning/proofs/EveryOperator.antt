@@ -57,8 +57,8 @@ every_operator = record {
   values = 3;
   period = 1;
   variables = record { name = codes "x"; kind = Input } ∷ record { name = codes "a"; kind = State NumTy (TNumber 0) }
-  ∷ record { name = codes "c"; kind = State BoolTy (TFixed False) } ∷ record { name = codes "s"; kind = State SetTy (TFixed Empty) }
-  ∷ record { name = codes "r"; kind = State RowTy (TFixed Zero) } ∷ [];
+      ∷ record { name = codes "c"; kind = State BoolTy (TFixed False) } ∷ record { name = codes "s"; kind = State SetTy (TFixed Empty) }
+      ∷ record { name = codes "r"; kind = State RowTy (TFixed Zero) } ∷ [];
   decides = codes "s" ∷ [];
   blocks = record {
     number = 1;
@@ -66,9 +66,9 @@ every_operator = record {
     condition = condition;
     sent = sent_number ∷ sent_set ∷ sent_row ∷ [];
     on_message = record { target = codes "s"; formula = next_set } ∷ record { target = codes "r"; formula = next_row }
-    ∷ record { target = codes "a"; formula = TBinary Add (named (codes "a")) (named (codes "m")) } ∷ [];
+        ∷ record { target = codes "a"; formula = TBinary Add (named (codes "a")) (named (codes "m")) } ∷ [];
     end = record { target = codes "c"; formula = flag_at_end } ∷ record { target = codes "a"; formula = number_at_end }
-    ∷ record { target = codes "s"; formula = TIf (named (codes "c")) (named (codes "s")) (TFixed Empty) } ∷ [];
+        ∷ record { target = codes "s"; formula = TIf (named (codes "c")) (named (codes "s")) (TFixed Empty) } ∷ [];
   } ∷ [];
 }
 

@@ -22,3 +22,4 @@ pub mod ReleaseRound
 pub mod PhaseRuns
 pub mod PhaseProgram
 pub mod Consensus
+pub mod SetMembership

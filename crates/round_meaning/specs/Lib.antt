@@ -15,3 +15,4 @@ pub mod Typed
 pub mod Broadcast
 pub mod Algorithm1
 pub mod Agreement
+pub mod SetMembers

@@ -2,6 +2,7 @@
 ghost use Rattle.round_meaning.specs.Typed.{EndsAreStates, SendsAreMessages, StartsAreStates, TypedValuesFit};
 ghost use Rattle.round_meaning.specs.Agreement.{Agreement, DecisionsAreLocked, NoOtherLocks, Validity};
 ghost use Rattle.round_meaning.specs.Laws.{DifferencesAreExact, DifferencesStop, OnlyPastCounts, OnlySendersCount, OnlySendersCountInRuns, SumsAreExact, SumsStop};
+ghost use Rattle.round_meaning.specs.SetMembers.{SetsAreMembers};
 
 use round_check::Checked;
 
@@ -11,6 +12,11 @@ pub fn numbers_stop()
     ensures sums_stop { SumsStop }
     ensures differences_exact { DifferencesAreExact }
     ensures differences_stop { DifferencesStop }
+{}
+
+/// What each form and operator on sets gives, by its members.
+pub fn sets_are_members()
+    ensures { SetsAreMembers }
 {}
 
 /// Whether a node that doesn't send is omitted makes no difference, neither to an inbox nor to a

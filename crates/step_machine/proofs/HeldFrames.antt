@@ -1,5 +1,5 @@
 -- The frames that a node holds, and the inbox that they are.
-use Rattle.std.proofs.Common.{◌≡◌, ◌≢◌, ℕ, suc, ◌+◌, ◌-◌, ◌<◌, ◌≤◌, List, [], ◌∷◌, ◌++◌, drop, take, length, length-append, length-set, get_or, set, Option, Some, None, option_map, refl, sym, ap, subst, ◌∙◌, arith, ◌⊎◌, inl, inr}
+use Rattle.std.proofs.Common.{◌≡◌, ◌≢◌, ℕ, suc, ◌+◌, ◌<◌, ◌≤◌, List, [], ◌∷◌, ◌++◌, drop, take, length, length-append, length-set, get_or, set, Option, Some, None, option_map, refl, sym, ap, subst, ◌∙◌, arith, ◌⊎◌, inl, inr}
 use Rattle.std.specs.List.{filter_map, cons_option, range_with_len}
 use Rattle.std.specs.Option.{ForSome}
 use Rattle.std.specs.Prelude.{replicate}
@@ -136,7 +136,7 @@ turned_held a n i r s held free next same none h = record {
     at k l (inr past) =
         let last : k ≡ ahead = omega arith in
         held_none a n i (s + k) (row_of (turned held free) k) (λ j.
-            ap (λ x. held_at (row_of (turned held free) x) j) last ∙ ap (λ x. held_at x j) (turned_last held free h.places.rows) ∙ none j)
+        ap (λ x. held_at (row_of (turned held free) x) j) last ∙ ap (λ x. held_at x j) (turned_last held free h.places.rows) ∙ none j)
 
 -- ---- the inbox
 

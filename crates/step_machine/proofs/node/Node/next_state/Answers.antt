@@ -1,7 +1,6 @@
 use Rattle.std.proofs.Common.{◌≡◌, [], get_or, refl, sym, ap, ◌∙◌, subst, arith}
 use Rattle.std.proofs.lemmas.List.{get_or_read_under}
 use Rattle.round_meaning.specs.Turn.{IsInbox}
-use Rattle.step_machine.specs.Frames.{HeldRow}
 use Rattle.step_machine.specs.Nodes.{inbox_of}
 use Rattle.step_machine.proofs.HeldFrames.{held_inbox}
 use Rattle.step_machine.proofs.node.Node.next_state.Goals as goal

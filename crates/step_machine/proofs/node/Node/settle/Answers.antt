@@ -1,4 +1,4 @@
-use Rattle.std.proofs.Common.{◌≡◌, ◌+◌, ◌++◌, [], length, get_or, set, drop, take, ap, refl, ◌∙◌, arith, sym, subst}
+use Rattle.std.proofs.Common.{◌≡◌, ◌+◌, [], length, get_or, ap, refl, ◌∙◌, arith, sym, subst}
 use Rattle.std.proofs.lemmas.List.{get_or_read_under}
 use Rattle.step_machine.specs.Nodes.{AreHeld}
 use Rattle.step_machine.specs.NodeInside.{node_seen}
@@ -16,6 +16,6 @@ invariant_of-self c =
       setup = c.self.invariant.setup;
       me = c.self.invariant.me;
       held = subst (AreHeld (algorithm_in (node_seen s)) s.setup.nodes s.me (s.round + 1)) (sym c.rotate_left.ensures.items)
-      (turned_held (algorithm_in (node_seen s)) s.setup.nodes s.me s.round (s.round + 1) s.held.items c.clear.new.self refl same c.clear.ensures.frames was);
+          (turned_held (algorithm_in (node_seen s)) s.setup.nodes s.me s.round (s.round + 1) s.held.items c.clear.new.self refl same c.clear.ensures.frames was);
       spoken = λ m is. absurd cc;
     }

@@ -1,4 +1,4 @@
-use Rattle.std.proofs.Common.{◌≡◌, ◌+◌, ◌-◌, ◌<◌, ◌≤◌, Some, [], length, get_or, set, ap, refl, ◌∙◌, arith, sym, subst}
+use Rattle.std.proofs.Common.{◌≡◌, ◌+◌, ◌-◌, ◌<◌, ◌≤◌, Some, [], get_or, set, ap, refl, ◌∙◌, arith, sym, subst}
 use Rattle.std.proofs.lemmas.List.{get_or_read_under}
 use Rattle.step_machine.specs.declared.event.Name.{Name}
 use Rattle.step_machine.specs.Frames.{HeldRow, Spells}
@@ -32,6 +32,6 @@ invariant_of-self-2 c =
       setup = c.self.invariant.setup;
       me = c.self.invariant.me;
       held = subst (λ (r : HeldRow). AreHeld (algorithm_in (node_seen c.self.inside)) c.self.inside.setup.nodes c.self.inside.me c.self.inside.round (set c.self.inside.held.items row r)) (sym put)
-      (one_row _ _ _ _ row _ _ _ near here new c.self.invariant.held);
+          (one_row _ _ _ _ row _ _ _ near here new c.self.invariant.held);
       spoken = c.self.invariant.spoken;
     }
