@@ -1,5 +1,5 @@
 -- What the program writes, as a relation of its words to the files on the desk.
-use Rattle.std.specs.Prelude.{◌≡◌, ◌<◌, ◌≤◌, ◌+◌, ◌++◌, ◌⊎◌, ℕ, List, Option, IfSome, Ok, codes, length, take, if◌then◌else◌}
+use Rattle.std.specs.Prelude.{◌≡◌, ◌<◌, ◌≤◌, ◌+◌, ◌++◌, ◌⊎◌, ℕ, Bool, List, Option, IfSome, Ok, codes, length, take, if◌then◌else◌}
 use Rattle.std.specs.Fmt.{decimal}
 use Rattle.std.specs.Io.KnownBytes.{Appends}
 use Rattle.std.specs.Str.{bytes_eq}
@@ -23,6 +23,7 @@ use Rattle.command_words.specs.declared.values.Source.{Source}
 use Rattle.command_words.specs.declared.values.Source.TheVariants.{File, Library}
 use Rattle.command_words.specs.declared.words.Words.{Words}
 use Rattle.command_words.specs.declared.words.Words.TheVariants.{Check, Judge, Run}
+use Rattle.omission_explainer.specs.Decided.{decided_line, summary_of}
 use Rattle.omission_explainer.specs.Report.{report_text}
 use Rattle.omission_explainer.specs.Verdict.{verdict_text}
 use Rattle.omission_explainer.specs.declared.judging.Verdict.{Verdict}
@@ -103,27 +104,32 @@ JudgesRun source files file correct delta gst verdict = IfSome file (λ text. (s
 
 -- the answer to a question on a run
 abbrev pub AnswersRun : Source → Files → Option (List ℕ) → Question → Answer → Type 0
-AnswersRun source files file question.Report (answer.Report report) = ReportsRun source files file report
+AnswersRun source files file (question.Report told) (answer.Report report shown) = (shown ≡ told) × ReportsRun source files file report
 AnswersRun source files file (question.Verdict terms) (answer.Verdict verdict) =
     JudgesRun source files file terms.correct.now terms.delta terms.gst verdict
 AnswersRun source files file _ _ = ⊥
 
 -- the same of a schedule that was read, under a plan
 abbrev pub Answered : (start receives : ℕ → ℕ) → ProgramTree → Schedule → Question → Answer → Type 0
-Answered start receives p s question.Report (answer.Report report) = IsReportOf start p s.setup s.events.items report
+Answered start receives p s (question.Report told) (answer.Report report shown) =
+    (shown ≡ told) × IsReportOf start p s.setup s.events.items report
 Answered start receives p s (question.Verdict terms) (answer.Verdict verdict) =
     IsVerdictOf start receives p s.setup s.events.items terms.correct.now terms.delta terms.gst verdict
 Answered start receives p s _ _ = ⊥
 
+-- the report, with what all decisions in it come to where that was asked for
+abbrev pub told_text : Report → Bool → List ℕ
+told_text report told = report_text report ++ decided_line told (summary_of report.rows)
+
 abbrev pub answer_text : Answer → List ℕ
-answer_text (answer.Report report) = report_text report
+answer_text (answer.Report report told) = told_text report told
 answer_text (answer.Verdict verdict) = verdict_text verdict ++ codes "\n"
 
 -- what `out` gained is what the command prints; a program is checked as for one node without faults
 abbrev pub Serves : Words → Files → Option (List ℕ) → Option (List ℕ) → Type 0
 Serves (Check source) files old new = (p : ProgramTree) × IsProgramOf source files 1 0 p × Appends old new (summary_text p)
-Serves (Run source schedule) files old new =
-    (report : Report) × ReportsRun source files (files schedule.now) report × Appends old new (report_text report)
+Serves (Run source schedule told) files old new =
+    (report : Report) × ReportsRun source files (files schedule.now) report × Appends old new (told_text report told)
 Serves (Judge source schedule correct delta gst) files old new =
     (verdict : Verdict) × JudgesRun source files (files schedule.now) correct.items delta gst verdict × Appends old new (verdict_text verdict ++ codes "\n")
 

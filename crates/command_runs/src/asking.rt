@@ -25,14 +25,15 @@ pub struct Run<'a> {
 /// A question on a run.
 #[derive(Clone, Copy)]
 pub enum Question<'a> {
-    Report,
+    /// The report, with a last line on the decisions where `decided` says so.
+    Report { decided: bool },
     Verdict(Terms<'a>),
 }
 
 /// The answer to a question.
 #[derive(Drop)]
 pub enum Answer {
-    Report(Report),
+    Report { report: Report, decided: bool },
     Verdict(Verdict),
 }
 
@@ -94,9 +95,9 @@ fn answer_of<P: Plan>(
     let setup = &schedule.setup;
     let events = schedule.events.as_slice();
     match question {
-        Question::Report => {
+        Question::Report { decided } => {
             let report = explained_run(alloc, program, setup, plan, events)?;
-            Ok(Answer::Report(report))
+            Ok(Answer::Report { report, decided })
         }
         Question::Verdict(terms) => {
             let verdict = judged_run(alloc, program, setup, plan, events, terms)?;

@@ -9,7 +9,7 @@ use crate::explained::Terms;
 use crate::refusal::Refusal;
 use crate::sources::Opened;
 use command_words::{Words, WordsFault, read_words};
-use omission_explainer::write_report;
+use omission_explainer::{decided, write_report};
 use round_check::Checked;
 use std::alloc::Global;
 use std::io;
@@ -81,9 +81,13 @@ fn carry_out<'a, D: Desk, O: Write>(
             let program = Opened::open(alloc, source, desk)?.program(alloc, 1, 0)?;
             written(write_summary(&program, out), out)
         }
-        Words::Run { source, schedule } => {
+        Words::Run {
+            source,
+            schedule,
+            decided,
+        } => {
             let run = Run { source, schedule };
-            let answer = run.answer(alloc, Question::Report, desk)?;
+            let answer = run.answer(alloc, Question::Report { decided }, desk)?;
             written(write_answer(&answer, out), out)
         }
         Words::Judge {
@@ -123,7 +127,17 @@ fn write_answer<O: Write>(answer: &Answer, out: &mut O) -> io::Result<()>
     ensures { OnOk result (Appends (O.contents out.old) (O.contents out.new) (answer_text answer.now)) }
 {
     match answer {
-        Answer::Report(report) => write_report(report, out),
+        Answer::Report {
+            report,
+            decided: false,
+        } => write_report(report, out),
+        Answer::Report {
+            report,
+            decided: true,
+        } => {
+            write_report(report, out)?;
+            writeln!(out, "decided {}", decided(report))
+        }
         Answer::Verdict(verdict) => writeln!(out, "{verdict}"),
     }
 }

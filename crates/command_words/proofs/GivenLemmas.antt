@@ -1,8 +1,10 @@
 -- From what the matches' calls answer to what the words give.
-use Rattle.std.proofs.Common.{◌≡◌, ◌∙◌, List, Option, Some, None, Result, Ok, Err, Bool, true, false, ap₂, sym, refl, option_map, is_some, Bor, [], ◌∷◌, inl, inr}
-use Rattle.std.specs.Prelude.{Box, IfOk, OnErr, OnOk}
+use Rattle.std.proofs.Common.{◌≡◌, ◌∙◌, ap, List, Option, Some, None, Result, Ok, Err, Bool, true, false, ap₂, sym, refl, option_map, is_some, Bor, [], ◌∷◌, inl, inr}
+use Rattle.std.specs.Prelude.{◌↔◌, Box, IfOk, IsTrue, OnErr, OnOk}
 use Rattle.std.specs.Option.{ok_or}
 use Rattle.std.specs.Box.{box_value}
+use Rattle.std.specs.Str.{bytes_eq}
+use Rattle.std.proofs.lemmas.Slice.Eq.{bytes_eq-Decides}
 use Rattle.std.proofs.lemmas.Option.{same_Some}
 use Rattle.clap.specs.Simple.{subcommand_rows}
 use Rattle.clap.specs.Kinds.{or_else}
@@ -54,6 +56,16 @@ text_found o (Some t) e same = same
 pub text_missing : {E : Type 0} (o : Option Text) (r : Option (Bor Text)) (e : E) → o ≡ option_map (λ s. s.now) r → OnErr (ok_or r e) (o ≡ None)
 text_missing o None e same = same
 text_missing o (Some t) e same = tt
+
+-- a test of an argument's text tells whether the argument has that text
+pub flag_given : (o : Option Text) (text t : Text) (b : Bool) → o ≡ Some text → b ≡ bytes_eq text t → IsTrue b ↔ (o ≡ Some t)
+flag_given o text t b is tested = (
+  (λ yes. is ∙ ap (λ x. Some x) ((bytes_eq-Decides text t).0 (sym tested ∙ yes))),
+  (λ same. tested ∙ (bytes_eq-Decides text t).1 (same_Some _ _ (sym is ∙ same))),
+)
+
+pub no_flag_given : (o : Option Text) (t : Text) → o ≡ None → IsTrue false ↔ (o ≡ Some t)
+no_flag_given o t is = ((λ h. absurd (cc h)), (λ same. let bad : None ≡ Some t = sym is ∙ same in absurd (cc bad)))
 
 pub ok_always : {T E P : Type 0} (r : Result T E) → P → OnOk r P
 ok_always (Ok x) p = p

@@ -1,6 +1,7 @@
 -- The commands of the program, as `clap` reads them.
 use Rattle.std.specs.Prelude.{◌≡◌, Some, codes, true, false}
 use Rattle.clap.specs.Words.{App, Rule, Text, app_of, new_app, new_rule, with_rule, with_subcommand}
+use Rattle.clap.specs.declared.builder.action.ArgAction.TheVariants.{SetTrue}
 use Rattle.clap.specs.declared.builder.command.Command.{Command}
 use Rattle.clap.specs.declared.builder.command.Command.TheViews.{out-Command}
 
@@ -13,9 +14,14 @@ abbrev pub text_rule : Text → Rule
 text_rule name =
     record (new_rule name) { long = Some name; value_names = 1; required = true }
 
--- `run SOURCE --schedule FILE`
+-- `--decided`, which stands there or not
+abbrev pub decided_rule : Rule
+decided_rule = record (new_rule (codes "decided")) { long = Some (codes "decided"); action = Some SetTrue }
+
+-- `run SOURCE --schedule FILE [--decided]`
 abbrev pub run_app : App
-run_app = with_rule (with_rule (new_app (codes "run")) source_rule) (text_rule (codes "schedule"))
+run_app =
+    with_rule (with_rule (with_rule (new_app (codes "run")) source_rule) (text_rule (codes "schedule"))) decided_rule
 
 -- `check SOURCE`
 abbrev pub check_app : App

@@ -1,5 +1,5 @@
 -- What the words of a command line say, by `clap`'s own definition of a simple command's matches.
-use Rattle.std.specs.Prelude.{◌≡◌, ◌≢◌, ◌≤◌, ◌⊎◌, ℕ, List, None, Some, codes, [], ⊤}
+use Rattle.std.specs.Prelude.{◌≡◌, ◌≢◌, ◌≤◌, ◌⊎◌, ◌↔◌, ℕ, IsTrue, List, None, Some, codes, [], ⊤}
 use Rattle.clap.specs.Words.{Row, Text, first_of, subcommand_of, fault_of, IsAmong, kind_of}
 use Rattle.command_words.specs.Commands.{roundc_app}
 use Rattle.command_words.specs.Values.{IsNoList, ListText, NumberText, SourceText}
@@ -27,11 +27,15 @@ GivesDelta rows n = (text : Text) × (first_of (codes "delta") rows ≡ Some tex
 abbrev pub GivesGst : List Row → ℕ → Type 0
 GivesGst rows n = (text : Text) × (first_of (codes "gst") rows ≡ Some text) × NumberText text n
 
+-- `--decided` stands there
+abbrev pub HasFlag : List Row → Type 0
+HasFlag rows = first_of (codes "decided") rows ≡ Some (codes "true")
+
 -- the command of this name with these matches is what the words say
 abbrev pub Gives : Text → List Row → Words → Type 0
 Gives name rows (Check source) = (name ≡ codes "check") × GivesSource rows source
-Gives name rows (Run source schedule) = (name ≡ codes "run") × GivesSource rows source
-    × (first_of (codes "schedule") rows ≡ Some schedule.now)
+Gives name rows (Run source schedule decided) = (name ≡ codes "run") × GivesSource rows source
+    × (first_of (codes "schedule") rows ≡ Some schedule.now) × (IsTrue decided ↔ HasFlag rows)
 Gives name rows (Judge source schedule correct delta gst) = (name ≡ codes "judge") × GivesSource rows source
     × (first_of (codes "schedule") rows ≡ Some schedule.now) × GivesList rows correct.items × GivesDelta rows delta
     × GivesGst rows gst

@@ -1,9 +1,9 @@
 //! The commands, made by `clap`'s builders: one function for each argument and each command.
 ghost use Rattle.std.specs.Prelude.{◌≡◌, IfOk, codes, false};
 ghost use Rattle.clap.specs.Words.{rule_of};
-ghost use Rattle.command_words.specs.Commands.{IsCommandOf, check_app, judge_app, roundc_app, run_app, source_rule, text_rule};
+ghost use Rattle.command_words.specs.Commands.{IsCommandOf, check_app, decided_rule, judge_app, roundc_app, run_app, source_rule, text_rule};
 
-use clap::{Arg, Command};
+use clap::{Arg, ArgAction, Command};
 use std::alloc::{AllocError, Global};
 
 /// `SOURCE`, a required word of its own.
@@ -42,6 +42,17 @@ fn schedule_arg<'a>(alloc: Global) -> Arg<'a>
     )
 }
 
+/// `--decided`.
+fn decided_arg<'a>(alloc: Global) -> Arg<'a>
+    ensures rule { rule_of result ≡ decided_rule }
+    ensures local { result.global ≡ false }
+{
+    Arg::new(alloc, "decided")
+        .long("decided")
+        .action(ArgAction::SetTrue)
+        .help("Adds a line that says what all decisions come to")
+}
+
 /// `check SOURCE`.
 fn check_command<'a>(alloc: Global) -> Result<Command<'a>, AllocError>
     ensures { IfOk result (IsCommandOf check_app) }
@@ -69,14 +80,15 @@ fn judge_command<'a>(alloc: Global) -> Result<Command<'a>, AllocError>
         ))
 }
 
-/// `run SOURCE --schedule FILE`.
+/// `run SOURCE --schedule FILE [--decided]`.
 fn run_command<'a>(alloc: Global) -> Result<Command<'a>, AllocError>
     ensures { IfOk result (IsCommandOf run_app) }
 {
     Command::new(alloc, "run")
         .about("Runs a schedule and reports each completed round")
         .arg(source_arg(alloc))?
-        .arg(schedule_arg(alloc))
+        .arg(schedule_arg(alloc))?
+        .arg(decided_arg(alloc))
 }
 
 /// The whole command line, after the program's own name.

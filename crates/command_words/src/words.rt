@@ -1,8 +1,8 @@
 //! What the words say.
-ghost use Rattle.std.specs.Prelude.{◌≡◌, ◌≢◌, ◌⊎◌, [], IfErr, IfOk, OnErr, OnOk, codes, map};
+ghost use Rattle.std.specs.Prelude.{◌≡◌, ◌≢◌, ◌⊎◌, ◌↔◌, [], IfErr, IfOk, IsTrue, OnErr, OnOk, codes, map};
 ghost use Rattle.clap.specs.Words.{fault_of, first_of, found_of, kind_of, rows_of};
 ghost use Rattle.command_words.specs.Commands.{roundc_app};
-ghost use Rattle.command_words.specs.Given.{Explains, FailsByDelta, FailsByGst, FailsByJudge, FailsByList, FailsBySource, FailsByValue, Gives, GivesDelta, GivesGst, GivesList, GivesSource, Means};
+ghost use Rattle.command_words.specs.Given.{Explains, FailsByDelta, FailsByGst, FailsByJudge, FailsByList, FailsBySource, FailsByValue, Gives, GivesDelta, GivesGst, GivesList, GivesSource, HasFlag, Means};
 ghost use Rattle.command_words.specs.declared.words.WordsFault.TheVariants.{NoMemory};
 
 use crate::commands::roundc_command;
@@ -18,10 +18,11 @@ pub enum Words<'a> {
     Check {
         source: Source<'a>,
     },
-    /// `run SOURCE --schedule FILE`; `schedule` is FILE as it was written, `-` included.
+    /// `run SOURCE --schedule FILE [--decided]`; `schedule` is FILE as it was written, `-` included.
     Run {
         source: Source<'a>,
         schedule: &'a str,
+        decided: bool,
     },
     /// `judge SOURCE --schedule FILE --correct LIST --delta D --gst G`; `correct` has the numbers of
     /// LIST in their order, also those that are there twice.
@@ -109,6 +110,16 @@ fn correct_of(alloc: Global, matches: &ArgMatches<'_>) -> Result<Vec<u32>, Words
     read_list(alloc, text)
 }
 
+/// Whether `--decided` stands there.
+fn is_decided(matches: &ArgMatches<'_>) -> bool
+    ensures { IsTrue result ↔ HasFlag (rows_of (found_of matches.now)) }
+{
+    match matches.get_str("decided") {
+        Some(text) => text == "true",
+        None => false,
+    }
+}
+
 /// The value of D.
 fn delta_of(matches: &ArgMatches<'_>) -> Result<u32, WordsFault>
     ensures ok { IfOk result (GivesDelta (rows_of (found_of matches.now))) }
@@ -160,6 +171,7 @@ fn command_of<'a>(
         "run" => Ok(Words::Run {
             source: source_of(matches)?,
             schedule: text_of(matches, "schedule")?,
+            decided: is_decided(matches),
         }),
         "judge" => judge_of(alloc, matches),
         _ => Err(WordsFault::Missing),

@@ -3,6 +3,7 @@ use Rattle.std.proofs.Common.{◌≡◌, ℕ, ◌+◌, ◌<◌, ◌≤◌, Bool,
 use Rattle.std.specs.Prelude.{◌==◌}
 use Rattle.std.proofs.lemmas.Bool.{eqb-true, eqb-false}
 use Rattle.std.proofs.lemmas.List.{take_all, take_more}
+use Rattle.std.proofs.lemmas.List.Sums.{fold-append}
 use Rattle.std.proofs.lemmas.List.Elements.{All-head, All-tail}
 use Rattle.round_lang.specs.Syntax.{ProgramTree}
 use Rattle.round_meaning.specs.Agreement.{HasDecided}
@@ -11,7 +12,7 @@ use Rattle.round_meaning.specs.Rounds.{algorithm_of, rounds}
 use Rattle.round_meaning.specs.Turn.{decision}
 use Rattle.round_meaning.specs.declared.setup.Setup.{Setup}
 use Rattle.round_meaning.proofs.Consensus.{decisions_agree, decisions_are_inputs}
-use Rattle.omission_explainer.specs.Decided.{AreOfRun, IsDecided, IsNeverSplit, IsOfRun, IsSummary, RunsAgree, with_decision}
+use Rattle.omission_explainer.specs.Decided.{AreOfRun, IsDecided, IsNeverSplit, IsOfRun, IsSummary, RunsAgree, summary_of, with_decision}
 use Rattle.omission_explainer.specs.Rows.{ClosedRound}
 use Rattle.omission_explainer.specs.declared.summary.Decided.{Decided}
 use Rattle.omission_explainer.specs.declared.summary.Decided.TheVariants as d
@@ -78,18 +79,26 @@ one_row_more rows row all h = go row.decision refl
 
 -- ---- a loop over the rows
 
+-- the summary of so many rows
+abbrev pub IsSummedUp : List ClosedRound → ℕ → Decided → Type 0
+IsSummedUp rows i all = (all ≡ summary_of (take i rows)) × IsSummary (take i rows) all
+
 pub next_summary : (rows items : List ClosedRound) (i : ℕ) (row : ClosedRound) (all next : Decided) (o : Option ℕ) → items ≡ rows → i < length items → row ≡ get_or items i row → o ≡ row.decision
-    → next ≡ with_decision all o → IsSummary (take i rows) all → IsSummary (take (i + 1) rows) next
+    → next ≡ with_decision all o → IsSummedUp rows i all → IsSummedUp rows (i + 1) next
 next_summary rows items i row all next o same inside at is made h =
     let lt = subst (λ (xs : List ClosedRound). i < length xs) same inside in
     let here : row ≡ get_or rows i row = subst (λ (xs : List ClosedRound). row ≡ get_or xs i row) same at in
     let more : take (i + 1) rows ≡ take i rows ++ row ∷ [] = take_more rows i row lt ∙ ap (λ r. take i rows ++ r ∷ []) (sym here) in
-    subst (λ xs. IsSummary xs next) (sym more)
-    (subst (IsSummary (take i rows ++ row ∷ [])) (sym (made ∙ ap (with_decision all) is)) (one_row_more (take i rows) row all h))
+    let now : next ≡ with_decision all row.decision = made ∙ ap (with_decision all) is in
+    let summed : summary_of (take i rows ++ row ∷ []) ≡ with_decision (summary_of (take i rows)) row.decision = fold-append (λ all (row : ClosedRound). with_decision all row.decision) d.None (take i rows) (row ∷ []) in
+    subst (λ xs. (next ≡ summary_of xs) × IsSummary xs next) (sym more) (
+      now ∙ ap (λ a. with_decision a row.decision) h.0 ∙ sym summed,
+      subst (IsSummary (take i rows ++ row ∷ [])) (sym now) (one_row_more (take i rows) row all h.1),
+    )
 
-pub whole_summary : (rows items : List ClosedRound) (i : ℕ) (all : Decided) → items ≡ rows → length items ≤ i → IsSummary (take i rows) all → IsSummary rows all
+pub whole_summary : (rows items : List ClosedRound) (i : ℕ) (all : Decided) → items ≡ rows → length items ≤ i → IsSummedUp rows i all → (all ≡ summary_of rows) × IsSummary rows all
 whole_summary rows items i all same past h =
-    subst (λ xs. IsSummary xs all) (take_all i rows (subst (λ (xs : List ClosedRound). length xs ≤ i) same past)) h
+    subst (λ xs. (all ≡ summary_of xs) × IsSummary xs all) (take_all i rows (subst (λ (xs : List ClosedRound). length xs ≤ i) same past)) h
 
 -- ---- runs of Algorithm 1
 

@@ -1,6 +1,7 @@
 -- What all decisions of a report come to.
-use Rattle.std.specs.Prelude.{◌≡◌, ◌≢◌, ◌⊎◌, ◌<◌, ℕ, Bool, List, [], ◌∷◌, All, Option, Some, None, codes, if◌then◌else◌, ◌==◌}
+use Rattle.std.specs.Prelude.{◌≡◌, ◌≢◌, ◌⊎◌, ◌<◌, ℕ, Bool, List, [], ◌∷◌, All, Option, Some, None, ◌++◌, codes, if◌then◌else◌, ◌==◌}
 use Rattle.std.specs.Fmt.{decimal}
+use Rattle.std.specs.List.{fold}
 use Rattle.round_lang.specs.Syntax.{ProgramTree}
 use Rattle.round_meaning.specs.Agreement.{IsInput, RunsAlgorithm1}
 use Rattle.round_meaning.specs.Rounds.{algorithm_of}
@@ -28,6 +29,10 @@ with_decision all None = all
 with_decision d.None (Some v) = d.One v
 with_decision (d.One u) (Some v) = if v == u then d.One u else d.Split
 with_decision d.Split (Some v) = d.Split
+
+-- what all rows come to, one after another
+abbrev pub summary_of : List ClosedRound → Decided
+summary_of rows = fold (λ all (row : ClosedRound). with_decision all row.decision) d.None rows
 
 -- the row's state is its node's after its round, in the run in rounds, and its decision is the state's
 abbrev pub IsOfRun : ProgramTree → Setup → (omits : ℕ → ℕ → ℕ → Bool) → ClosedRound → Type 0
@@ -60,3 +65,7 @@ abbrev pub decided_text : Decided → List ℕ
 decided_text d.None = codes "-"
 decided_text (d.One v) = decimal v
 decided_text d.Split = codes "split"
+
+-- the line of it, where one is asked for
+abbrev pub decided_line : Bool → Decided → List ℕ
+decided_line told all = if told then codes "decided " ++ decided_text all ++ codes "\n" else []
