@@ -8,21 +8,25 @@ use Rattle.omission_explainer.specs.declared.report.Report.{Report}
 use Rattle.round_lang.specs.Syntax.{ProgramTree}
 use Rattle.round_meaning.specs.Rounds.{algorithm_of}
 use Rattle.round_meaning.specs.declared.setup.Setup.{Setup}
-use Rattle.step_journal.specs.Log.{Log}
+use Rattle.step_journal.specs.Agreed.{JournalAgrees}
+use Rattle.step_journal.specs.Log.{Log, mark_in, waiting_in}
 use Rattle.step_machine.specs.declared.event.Event.{Event}
 use Rattle.slot_plans.specs.Plan.{IsClearRound}
 use Rattle.omission_explainer.specs.Verdict.{AreNodes, HearsFrom, IsDelayBound, IsLockstep}
 use Rattle.omission_explainer.specs.declared.judging.Verdict.{Verdict}
 use Rattle.round_lang.specs.Sets.{is_in}
 
--- The report is of a run whose events are these. In that run a round is closed exactly where its node took all its steps, and the report
--- has a row for each closed round. A row's sets are those of the events, and its state is that of the node after that round in the run
--- in rounds under the omissions that the rows print.
+-- The report is of a run whose events are these. What that run recorded agrees with the run in
+-- rounds by the places of these events, a round is closed in it exactly where its node took all its
+-- steps, and the report has a row for each closed round. A row's sets are those of the events, and
+-- its state is that of the node after that round in the run in rounds under the omissions that the
+-- rows print.
 pub record IsReportOf (start : ℕ → ℕ) (p : ProgramTree) (s : Setup) (events : List Event) (report : Report) : Type 0 where
   pub run : Log
   pub program : run.program ≡ p
   pub setup : run.setup ≡ s
   pub trace : run.trace ≡ events
+  pub agrees : JournalAgrees start run (mark_in start run) (waiting_in start run)
   pub closed : ClosedAreDue start run
   pub values : report.values ≡ p.values
   pub names : report.names ≡ names_in p
@@ -37,13 +41,17 @@ pub record AreListed (nodes : ℕ) (list : List ℕ) (members : ℕ) : Type 0 wh
   pub nodes_alone : AreNodes nodes members
   pub listed : (i : ℕ) → i < 64 → is_in members i ≡ list_any (nat_eq i) list
 
--- The verdict is of a run whose events are these: whether the listed nodes step in lockstep, whether messages between them keep the bound,
--- and the first round of the plan from which, where both is so, none of their messages is omitted.
+-- The verdict is of a run whose events are these, in which a round is closed exactly where its node
+-- took all its steps: whether the listed nodes step in lockstep, whether messages between them keep
+-- the bound, and the first round of the plan from which, where both is so, none of their messages
+-- is omitted.
 pub record IsVerdictOf (start receives : ℕ → ℕ) (p : ProgramTree) (s : Setup) (events : List Event) (list : List ℕ) (delta gst : ℕ) (verdict : Verdict) : Type 0 where
   pub run : Log
   pub program : run.program ≡ p
   pub setup : run.setup ≡ s
   pub trace : run.trace ≡ events
+  pub agrees : JournalAgrees start run (mark_in start run) (waiting_in start run)
+  pub closed : ClosedAreDue start run
   pub correct : ℕ
   pub listed : AreListed s.nodes list correct
   pub lockstep : IsTrue verdict.lockstep ↔ IsLockstep run.trace correct

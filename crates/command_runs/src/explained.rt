@@ -38,6 +38,7 @@ pub fn explained_run<P: Plan>(
         (λ report. RunsAlgorithm1 program.now setup.now → AreInputs setup.now report.rows) }
 {
     let journal = run_schedule(alloc, program, setup, plan, events)?;
+    journal.agrees();
     match explain(alloc, &journal) {
         Ok(report) => Ok(report),
         Err(NoMemory) => Err(RunFault::NoMemory),
@@ -77,6 +78,7 @@ pub fn judged_run<P: Plan>(
         return Err(RunFault::BadSetup);
     };
     let journal = run_schedule(alloc, program, setup, plan, events)?;
+    journal.agrees();
     Ok(judge(&journal, correct, terms.delta, terms.gst))
 }
 

@@ -5,6 +5,8 @@ use Rattle.omission_explainer.specs.Reported.{IsReported, names_in, types_in}
 use Rattle.round_lang.specs.Syntax.{ProgramTree}
 use Rattle.round_meaning.specs.Rounds.{algorithm_of}
 use Rattle.command_runs.proofs.Agreeing.{report_agrees}
+use Rattle.step_journal.specs.Agreed.{JournalAgrees}
+use Rattle.step_journal.specs.Log.{mark_in, waiting_in}
 use Rattle.command_runs.proofs.explained.explained_run.Goals as goal
 
 pub returns-in-Ok-clause-explained : goal.returns-in-Ok-clause-explained
@@ -18,6 +20,7 @@ returns-in-Ok-clause-explained g c =
       program = ran.program;
       setup = ran.setup;
       trace = ran.trace;
+      agrees = subst (λ p. JournalAgrees (g.P.Plan.start p) run (mark_in (g.P.Plan.start p) run) (waiting_in (g.P.Plan.start p) run)) ran.plan c.agrees.ensures;
       closed = subst (λ p. ClosedAreDue (g.P.Plan.start p) run) ran.plan ran.closed;
       values = said.values ∙ ap (λ (p : ProgramTree). p.values) ran.program;
       names = said.names ∙ ap names_in ran.program;

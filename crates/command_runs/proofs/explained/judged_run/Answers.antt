@@ -1,7 +1,10 @@
 use Rattle.std.proofs.Common.{subst}
 use Rattle.std.specs.Prelude.{◌↔◌, IfSome, IsTrue}
+use Rattle.adversary.specs.Driving.{ClosedAreDue}
 use Rattle.omission_explainer.specs.Verdict.{HearsFrom, IsDelayBound}
 use Rattle.slot_plans.specs.Plan.{IsClearRound}
+use Rattle.step_journal.specs.Agreed.{JournalAgrees}
+use Rattle.step_journal.specs.Log.{mark_in, waiting_in}
 use Rattle.command_runs.proofs.explained.judged_run.Goals as goal
 
 pub returns-clause-judged : goal.returns-clause-judged
@@ -16,6 +19,8 @@ returns-clause-judged g c =
       program = ran.program;
       setup = ran.setup;
       trace = ran.trace;
+      agrees = subst (λ p. JournalAgrees (g.P.Plan.start p) run (mark_in (g.P.Plan.start p) run) (waiting_in (g.P.Plan.start p) run)) ran.plan c.agrees.ensures;
+      closed = subst (λ p. ClosedAreDue (g.P.Plan.start p) run) ran.plan ran.closed;
       correct = correct;
       listed = c.in-Some.ensures.some;
       lockstep = said.lockstep;
