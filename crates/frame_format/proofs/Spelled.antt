@@ -16,7 +16,7 @@ use Rattle.frame_format.specs.Headers.{header, header_size, length_bytes, versio
 use Rattle.frame_format.specs.Spelling.{Spells, OneSpelling, IsCopy, field}
 use Rattle.frame_format.specs.Places.{copy_at, copy_in, from_at, head_at, round_at, to_at, version_at}
 use Rattle.frame_format.specs.Faults.{first_fault, round_fault, length_fault, has_length, bad_field}
-use Rattle.frame_format.specs.Reading.{fields_at, frame_at, IsFrame, IsReadAs}
+use Rattle.frame_format.specs.Reading.{fields_at, frame_at, IsFrame, IsReadAs, SpelledIsRead}
 use Rattle.frame_format.proofs.Numbers.{IsBytes, IsBytes-drop, number_at, wide2, wide4}
 use Rattle.frame_format.proofs.Fields.{fields_again, fields_taken, passed}
 
@@ -275,3 +275,19 @@ is_frame s bytes fits e =
       no_fault = e;
       spelled = read_is_spelled s bytes fits e;
     }
+
+-- what spells a frame is a frame, and is read as that one
+pub spelled_is_frame : (s : Format) → IsFormat s → SpelledIsRead s
+spelled_is_frame s h bytes f p =
+    let read = is_read s bytes f h p in
+    let g = good_from_none s bytes read.no_fault in (
+      record {
+        first = g.round_within.0;
+        last = g.round_within.1;
+        head = head_long (version_at bytes);
+        all = g.header_is.all;
+        no_fault = read.no_fault;
+        spelled = subst (Spells s bytes) (sym read.frame_is) p;
+      },
+      read.frame_is,
+    )

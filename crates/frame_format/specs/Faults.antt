@@ -8,7 +8,8 @@ use Rattle.frame_format.specs.declared.fault.FrameFault.TheVariants.{Short, BadM
 use Rattle.frame_format.specs.Formats.{Format, kinds_at, position, size, width}
 use Rattle.frame_format.specs.Places.{copy_at, from_at, head_at, round_at, to_at}
 
--- the field at the front is a truth value of another byte than 0 and 1, or a set with a bit from k up
+-- the field at the front is a truth value of another byte than 0 and 1, or a set with a bit from k
+-- up
 abbrev pub is_bad : ℕ → Kind → List ℕ → Bool
 is_bad k Num bytes = false
 is_bad k Flag bytes = nat_lt 1 (slice_index bytes 0)
@@ -19,7 +20,8 @@ is_bad k (Row n) bytes = false
 abbrev pub bad_field : ℕ → List Kind → List ℕ → ℕ → Option FrameFault
 bad_field k [] bytes i = None
 bad_field k (kind ∷ kinds) bytes i =
-    if is_bad k kind bytes then Some (BadField i) else bad_field k kinds (drop (width kind) bytes) (i + 1)
+    if is_bad k kind bytes then Some (BadField i)
+    else bad_field k kinds (drop (width kind) bytes) (i + 1)
 
 -- the header says that there are so many fields of so many bytes, and so many bytes are behind it
 abbrev pub has_length : ℕ → ℕ → List ℕ → Bool
@@ -30,7 +32,8 @@ has_length fields n bytes =
 -- the first fault of bytes whose header is right but for the length
 unfoldable pub length_fault : Format → ℕ → List ℕ → Option FrameFault
 length_fault s round bytes =
-    if not (has_length (length (kinds_at s round)) (size (kinds_at s round)) bytes) then Some BadLength
+    if not (has_length (length (kinds_at s round)) (size (kinds_at s round)) bytes)
+    then Some BadLength
     else bad_field s.values (kinds_at s round) (drop (head_at bytes) bytes) 0
 
 -- the first fault of bytes whose beginning and nodes are right

@@ -5,7 +5,8 @@ use Rattle.round_lang.specs.declared.kind.Kind.TheVariants.{Num, Flag, Set, Row}
 use Rattle.round_lang.specs.Syntax.{ProgramTree}
 use Rattle.round_check.specs.Shapes.{message_kinds}
 
--- how many nodes and values there are, how many rounds a period has, and the kinds of each block's fields
+-- how many nodes and values there are, how many rounds a period has, and the kinds of each block's
+-- fields
 pub record Format : Type 0 where
   pub nodes : ℕ
   pub values : ℕ

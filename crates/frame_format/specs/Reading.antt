@@ -48,6 +48,11 @@ pub record IsFrame (s : Format) (bytes : List ℕ) : Type 0 where
   pub no_fault : first_fault s bytes ≡ None
   pub spelled : Spells s bytes (frame_at s bytes)
 
+-- bytes that spell a frame are read as that frame
+abbrev pub SpelledIsRead : Format → Type 0
+SpelledIsRead s =
+    (bytes : List ℕ) (f : Frame) → Spells s bytes f → IsFrame s bytes × (frame_at s bytes ≡ f)
+
 -- the bytes have no fault, and the frame is what they are read as
 pub record IsReadAs (s : Format) (bytes : List ℕ) (f : Frame) : Type 0 where
   pub no_fault : first_fault s bytes ≡ None

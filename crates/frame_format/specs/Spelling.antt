@@ -13,7 +13,8 @@ use Rattle.frame_format.specs.declared.frame.Frame.{Frame}
 use Rattle.frame_format.specs.Formats.{Format, kinds_at}
 use Rattle.frame_format.specs.Headers.{header}
 
--- a value of a kind, over the values below k: a set has members below k alone, a row so many numbers
+-- a value of a kind, over the values below k: a set has members below k alone, and a row so many
+-- numbers
 abbrev pub IsOf : ℕ → Kind → Value → Type 0
 IsOf k kind.Num (Num n) = ⊤
 IsOf k kind.Flag (Flag b) = ⊤
@@ -32,7 +33,8 @@ abbrev pub flag_byte : Bool → ℕ
 flag_byte true = 1
 flag_byte false = 0
 
--- the bytes of a field; the highest byte of a number goes first, and bit v of a set stands for the member v
+-- the bytes of a field; the highest byte of a number goes first, and bit v of a set stands for the
+-- member v
 abbrev pub field : Value → List ℕ
 field (Num n) = big_bytes 4 n
 field (Flag b) = flag_byte b ∷ []
@@ -44,8 +46,8 @@ abbrev pub IsCopy : FrameVersion → ℕ → Type 0
 IsCopy V1 copy = copy ≡ 0
 IsCopy V2 copy = copy ≤ 3
 
--- The bytes spell the frame: its nodes, round and copy are within their limits, its message is one of
--- the round's block, with numbers of 32 bits, and the bytes are the header and then each field.
+-- The bytes spell the frame: its nodes, round and copy are within their limits, its message is one
+-- of the round's block, with numbers of 32 bits, and the bytes are the header and then each field.
 pub record Spells (s : Format) (bytes : List ℕ) (f : Frame) : Type 0 where
   pub from : f.from < s.nodes
   pub to : f.to < s.nodes

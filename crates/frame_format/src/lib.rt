@@ -1,4 +1,5 @@
-//! Messages as bytes: the frames of a program, their one spelling, and reading with the first fault.
+//! Messages as bytes: the frames of a program, their one spelling, and the first fault of bytes
+//! that are none.
 #![tactic(auto)]
 
 mod block;
@@ -20,7 +21,7 @@ pub use encoding::encode;
 pub use fault::FrameFault;
 pub use frame::Frame;
 pub use header::write_header;
-pub use laws::one_spelling;
+pub use laws::{one_spelling, spelled_is_read};
 pub use layout::Layout;
 pub use reading::{copy_of, fields_in, from_of, round_of, to_of, version_of};
 pub use version::FrameVersion;
