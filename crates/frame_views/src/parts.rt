@@ -1,13 +1,12 @@
 //! The places of a frame, each written on its own.
-ghost use Rattle.std.specs.Prelude.{◌≡◌, ◌+◌, ◌*◌, ◌%◌, ◌^◌, ◌<◌, ◌≤◌, ◌++◌, ◌∷◌, [], length, slice_index_or, MatchOption};
+ghost use Rattle.std.specs.Prelude.{◌≡◌, ◌+◌, ◌*◌, ◌%◌, ◌^◌, ◌<◌, ◌≤◌, ◌++◌, ◌∷◌, [], length, IfSome, MatchOption};
 ghost use Rattle.std.specs.Borrow.{sem, LendsBoth, Array, u8 as byte};
 ghost use Rattle.byteorder.specs.Endian.{big_bytes};
-ghost use Rattle.round_lang.specs.declared.kind.Kind.TheVariants.{Num};
 ghost use Rattle.frame_format.specs.declared.version.FrameVersion.TheVariants.{V2};
 ghost use Rattle.frame_format.specs.Formats.{kinds_at, size, width, IsBlock};
 ghost use Rattle.frame_format.specs.Headers.{header};
 ghost use Rattle.frame_format.specs.Spelling.{flag_byte};
-ghost use Rattle.frame_views.specs.Writing.{with_entry};
+ghost use Rattle.frame_views.specs.Writing.{with_entry, IsSplit};
 
 use byteorder::{BigEndian, ByteOrder};
 use frame_format::{Layout, width, write_header};
@@ -48,7 +47,9 @@ impl<'a, 'l> FrameMut<'a, 'l> {
         ensures layout { result.0.layout.now ≡ self.old.layout.now }
         ensures round { result.0.round ≡ self.old.round }
         ensures kinds { result.1.kinds.now ≡ kinds_at self.old.layout.now self.old.round }
+        ensures block { IsBlock result.1.kinds.now }
         ensures values { result.1.values ≡ self.old.layout.now.values }
+        ensures few { result.1.values ≤ 64 }
     {
         let layout = self.layout;
         let round = self.round;
@@ -162,10 +163,11 @@ impl<'a, 'l> FieldsMut<'a, 'l> {
     pub fn split_first(self) -> Option<(FieldMut<'a>, FieldsMut<'a, 'l>)>
         requires block { IsBlock self.kinds.now }
         requires room { size self.kinds.now ≤ length self.bytes.now }
-        ensures { MatchOption result (self.entry.kinds.now ≡ [])
-            (λ p. (length p.0.bytes.now ≡ width (slice_index_or self.entry.kinds.now 0 Num))
-            × (p.0.bytes.now ++ p.1.bytes.now ≡ self.entry.bytes.now)
-            × (p.0.values ≡ self.entry.values) × (p.1.values ≡ self.entry.values)) }
+        ensures places { MatchOption result (self.entry.kinds.now ≡ [])
+            (λ p. IsSplit self.entry.kinds.now self.entry.bytes.now
+            p.0.bytes.now p.1.kinds.now p.1.bytes.now) }
+        ensures values { IfSome result (λ p. (p.0.values ≡ self.entry.values)
+            × (p.1.values ≡ self.entry.values)) }
     {
         let FieldsMut {
             kinds,
