@@ -1,5 +1,5 @@
 //! The frames that a node holds, read where they lie.
-ghost use Rattle.std.specs.Prelude.{◌≤◌, length, IfOk};
+ghost use Rattle.std.specs.Prelude.{◌≤◌, [], ◌∷◌, length, IfOk};
 ghost use Rattle.frame_views.specs.Inboxes.{AreFrames};
 
 use crate::acts::bytes_of;

@@ -1,5 +1,5 @@
 //! Frames that are written place by place, as callers of the library do.
-ghost use Rattle.std.specs.Prelude.{◌≡◌, ◌+◌, ◌≤◌, ◌<◌, length};
+ghost use Rattle.std.specs.Prelude.{◌≡◌, ◌+◌, ◌*◌, ◌≤◌, ◌<◌, length, IfSome};
 ghost use Rattle.frame_format.specs.Formats.{kinds_at, size, width, IsBlock};
 
 use frame_format::{Frame, Layout};
@@ -17,25 +17,45 @@ pub fn place_frame(layout: &Layout, frame: &Frame, copy: u32, bytes: &mut [u8])
 {
     let mut places = FrameMut::new(layout, frame.round, bytes);
     let (mut header, fields) = places.parts();
-    place_fields(fields, &frame.message, 0);
+    place_fields(fields, &frame.message);
     header.write(frame.from, frame.to, frame.round, copy);
 }
 
-/// Writes the fields of a message from a place on.
-fn place_fields(fields: FieldsMut<'_, '_>, message: &Message, place: usize)
+/// Writes the fields of a message, four at most.
+fn place_fields(fields: FieldsMut<'_, '_>, message: &Message)
     requires few { fields.values ≤ 64 }
     requires block { IsBlock fields.kinds.now }
-    requires within { place + length fields.kinds.now ≤ 8 }
     requires room { size fields.kinds.now ≤ length fields.bytes.now }
 {
-    let kind = match fields.kinds.first() {
-        Some(kind) => *kind,
-        None => return,
+    let Some(fields) = place_first(fields, message, 0) else {
+        return;
     };
-    if let Some((mut slot, rest)) = fields.split_first() {
-        place_field(&mut slot, kind, message, place);
-        place_fields(rest, message, place + 1);
-    }
+    let Some(fields) = place_first(fields, message, 1) else {
+        return;
+    };
+    let Some(fields) = place_first(fields, message, 2) else {
+        return;
+    };
+    let _ = place_first(fields, message, 3);
+}
+
+/// Writes the first of the places that are left as a field of a message, and gives the others.
+fn place_first<'a, 'l>(
+    fields: FieldsMut<'a, 'l>,
+    message: &Message,
+    place: usize,
+) -> Option<FieldsMut<'a, 'l>>
+    requires few { fields.values ≤ 64 }
+    requires block { IsBlock fields.kinds.now }
+    requires room { size fields.kinds.now ≤ length fields.bytes.now }
+    ensures few { IfSome result (λ rest. rest.values ≤ 64) }
+    ensures block { IfSome result (λ rest. IsBlock rest.kinds.now) }
+    ensures room { IfSome result (λ rest. size rest.kinds.now ≤ length rest.bytes.now) }
+{
+    let kind = *fields.kinds.first()?;
+    let (mut slot, rest) = fields.split_first()?;
+    place_field(&mut slot, kind, message, place);
+    Some(rest)
 }
 
 /// Writes the field at a place of a message.

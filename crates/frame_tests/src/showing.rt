@@ -1,4 +1,6 @@
 //! Frames as texts.
+ghost use Rattle.std.specs.Prelude.{◌≤◌};
+
 use crate::fault::Fault;
 use frame_format::{Frame, FrameFault, Layout, decode};
 use frame_views::{FrameView, RowView};
@@ -54,7 +56,9 @@ fn show_frame(frame: &Frame, out: &mut String) -> Result<(), Fault> {
     show_message(&frame.message, out)
 }
 
-fn show_row(row: &RowView<'_>, entries: usize, out: &mut String) -> Result<(), Fault> {
+fn show_row(row: &RowView<'_>, entries: usize, out: &mut String) -> Result<(), Fault>
+    requires { entries ≤ 64 }
+{
     out.push_str(" row")?;
     for value in 0..entries {
         write!(out, " {}", row.at(value as u32))?;

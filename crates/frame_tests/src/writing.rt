@@ -1,5 +1,5 @@
 //! Messages that are written as frames.
-ghost use Rattle.std.specs.Prelude.{◌≤◌};
+ghost use Rattle.std.specs.Prelude.{ℕ, List, ◌≤◌};
 ghost use Rattle.frame_format.specs.Spelling.{Spells};
 
 use crate::fault::Fault;

@@ -1,5 +1,5 @@
 -- An inbox, one place on.
-use Rattle.std.proofs.Common.{◌≡◌, ℕ, ◌+◌, ◌<◌, ◌≤◌, List, [], ◌∷◌, length, get_or, drop, Option, Some, None, refl, subst}
+use Rattle.std.proofs.Common.{◌≡◌, ℕ, ◌+◌, ◌<◌, ◌≤◌, List, [], ◌∷◌, ◌++◌, length, get_or, drop, Option, Some, None, refl, subst}
 use Rattle.std.proofs.lemmas.List.{drop_more, drop_all}
 use Rattle.frame_format.specs.Formats.{Format}
 use Rattle.frame_format.specs.Reading.{frame_at}
@@ -23,3 +23,9 @@ AreFrames-rest s (Some bytes) held h = h.1
 
 pub AreFrames-more : (s : Format) (i : ℕ) (held : List (Option (List ℕ))) → i < length held → AreFrames s (drop i held) → AreFrames s (drop (i + 1) held)
 AreFrames-more s i held h frames = AreFrames-rest s (get_or held i None) (drop (i + 1) held) (subst (AreFrames s) (drop_more held i None h) frames)
+
+-- one sender more
+pub AreFrames-push : (s : Format) (held : List (Option (List ℕ))) (one : Option (List ℕ)) → AreFrames s held → AreFrames s (one ∷ []) → AreFrames s (held ++ one ∷ [])
+AreFrames-push s [] one frames h = h
+AreFrames-push s (None ∷ held) one frames h = AreFrames-push s held one frames h
+AreFrames-push s ((Some bytes) ∷ held) one frames h = (frames.0, AreFrames-push s held one frames.1 h)

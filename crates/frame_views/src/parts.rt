@@ -248,6 +248,7 @@ impl<'a> FieldMut<'a> {
         ensures same { self.new.bytes.ghost_name ≡ self.old.bytes.ghost_name }
         ensures values { self.new.values ≡ self.old.values }
         ensures value { self.new.bytes.now ≡ with_entry self.old.bytes.now value n }
+        ensures length { length self.new.bytes.now ≡ length self.old.bytes.now }
     {
         let at = 4 * value as usize;
         let bytes = &mut *self.bytes;
