@@ -1,0 +1,56 @@
+//! The frames that a node holds, read where they lie.
+ghost use Rattle.std.specs.Prelude.{◌≤◌, [], ◌∷◌, length, IfOk};
+ghost use Rattle.frame_views.specs.Inboxes.{AreFrames};
+
+use crate::acts::bytes_of;
+use crate::fault::Fault;
+use crate::showing::show_view;
+use bytes::Bytes;
+use frame_format::{Layout, first_fault};
+use frame_views::InboxView;
+use std::alloc::Global;
+
+/// The frames of a text, with commas between them and `-` for none, of senders 0 and up.
+fn held_in(alloc: Global, layout: &Layout, text: &str) -> Result<Vec<Option<Bytes>>, Fault>
+    ensures few { IfOk result (λ held. length held.items ≤ 16) }
+    ensures frames { IfOk result (λ held. AreFrames layout.now held.items) }
+{
+    let mut held = Vec::new(alloc);
+    for part in text.split(',') {
+        if held.len() == 16 {
+            return Err(Fault::Unreadable);
+        }
+        held.push(frame_in(alloc, layout, part.trim())?)?;
+    }
+    Ok(held)
+}
+
+/// The frame of a text, none where it is `-`.
+fn frame_in(alloc: Global, layout: &Layout, text: &str) -> Result<Option<Bytes>, Fault>
+    ensures { IfOk result (λ one. AreFrames layout.now (one ∷ [])) }
+{
+    if text == "-" {
+        return Ok(None);
+    }
+    let bytes = Bytes::from_vec(bytes_of(alloc, text)?)?;
+    match first_fault(layout, bytes.as_slice()) {
+        None => Ok(Some(bytes)),
+        Some(_) => Err(Fault::Unreadable),
+    }
+}
+
+/// Each sender that holds a frame, and its frame.
+pub fn show_inbox(
+    alloc: Global,
+    layout: &Layout,
+    text: &str,
+    out: &mut String,
+) -> Result<(), Fault> {
+    let held = held_in(alloc, layout, text)?;
+    let mut inbox = InboxView::new(layout, &held);
+    while let Some((sender, frame)) = inbox.next() {
+        write!(out, "[{sender}] ")?;
+        show_view(layout, &frame, out)?;
+    }
+    Ok(())
+}

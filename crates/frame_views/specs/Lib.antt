@@ -1,0 +1,3 @@
+pub mod Views
+pub mod Inboxes
+pub mod Writing
