@@ -69,13 +69,13 @@ module _ (start : ℕ → ℕ) (v : Log) (n f : NodeView) (turn : IsSameTurn n f
             let next : round_of v f.me + 1 + k ≡ suc q = omega (arith, at, round-closed v f some) in
             held_after k q b next l (cases_lt k ahead);
       })
-      where
-        -- what was held of the rounds after the one that ended, and nothing of the last that it keeps now
-        held_after : (k q : ℕ) → k ≤ ahead → round_of v f.me + 1 + k ≡ suc q → q < v.setup.rounds → (k < ahead) ⊎ (ahead ≤ k) → AreCarried (world_of start v) (history v) f.me q (held_of m k)
-        held_after k q b next l (inl before) =
-            let own : AreCarried (world_of start v) (history v) f.me q (held_of n (k + 1)) = at_own.held (k + 1) q (omega arith) (omega arith) l in
-            subst (λ x. AreCarried (world_of start v) (history v) f.me q x) (sym (settled.kept k before ∙ ap (λ x. get_or x (k + 1) []) same.held)) own
-        held_after k q b next l (inr past) =
-            let last : k ≡ ahead = omega arith in
-            let begin : earliest (suc q) ≡ round_of v f.me + 1 = omega arith in
-            held_begins (world_of start v) (history v) f.me q (held_of m k) (omega (arith, due_own, ap start begin)) (λ j c. ap (λ x. held_at (held_of m x) j) last ∙ settled.free j)
+    where
+      -- what was held of the rounds after the one that ended, and nothing of the last that it keeps now
+      held_after : (k q : ℕ) → k ≤ ahead → round_of v f.me + 1 + k ≡ suc q → q < v.setup.rounds → (k < ahead) ⊎ (ahead ≤ k) → AreCarried (world_of start v) (history v) f.me q (held_of m k)
+      held_after k q b next l (inl before) =
+          let own : AreCarried (world_of start v) (history v) f.me q (held_of n (k + 1)) = at_own.held (k + 1) q (omega arith) (omega arith) l in
+          subst (λ x. AreCarried (world_of start v) (history v) f.me q x) (sym (settled.kept k before ∙ ap (λ x. get_or x (k + 1) []) same.held)) own
+      held_after k q b next l (inr past) =
+          let last : k ≡ ahead = omega arith in
+          let begin : earliest (suc q) ≡ round_of v f.me + 1 = omega arith in
+          held_begins (world_of start v) (history v) f.me q (held_of m k) (omega (arith, due_own, ap start begin)) (λ j c. ap (λ x. held_at (held_of m x) j) last ∙ settled.free j)

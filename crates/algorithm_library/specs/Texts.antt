@@ -14,6 +14,7 @@ lines ls = flat_map (λ l. l ++ 10 ∷ []) ls
 abbrev pub text_of : List ℕ → ℕ → List ℕ
 text_of rest k = codes "values " ++ decimal k ++ rest
 
+-- what follows the number of values in the text of `gather`
 abbrev pub gather_rest : List ℕ
 gather_rest =
     lines
@@ -28,6 +29,7 @@ gather_rest =
     ∷ codes "  end:"
     ∷ [])
 
+-- what follows the number of values in the text of `count_votes`
 abbrev pub count_votes_rest : List ℕ
 count_votes_rest =
     lines
@@ -44,6 +46,7 @@ count_votes_rest =
     ∷ codes "  end: top := {w : votes[w] > n div 2}; last := votes; votes := zero;"
     ∷ [])
 
+-- what follows the number of values in the text of `dls1`, Algorithm 1
 abbrev pub dls1_rest : List ℕ
 dls1_rest =
     lines

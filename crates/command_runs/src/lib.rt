@@ -14,6 +14,6 @@ mod written;
 pub use desk::{Desk, DeskFault};
 pub use explained::{Terms, explained_run, judged_run};
 pub use memory_desk::MemoryDesk;
-pub use written::Written;
 pub use refusal::Refusal;
 pub use run::run_words;
+pub use written::Written;

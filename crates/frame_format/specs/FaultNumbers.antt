@@ -3,6 +3,7 @@ use Rattle.std.specs.Prelude.{ℕ}
 use Rattle.frame_format.specs.declared.fault.FrameFault.{FrameFault}
 use Rattle.frame_format.specs.declared.fault.FrameFault.TheVariants.{Short, BadMark, BadVersion, BadNode, BadRound, BadPosition, BadCopy, BadLength, BadField, NoMemory}
 
+-- the number of a fault
 abbrev pub fault_number : FrameFault → ℕ
 fault_number Short = 1
 fault_number BadMark = 2

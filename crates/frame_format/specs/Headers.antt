@@ -5,6 +5,7 @@ use Rattle.frame_format.specs.declared.version.FrameVersion.{FrameVersion}
 use Rattle.frame_format.specs.declared.version.FrameVersion.TheVariants.{V1, V2}
 use Rattle.frame_format.specs.Formats.{Format, kinds_at, position, size}
 
+-- the byte that names a version
 abbrev pub version_byte : FrameVersion → ℕ
 version_byte V1 = 1
 version_byte V2 = 2

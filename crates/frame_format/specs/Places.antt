@@ -5,12 +5,15 @@ use Rattle.frame_format.specs.declared.version.FrameVersion.{FrameVersion}
 use Rattle.frame_format.specs.declared.version.FrameVersion.TheVariants.{V1, V2}
 use Rattle.frame_format.specs.Headers.{header_size}
 
+-- the sender that a header names
 abbrev pub from_at : List ℕ → ℕ
 from_at bytes = slice_index bytes 2
 
+-- the receiver that a header names
 abbrev pub to_at : List ℕ → ℕ
 to_at bytes = slice_index bytes 3
 
+-- the round that a header names
 abbrev pub round_at : List ℕ → ℕ
 round_at bytes = big_number 4 (drop 4 bytes)
 

@@ -29,6 +29,7 @@ AreOf k [] (v ∷ vs) = ⊥
 AreOf k (kind ∷ kinds) [] = ⊥
 AreOf k (kind ∷ kinds) (v ∷ vs) = IsOf k kind v × AreOf k kinds vs
 
+-- the byte of a truth value
 abbrev pub flag_byte : Bool → ℕ
 flag_byte true = 1
 flag_byte false = 0

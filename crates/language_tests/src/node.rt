@@ -5,9 +5,7 @@ use crate::reading::{cut, number, vars};
 use crate::showing::{show_number, show_vars};
 use round_check::Checked;
 use round_lang::{Shape, Vars};
-use round_meaning::{
-    Heard, Received, Setup, decision_of, end_of, initial_of, is_inbox, send_of,
-};
+use round_meaning::{Heard, Received, Setup, decision_of, end_of, initial_of, is_inbox, send_of};
 use std::alloc::Global;
 
 /// A node of a program with its state, and what it has heard in its round.
