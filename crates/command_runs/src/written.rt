@@ -13,11 +13,11 @@ pub struct Written {
 }
 
 impl Model for Written {
-    ghost use Rattle.std.specs.Prelude.{List, ℕ};
+    ghost use Rattle.std.specs.Prelude.{List, ℕ, map, string_bytes};
 
     ghost Value = { List (List ℕ) };
 
-    ghost view = { λ w. w.names.items };
+    ghost view = { λ w. map (λ s. string_bytes s) w.names.items };
 }
 
 impl Written {

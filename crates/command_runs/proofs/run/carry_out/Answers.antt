@@ -4,8 +4,8 @@ use Rattle.command_runs.specs.Served.{Serves, summary_text}
 use Rattle.command_runs.proofs.Serving.{printed, program_of}
 use Rattle.command_runs.proofs.run.carry_out.Goals as goal
 
-pub returns-in_ok-program-in-Check : goal.returns-in_ok-program-in-Check
-returns-in_ok-program-in-Check g c =
+pub returns-in_ok-program-in-Check-clause-served : goal.returns-in_ok-program-in-Check-clause-served
+returns-in_ok-program-in-Check-clause-served g c =
     let p = c.in_ok-program-in-Check.program in
     let files = g.D.Desk.files c.args.desk.now in
     let old = g.O.Write.contents c.args.out.now in
