@@ -1,0 +1,9 @@
+pub mod Runs
+pub mod Steps
+pub mod Holding
+pub mod Ops
+pub mod Correct
+pub mod Patch
+pub mod Typing
+pub mod Sound
+pub mod Assigned
