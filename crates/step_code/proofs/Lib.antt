@@ -7,3 +7,6 @@ pub mod Patch
 pub mod Typing
 pub mod Sound
 pub mod Assigned
+pub mod Areas
+pub mod Small
+pub mod Values

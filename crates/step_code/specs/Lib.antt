@@ -5,3 +5,4 @@ pub mod Where
 pub mod Assignments
 pub mod Layout
 pub mod Relation
+pub mod Small

@@ -1,7 +1,7 @@
 //! Where a program's values stand in its room.
 ghost use Rattle.std.specs.Prelude.{◌≡◌, ◌++◌, IfOk, OnOk};
 ghost use Rattle.round_check.specs.Types.{kind_type};
-ghost use Rattle.step_code.specs.Layout.{behind_fields, behind_variables, fields_at, variables_at};
+ghost use Rattle.step_code.specs.Layout.{behind, field_types, fields_at, variable_types, variables_at};
 
 use crate::names::Known;
 use crate::single::{further, size_of};
@@ -26,7 +26,7 @@ pub(crate) fn place_variables(
 ) -> Result<u16, NoMemory>
     ensures names { OnOk result (names.new.items
         ≡ names.old.items ++ variables_at k place variables.now) }
-    ensures end { IfOk result (λ p. p ≡ behind_variables k place variables.now) }
+    ensures end { IfOk result (λ p. p ≡ behind k place (variable_types variables.now)) }
 {
     match variables {
         [] => Ok(place),
@@ -47,7 +47,7 @@ pub(crate) fn place_fields(
     fields: &[Field],
 ) -> Result<u16, NoMemory>
     ensures names { OnOk result (names.new.items ≡ names.old.items ++ fields_at k place fields.now) }
-    ensures end { IfOk result (λ p. p ≡ behind_fields k place fields.now) }
+    ensures end { IfOk result (λ p. p ≡ behind k place (field_types fields.now)) }
 {
     match fields {
         [] => Ok(place),
