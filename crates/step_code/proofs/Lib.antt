@@ -10,3 +10,5 @@ pub mod Assigned
 pub mod Areas
 pub mod Small
 pub mod Values
+pub mod TypedParts
+pub mod Safe

@@ -6,3 +6,4 @@ pub mod Assignments
 pub mod Layout
 pub mod Relation
 pub mod Small
+pub mod Compiled

@@ -1,6 +1,7 @@
 //! A program's flat code, and the room of words that it runs in.
 #![tactic(auto)]
 
+mod block_code;
 mod emit;
 mod instr;
 mod layout;
