@@ -7,3 +7,5 @@ pub mod Layout
 pub mod Relation
 pub mod Small
 pub mod Compiled
+pub mod Rooms
+pub mod Inside

@@ -9,7 +9,7 @@ use crate::emit::emit;
 use crate::instr::Instr;
 use crate::layout::{place_fields, place_variables};
 use crate::names::{Known, Scope};
-use crate::pieces::{emit_body, emit_values};
+use crate::pieces::{Piece, emit_body, emit_values};
 use crate::single::further;
 use round_lang::{Assignment, Block, Formula, NoMemory, Program};
 use std::alloc::Global;
@@ -23,13 +23,6 @@ pub(crate) struct BlockCode {
     pub(crate) sent: Vec<Instr>,
     pub(crate) on_message: Vec<Instr>,
     pub(crate) end: Vec<Instr>,
-}
-
-/// Code, and where the words end that it needs.
-#[derive(Drop)]
-struct Piece {
-    code: Vec<Instr>,
-    top: usize,
 }
 
 /// The names that can be read in `on message`, and where the free words begin.

@@ -7,6 +7,8 @@ mod instr;
 mod layout;
 mod names;
 mod pieces;
+mod program;
+mod room;
 mod run;
 mod single;
 mod step;

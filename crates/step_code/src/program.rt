@@ -1,0 +1,99 @@
+//! Compiled programs.
+ghost use Rattle.std.specs.Prelude.{◌≡◌, ◌≤◌, ◌+◌, IfOk, OnOk};
+ghost use Rattle.step_code.specs.Assignments.{StartsNumbers, starts_top};
+ghost use Rattle.step_code.specs.Layout.{init_code, message_place, room_of, start_names};
+
+use crate::block_code::{BlockCode, compile_blocks};
+use crate::instr::Instr;
+use crate::layout::place_variables;
+use crate::names::Known;
+use crate::pieces::{Piece, emit_starts};
+use crate::single::further;
+use round_check::Checked;
+use round_lang::{NoMemory, Ty};
+use std::alloc::Global;
+use std::marker::Model;
+
+/// A program's flat code, seen by contracts as the program. It keeps that the code is that of the
+/// program, that no jump leaves it, that each operand stands in the room and is of the kind that its
+/// operator takes, that each loop has K turns, and that no more words are used than it states.
+#[derive(Drop)]
+pub struct StepProgram {
+    pub(crate) program: Checked,
+    pub(crate) room: usize,
+    pub(crate) message: u16,
+    pub(crate) init: Vec<Instr>,
+    pub(crate) blocks: Vec<BlockCode>,
+}
+
+impl Model for StepProgram {
+    ghost use Rattle.round_lang.specs.Syntax.{ProgramTree};
+    ghost use Rattle.round_lang.specs.contracts.formula.Formula as formula;
+    ghost use Rattle.std.specs.Coded.{codes};
+    ghost use Rattle.step_code.specs.Inside.{IsKept};
+
+    ghost Value = { ProgramTree };
+
+    ghost coded = { Prim.hlevel (codes, formula.the_row.coded) };
+
+    ghost view = { λ s. s.program };
+
+    ghost invariant = { IsKept };
+}
+
+impl StepProgram {
+    /// How many words its code uses: what a room of it has.
+    pub fn words(&self) -> usize
+        ensures words { result ≡ room_of self.now }
+        ensures constants { 13 + self.now.values ≤ result }
+    {
+        self.room
+    }
+}
+
+/// The code of a checked program.
+pub fn compile(alloc: Global, program: &Checked) -> Result<StepProgram, NoMemory>
+    ensures { IfOk result (λ s. s ≡ program.now) }
+{
+    program.typed();
+    let tree = program.program();
+    let k = tree.values();
+    let mut variables = Vec::new(alloc);
+    let state = further(13, k)?;
+    let message = place_variables(&mut variables, k, state, tree.variables())?;
+    let start = start_piece(alloc, program, state, message)?;
+    let mut blocks = Vec::new(alloc);
+    let top = compile_blocks(&mut blocks, alloc, tree, &variables, message, tree.blocks())?;
+    Ok(StepProgram {
+        program: program.copy()?,
+        room: start.top.max(top),
+        message,
+        init: start.code,
+        blocks,
+    })
+}
+
+/// The code of the initial state.
+fn start_piece(
+    alloc: Global,
+    program: &Checked,
+    state: u16,
+    message: u16,
+) -> Result<Piece, NoMemory>
+    requires state { state ≡ 13 + program.now.values }
+    requires message { message ≡ message_place program.now }
+    ensures code { IfOk result (λ r. r.code.items ≡ init_code program.now) }
+    ensures top { IfOk result (λ r. r.top ≡ starts_top program.now.values (start_names program.now)
+        program.now.variables (message_place program.now)) }
+    ensures numbers { OnOk result (StartsNumbers program.now.variables) }
+{
+    let tree = program.program();
+    let k = tree.values();
+    let place = further(12, k)?;
+    let name = program.input().copy()?;
+    let mut names = Vec::new(alloc);
+    names.push(Known { name, ty: Ty::Num, place })?;
+    let mut code = Vec::new(alloc);
+    let top = emit_starts(&mut code, k, &names, tree.variables(), state, message)?;
+    Ok(Piece { code, top })
+}
