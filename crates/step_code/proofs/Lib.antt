@@ -12,3 +12,4 @@ pub mod Small
 pub mod Values
 pub mod TypedParts
 pub mod Safe
+pub mod Loading

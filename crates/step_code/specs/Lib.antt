@@ -9,3 +9,4 @@ pub mod Small
 pub mod Compiled
 pub mod Rooms
 pub mod Inside
+pub mod Turns

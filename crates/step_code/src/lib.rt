@@ -3,6 +3,7 @@
 
 mod block_code;
 mod emit;
+mod fields;
 mod instr;
 mod layout;
 mod names;

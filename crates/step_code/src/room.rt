@@ -49,6 +49,14 @@ impl Room {
         self.words.as_slice()[place]
     }
 
+    /// Writes a word to a place.
+    pub(crate) fn put(&mut self, place: usize, word: u64)
+        requires { place < length self.old }
+        ensures { self.new ≡ slice_set self.old place word }
+    {
+        self.words.as_mut_slice()[place] = word;
+    }
+
     /// Writes these words from a place on.
     pub(crate) fn fill(&mut self, first: usize, words: &[u64])
         requires { first + length words.now ≤ length self.old }
