@@ -13,3 +13,5 @@ pub mod Values
 pub mod TypedParts
 pub mod Safe
 pub mod Loading
+pub mod Turning
+pub mod Taking

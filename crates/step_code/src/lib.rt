@@ -13,3 +13,4 @@ mod room;
 mod run;
 mod single;
 mod step;
+mod turn;

@@ -1,7 +1,11 @@
 //! Compiled programs.
-ghost use Rattle.std.specs.Prelude.{◌≡◌, ◌≤◌, ◌+◌, IfOk, OnOk};
+ghost use Rattle.std.specs.Prelude.{◌≡◌, ◌≤◌, ◌<◌, ◌^◌, ◌+◌, true, IfOk, IfSome, IsNone, None, OnOk, length};
+ghost use Rattle.round_check.specs.Causes.{is_typed};
+ghost use Rattle.round_meaning.specs.Turn.{block_at};
 ghost use Rattle.step_code.specs.Assignments.{StartsNumbers, starts_top};
-ghost use Rattle.step_code.specs.Layout.{init_code, message_place, room_of, start_names};
+ghost use Rattle.step_code.specs.Layout.{init_code, message_place, room_of, start_names, state_place};
+ghost use Rattle.step_code.specs.Machine.{Fine};
+ghost use Rattle.step_code.specs.Turns.{IsPart};
 
 use crate::block_code::{BlockCode, compile_blocks};
 use crate::instr::Instr;
@@ -10,20 +14,27 @@ use crate::names::Known;
 use crate::pieces::{Piece, emit_starts};
 use crate::single::further;
 use round_check::Checked;
-use round_lang::{NoMemory, Ty};
+use round_lang::{Block, NoMemory, Ty};
 use std::alloc::Global;
 use std::marker::Model;
+
+/// A block with its code.
+#[derive(Clone, Copy)]
+pub(crate) struct Part<'a> {
+    pub(crate) block: &'a Block,
+    pub(crate) code: &'a BlockCode,
+}
 
 /// A program's flat code, seen by contracts as the program. It keeps that the code is that of the
 /// program, that no jump leaves it, that each operand stands in the room and is of the kind that its
 /// operator takes, that each loop has K turns, and that no more words are used than it states.
 #[derive(Drop)]
 pub struct StepProgram {
-    pub(crate) program: Checked,
-    pub(crate) room: usize,
-    pub(crate) message: u16,
-    pub(crate) init: Vec<Instr>,
-    pub(crate) blocks: Vec<BlockCode>,
+    program: Checked,
+    room: usize,
+    message: u16,
+    init: Vec<Instr>,
+    blocks: Vec<BlockCode>,
 }
 
 impl Model for StepProgram {
@@ -48,6 +59,53 @@ impl StepProgram {
         ensures constants { 13 + self.now.values ≤ result }
     {
         self.room
+    }
+
+    /// The program that it's the code of.
+    pub fn program(&self) -> &Checked
+        ensures { result.now ≡ self.now }
+    {
+        &self.program
+    }
+
+    /// K.
+    pub(crate) fn values(&self) -> u32
+        ensures value { result ≡ self.now.values }
+        ensures few { result ≤ 64 }
+    {
+        self.program.program().values()
+    }
+
+    /// Where the words of a message begin, which is where those of the state end.
+    pub(crate) fn message_place(&self) -> usize
+        ensures place { result ≡ message_place self.now }
+        ensures behind { state_place self.now.values ≤ result }
+        ensures within { result ≤ room_of self.now }
+        ensures near { result < 2 ^ 16 }
+    {
+        self.message as usize
+    }
+
+    /// The code of the initial state.
+    pub(crate) fn init_code(&self) -> &[Instr]
+        ensures code { result.now ≡ init_code self.now }
+        ensures fine { Fine self.now.values (room_of self.now) result.now (length result.now) }
+        ensures typed { is_typed self.now ≡ true }
+        ensures numbers { StartsNumbers self.now.variables }
+    {
+        &self.init
+    }
+
+    /// The block of a round, with its code.
+    pub(crate) fn part(&self, round: u32) -> Option<Part<'_>>
+        ensures some { IfSome result (λ part. IsPart self.now round part.block.now part.code.now) }
+        ensures none { IsNone result → block_at self.now round ≡ None }
+    {
+        let program = self.program.program();
+        let place = (round.saturating_sub(1) % program.period()) as usize;
+        let block = program.blocks().get(place)?;
+        let code = self.blocks.get(place)?;
+        Some(Part { block, code })
     }
 }
 

@@ -37,7 +37,7 @@ impl Room {
         ensures { IfOk result (λ r. IsRoomOf program.now r) }
     {
         let mut words = SmallVec::from_elem(alloc, 0, program.words())?;
-        set_constants(program.program.program().values(), words.as_mut_slice());
+        set_constants(program.values(), words.as_mut_slice());
         Ok(Room { words })
     }
 
