@@ -15,3 +15,4 @@ pub mod Safe
 pub mod Loading
 pub mod Turning
 pub mod Taking
+pub mod Answering

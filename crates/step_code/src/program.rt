@@ -1,5 +1,6 @@
 //! Compiled programs.
-ghost use Rattle.std.specs.Prelude.{◌≡◌, ◌≤◌, ◌<◌, ◌^◌, ◌+◌, true, IfOk, IfSome, IsNone, None, OnOk, length};
+ghost use Rattle.std.specs.Prelude.{◌≡◌, ◌≤◌, ◌<◌, ◌^◌, ◌+◌, ◌-◌, ◌%◌, true, IfOk, IfSome, IsNone, None, OnOk, Some, length, option_copied, slice_get};
+ghost use Rattle.round_check.specs.Shapes.{block_kinds};
 ghost use Rattle.round_check.specs.Causes.{is_typed};
 ghost use Rattle.round_meaning.specs.Turn.{block_at};
 ghost use Rattle.step_code.specs.Assignments.{StartsNumbers, starts_top};
@@ -14,15 +15,16 @@ use crate::names::Known;
 use crate::pieces::{Piece, emit_starts};
 use crate::single::further;
 use round_check::Checked;
-use round_lang::{Block, NoMemory, Ty};
+use round_lang::{Block, NoMemory, Program, Shape, Ty};
 use std::alloc::Global;
 use std::marker::Model;
 
-/// A block with its code.
+/// A block with its code, and where the free words begin.
 #[derive(Clone, Copy)]
 pub(crate) struct Part<'a> {
     pub(crate) block: &'a Block,
     pub(crate) code: &'a BlockCode,
+    pub(crate) free: usize,
 }
 
 /// A program's flat code, seen by contracts as the program. It keeps that the code is that of the
@@ -99,14 +101,49 @@ impl StepProgram {
     /// The block of a round, with its code.
     pub(crate) fn part(&self, round: u32) -> Option<Part<'_>>
         ensures some { IfSome result (λ part. IsPart self.now round part.block.now part.code.now) }
+        ensures free { IfSome result (λ part. part.free ≡ part.code.now.free) }
+        ensures near { IfSome result (λ part. part.free < 2 ^ 16) }
         ensures none { IsNone result → block_at self.now round ≡ None }
     {
         let program = self.program.program();
-        let place = (round.saturating_sub(1) % program.period()) as usize;
-        let block = program.blocks().get(place)?;
-        let code = self.blocks.get(place)?;
-        Some(Part { block, code })
+        let place = place_at(program, round);
+        let block = block_in(program, place)?;
+        let code = code_in(self.blocks.as_slice(), place)?;
+        let free = code.free as usize;
+        Some(Part { block, code, free })
     }
+
+    /// The kinds of a message's values in a round.
+    pub(crate) fn shape(&self, round: u32, block: &Block) -> &Shape
+        requires { block_at self.now round ≡ Some block.now }
+        ensures { result.now ≡ block_kinds self.now.values block.now }
+    {
+        let place = place_at(self.program.program(), round);
+        match self.program.message_shape(place) {
+            Some(shape) => shape,
+            None => unreachable!(),
+        }
+    }
+}
+
+/// The place of a round's block.
+fn place_at(program: &Program, round: u32) -> usize
+    ensures { result ≡ (round - 1) % program.now.period }
+{
+    let place = round.saturating_sub(1) % program.period();
+    place as usize
+}
+
+fn block_in(program: &Program, place: usize) -> Option<&Block>
+    ensures { option_copied result ≡ slice_get program.now.blocks place }
+{
+    program.blocks().get(place)
+}
+
+fn code_in(codes: &[BlockCode], place: usize) -> Option<&BlockCode>
+    ensures { option_copied result ≡ slice_get codes.now place }
+{
+    codes.get(place)
 }
 
 /// The code of a checked program.

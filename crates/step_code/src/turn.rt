@@ -6,7 +6,8 @@ ghost use Rattle.round_meaning.specs.declared.received.Received.{Received};
 ghost use Rattle.round_meaning.specs.declared.setup.Setup.{Setup as OneSetup};
 ghost use Rattle.round_meaning.specs.Meaning.{Env, value};
 ghost use Rattle.round_meaning.specs.Rounds.{algorithm_of};
-ghost use Rattle.round_meaning.specs.Turn.{initial};
+ghost use Rattle.round_meaning.specs.Turn.{initial, node_env, with_dest};
+ghost use Rattle.step_code.specs.Small.{IsSmallEnv};
 ghost use Rattle.round_lang.specs.Values.{flag};
 ghost use Rattle.step_code.specs.Layout.{room_of};
 ghost use Rattle.step_code.specs.Relation.{Filled};
@@ -17,7 +18,7 @@ use crate::block_code::BlockCode;
 use crate::fields::{Fields, load_fields};
 use crate::program::StepProgram;
 use crate::room::Room;
-use round_lang::{Block, Message, NoMemory, Shape, Vars};
+use round_lang::{Block, Message, NoMemory, Vars};
 use round_meaning::Setup;
 use std::alloc::Global;
 
@@ -111,27 +112,39 @@ impl StepProgram {
             → state.new ≡ (algorithm_of self.now s).end round i inbox old }
         ensures room { IsRoomOf self.now room.new }
     {
-        let k = self.values();
+        self.finish(round, room);
+        let place = 13 + self.values() as usize;
+        room.give(state, place, self.message_place());
+    }
+
+    /// Computes the new state in the room.
+    fn finish(&self, round: u32, room: &mut Room)
+        requires { length room.old ≡ room_of self.now }
+        ensures { (s : OneSetup) (i : ℕ) (old : List Value) (inbox : List Received)
+            → InTurn self.now s round i old inbox room.old
+            → HasState self.now ((algorithm_of self.now s).end round i inbox old) room.new }
+    {
         if let Some(part) = self.part(round) {
-            room.run(k, &part.code.end);
+            room.run(self.values(), &part.code.end);
         }
-        room.give(state, 13 + k as usize, self.message_place());
     }
 
     /// Writes what a node knows of itself and its round.
     fn set_env(&self, room: &mut Room, setup: &Setup, round: u32, me: u32, dest: u32)
         requires { length room.old ≡ room_of self.now }
-        ensures { Filled 5 (env_words self.now setup.now.nodes setup.now.faults round me dest)
+        ensures words { Filled 5 (env_words self.now setup.now.nodes setup.now.faults round me dest)
             room.old room.new }
+        ensures small { IsSmallEnv (with_dest dest
+            (node_env self.now setup.now.nodes setup.now.faults round me)) }
     {
         let phase = round.saturating_sub(1) / self.program().program().period() + 1;
         let words = [
-            u64::from(me),
-            u64::from(setup.nodes),
-            u64::from(setup.faults),
-            u64::from(round),
-            u64::from(phase),
-            u64::from(dest),
+            word(me),
+            word(setup.nodes),
+            word(setup.faults),
+            word(round),
+            word(phase),
+            word(dest),
             0,
         ];
         room.fill(5, &words);
@@ -189,10 +202,15 @@ impl StepProgram {
         ensures room { IsRoomOf self.now room.new }
     {
         room.run(self.values(), &code.sent);
-        let period = self.program().program().period();
-        let place = (round.saturating_sub(1) % period) as usize;
-        let unknown = Shape::empty();
-        let shape = self.program().message_shape(place).unwrap_or(&unknown);
+        let shape = self.shape(round, block);
         room.values(alloc, shape, self.message_place(), code.free as usize)
     }
+}
+
+/// A number as a word of the room.
+fn word(number: u32) -> u64
+    ensures word { result ≡ number }
+    ensures small { result < 2 ^ 32 }
+{
+    u64::from(number)
 }
