@@ -14,3 +14,7 @@ mod run;
 mod single;
 mod step;
 mod turn;
+
+pub use fields::Fields;
+pub use program::{StepProgram, compile};
+pub use room::Room;

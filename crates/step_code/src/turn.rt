@@ -1,5 +1,5 @@
 //! A program's code at work: the initial state, what is sent, and a round's end.
-ghost use Rattle.std.specs.Prelude.{◌≡◌, ◌+◌, ◌++◌, ◌<◌, ◌^◌, [], ◌∷◌, ℕ, List, IfOk, IfSome, IsNone, Some, length, map, slice_index};
+ghost use Rattle.std.specs.Prelude.{◌≡◌, ◌+◌, ◌++◌, ◌<◌, ◌≤◌, ◌^◌, [], ◌∷◌, ℕ, List, IfOk, IfSome, IsNone, Some, length, map, slice_index};
 ghost use Rattle.round_lang.specs.declared.value.Value.{Value};
 ghost use Rattle.round_lang.specs.Tree.{Tree};
 ghost use Rattle.round_meaning.specs.declared.received.Received.{Received};
@@ -131,7 +131,8 @@ impl StepProgram {
 
     /// Writes what a node knows of itself and its round.
     fn set_env(&self, room: &mut Room, setup: &Setup, round: u32, me: u32, dest: u32)
-        requires { length room.old ≡ room_of self.now }
+        requires long { length room.old ≡ room_of self.now }
+        requires few { self.now.values ≤ 64 }
         ensures words { Filled 5 (env_words self.now setup.now.nodes setup.now.faults round me dest)
             room.old room.new }
         ensures small { IsSmallEnv (with_dest dest

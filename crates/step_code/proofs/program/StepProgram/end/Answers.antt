@@ -1,6 +1,8 @@
-use Rattle.std.proofs.Common.{◌≡◌, ◌∙◌, ap}
+use Rattle.std.proofs.Common.{◌≡◌, ◌∙◌, ◌+◌, ap}
 use Rattle.step_code.proofs.Answering.{state_read}
 use Rattle.step_code.proofs.program.StepProgram.end.Goals as goal
 
 pub give-requires-clause-spelled : goal.give-requires-clause-spelled
-give-requires-clause-spelled c = ?
+give-requires-clause-spelled c =
+    let t = c.requires.turn in
+    (state_read c.args.self.now _ c.finish.new.room _ (13 + c.values.result) c.message_place.result c.requires.state (ap (λ n. 13 + n) c.values.ensures.value) c.message_place.ensures.place (c.finish.ensures t.setup t.me t.old t.inbox t.turn)).1

@@ -1,3 +1,4 @@
+use Rattle.std.proofs.Common.{refl}
 use Rattle.step_code.proofs.Answering.{closed_none, closed_part}
 use Rattle.step_code.proofs.program.StepProgram.finish.Goals as goal
 
@@ -7,4 +8,4 @@ returns-in-Some c = λ s i old inbox h.
 
 pub returns-in_default : goal.returns-in_default
 returns-in_default c = λ s i old inbox h.
-    closed_none c.args.self.now c.args.round s i old inbox c.args.room.now ? h
+    closed_none c.args.self.now c.args.round s i old inbox c.args.room.now (c.in_default.ensures.none refl) h
