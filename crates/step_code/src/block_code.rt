@@ -58,7 +58,8 @@ fn body_piece(
     body: &[Assignment],
     d: u16,
 ) -> Result<Piece, NoMemory>
-    ensures code { IfOk result (λ r. r.code.items ≡ body_code k names.now variables.now body.now d) }
+    ensures code { IfOk result (λ r. r.code.items
+        ≡ body_code k names.now variables.now body.now d) }
     ensures top { IfOk result (λ r. r.top ≡ body_top k names.now body.now d) }
     ensures numbers { OnOk result (BodyNumbers body.now) }
 {

@@ -66,7 +66,8 @@ pub(crate) fn load_fields<F: Fields>(
     requires few { field + length fields.now ≤ 8 }
     requires kinds { map kind_of (drop field (F.values message.now))
         ≡ map (kind_for k) (field_types fields.now) }
-    ensures holds { HoldAll k room.new place (field_types fields.now) (drop field (F.values message.now)) }
+    ensures holds { HoldAll k room.new place (field_types fields.now)
+        (drop field (F.values message.now)) }
     ensures small { AllByRecursion IsSmall (drop field (F.values message.now)) }
     ensures keeps { Keeps place room.old room.new }
 {
@@ -113,7 +114,8 @@ fn load_row<F: Fields>(message: &F, field: usize, k: u32, place: usize, room: &m
     requires near { place + k < 2 ^ 16 }
     ensures entries { (v : ℕ) → v < k → slice_index room.new (place + v)
         ≡ slice_index (row (at (F.values message.now) field)) v }
-    ensures small { (v : ℕ) → v < k → slice_index (row (at (F.values message.now) field)) v < 2 ^ 32 }
+    ensures small { (v : ℕ) → v < k
+        → slice_index (row (at (F.values message.now) field)) v < 2 ^ 32 }
     ensures keeps { Keeps place room.old room.new }
 {
     for v in 0..k {

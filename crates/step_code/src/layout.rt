@@ -46,7 +46,8 @@ pub(crate) fn place_fields(
     place: u16,
     fields: &[Field],
 ) -> Result<u16, NoMemory>
-    ensures names { OnOk result (names.new.items ≡ names.old.items ++ fields_at k place fields.now) }
+    ensures names { OnOk result (names.new.items
+        ≡ names.old.items ++ fields_at k place fields.now) }
     ensures end { IfOk result (λ p. p ≡ behind k place (field_types fields.now)) }
 {
     match fields {

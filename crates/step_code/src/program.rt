@@ -28,8 +28,8 @@ pub(crate) struct Part<'a> {
 }
 
 /// A program's flat code, seen by contracts as the program. It keeps that the code is that of the
-/// program, that no jump leaves it, that each operand stands in the room and is of the kind that its
-/// operator takes, that each loop has K turns, and that no more words are used than it states.
+/// program, that no jump leaves it, that each operand stands in the room and is of the kind that
+/// its operator takes, that each loop has K turns, and that it uses no more words than it states.
 #[derive(Drop)]
 pub struct StepProgram {
     program: Checked,
@@ -187,7 +187,11 @@ fn start_piece(
     let place = further(12, k)?;
     let name = program.input().copy()?;
     let mut names = Vec::new(alloc);
-    names.push(Known { name, ty: Ty::Num, place })?;
+    names.push(Known {
+        name,
+        ty: Ty::Num,
+        place,
+    })?;
     let mut code = Vec::new(alloc);
     let top = emit_starts(&mut code, k, &names, tree.variables(), state, message)?;
     Ok(Piece { code, top })

@@ -87,7 +87,8 @@ impl Room {
         requires order { from ≤ to }
         requires within { to ≤ length self.now }
         requires spelled { IsSpelled shape.now (take (to - from) (drop from self.now)) }
-        ensures { IfOk result (λ v. v ≡ values_of shape.now (take (to - from) (drop from self.now))) }
+        ensures { IfOk result (λ v. v
+            ≡ values_of shape.now (take (to - from) (drop from self.now))) }
     {
         Vars::of_words(alloc, shape, &self.words.as_slice()[from..to])
     }
@@ -96,8 +97,10 @@ impl Room {
     pub(crate) fn give(&self, vars: &mut Vars, from: usize, to: usize)
         requires order { from ≤ to }
         requires within { to ≤ length self.now }
-        requires spelled { IsSpelled (map kind_of vars.old) (take (to - from) (drop from self.now)) }
-        ensures { vars.new ≡ values_of (map kind_of vars.old) (take (to - from) (drop from self.now)) }
+        requires spelled { IsSpelled (map kind_of vars.old)
+            (take (to - from) (drop from self.now)) }
+        ensures { vars.new
+            ≡ values_of (map kind_of vars.old) (take (to - from) (drop from self.now)) }
     {
         vars.set_words(&self.words.as_slice()[from..to]);
     }

@@ -33,11 +33,17 @@ impl StepProgram {
     ) -> Result<Vars, NoMemory>
         requires { IsRoomOf self.now room.old }
         ensures state { IfOk result (λ vs. vs ≡ (algorithm_of self.now setup.now).init me) }
+        ensures kinds { IfOk result (IsOfState self.now) }
         ensures room { IsRoomOf self.now room.new }
     {
         self.start(room, setup, me);
         let state = 13 + self.values() as usize;
-        room.values(alloc, self.program().state_shape(), state, self.message_place())
+        room.values(
+            alloc,
+            self.program().state_shape(),
+            state,
+            self.message_place(),
+        )
     }
 
     /// What node `me` in a state sends to `dest` in a round, none where it's silent.
@@ -55,6 +61,7 @@ impl StepProgram {
         requires state { IsOfState self.now state.now }
         ensures message { IfOk result (λ m. m
             ≡ (algorithm_of self.now setup.now).send round state.now me dest) }
+        ensures kinds { IfOk result (λ m. IfSome m (IsOfRound self.now round)) }
         ensures room { IsRoomOf self.now room.new }
     {
         let Some(part) = self.part(round) else {
@@ -68,14 +75,7 @@ impl StepProgram {
     }
 
     /// Brings node `me`'s state before a round into the room.
-    pub fn init_turn(
-        &self,
-        setup: &Setup,
-        round: u32,
-        me: u32,
-        state: &Vars,
-        room: &mut Room,
-    )
+    pub fn init_turn(&self, setup: &Setup, round: u32, me: u32, state: &Vars, room: &mut Room)
         requires room { IsRoomOf self.now room.old }
         requires state { IsOfState self.now state.now }
         ensures { InTurn self.now setup.now round me state.now [] room.new }
@@ -98,7 +98,14 @@ impl StepProgram {
         };
         let k = self.values();
         room.fill(11, &[u64::from(from)]);
-        load_fields(fields, 0, part.block.fields(), k, self.message_place(), room);
+        load_fields(
+            fields,
+            0,
+            part.block.fields(),
+            k,
+            self.message_place(),
+            room,
+        );
         room.run(k, &part.code.on_message);
         room.fill(11, &[0]);
     }
@@ -110,6 +117,7 @@ impl StepProgram {
         ensures state { (s : OneSetup) (i : ℕ) (old : List Value) (inbox : List Received)
             → InTurn self.now s round i old inbox room.old
             → state.new ≡ (algorithm_of self.now s).end round i inbox old }
+        ensures kinds { IsOfState self.now state.new }
         ensures room { IsRoomOf self.now room.new }
     {
         self.finish(round, room);
@@ -155,7 +163,8 @@ impl StepProgram {
     fn load(&self, room: &mut Room, setup: &Setup, round: u32, me: u32, dest: u32, state: &Vars)
         requires room { IsRoomOf self.now room.old }
         requires state { IsOfState self.now state.now }
-        ensures { Loaded self.now setup.now.nodes setup.now.faults round me dest state.now room.new }
+        ensures { Loaded self.now setup.now.nodes setup.now.faults round me dest state.now
+            room.new }
     {
         let place = 13 + self.values() as usize;
         self.set_env(room, setup, round, me, dest);
@@ -180,7 +189,8 @@ impl StepProgram {
         requires long { length room.old ≡ room_of self.now }
         ensures holds { (env : Env) → Sending self.now env room.old
             → result ≡ flag (value block.now.condition env) }
-        ensures stays { (env : Env) → Sending self.now env room.old → Sending self.now env room.new }
+        ensures stays { (env : Env) → Sending self.now env room.old
+            → Sending self.now env room.new }
         ensures long { length room.new ≡ length room.old }
     {
         room.run(self.values(), &code.condition);
@@ -200,6 +210,7 @@ impl StepProgram {
         requires ready { (env : Env) × Sending self.now env room.old }
         ensures message { (env : Env) → Sending self.now env room.old
             → IfOk result (λ m. m ≡ map (λ (t : Tree). value t env) block.now.sent) }
+        ensures kinds { IfOk result (IsOfRound self.now round) }
         ensures room { IsRoomOf self.now room.new }
     {
         room.run(self.values(), &code.sent);

@@ -1,4 +1,4 @@
-use Rattle.std.proofs.Common.{◌≡◌, ◌≤◌, ◌+◌, ◌<◌, arith}
+use Rattle.std.proofs.Common.{arith}
 use Rattle.step_code.proofs.Loading.{first_field, no_field}
 use Rattle.step_code.proofs.fields.+load_fields.Goals as goal
 

@@ -1,4 +1,4 @@
-use Rattle.std.proofs.Common.{◌≡◌, List, length, subst, sym}
+use Rattle.std.proofs.Common.{List, length, subst, sym}
 use Rattle.round_lang.specs.Syntax.{ProgramTree}
 use Rattle.step_code.specs.declared.instr.Instr.{Instr}
 use Rattle.step_code.specs.Layout.{room_of}

@@ -1,4 +1,4 @@
-use Rattle.std.proofs.Common.{◌≡◌, ◌∙◌, ◌+◌, ◌≤◌, ap, subst, sym, arith, length, List, ℕ}
+use Rattle.std.proofs.Common.{◌+◌, ap, subst, arith, length, List, ℕ}
 use Rattle.step_code.specs.Relation.{Filled}
 use Rattle.step_code.specs.Layout.{state_place}
 use Rattle.step_code.proofs.Answering.{state_fits}

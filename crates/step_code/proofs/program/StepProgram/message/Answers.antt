@@ -1,11 +1,11 @@
-use Rattle.std.proofs.Common.{◌≡◌, ◌∙◌, ◌+◌, ◌<◌, ◌≤◌, ◌^◌, List, [], ◌∷◌, ℕ, ap, subst, sym, arith, refl, length, map, Option}
+use Rattle.std.proofs.Common.{◌≡◌, ◌∙◌, List, [], ◌∷◌, ap, subst, sym, arith, map, Option}
 use Rattle.round_lang.specs.declared.block.Field.{Field}
 use Rattle.round_lang.specs.Syntax.{BlockTree}
 use Rattle.round_lang.specs.Words.{kind_for}
 use Rattle.step_code.specs.Layout.{behind, field_types, free_place, message_place}
 use Rattle.step_code.specs.Relation.{Filled, HoldAll, Keeps}
 use Rattle.step_code.specs.Turns.{IsOfBlock}
-use Rattle.step_code.proofs.Answering.{free_fits, free_is, taken_none, taken_part}
+use Rattle.step_code.proofs.Answering.{free_fits, free_is, taken_part}
 use Rattle.step_code.proofs.Safe.{room_long}
 use Rattle.step_code.proofs.Turning.{block_kinds_are}
 use Rattle.step_code.proofs.program.StepProgram.message.Goals as goal
@@ -17,7 +17,7 @@ pub load_fields-requires-clause-within : goal.load_fields-requires-clause-within
 load_fields-requires-clause-within g c =
     let part = c.in-Some.ensures.some in
     let end : behind c.values-k.result c.message_place.result (field_types c.fields.result.now) ≡ free_place c.args.self.now c.in-Some.part.block.now =
-      ap (λ n. behind n c.message_place.result (field_types c.fields.result.now)) c.values-k.ensures.value ∙ ap (λ n. behind c.args.self.now.values n (field_types c.fields.result.now)) c.message_place.ensures.place ∙ ap (λ (l : List Field). behind c.args.self.now.values (message_place c.args.self.now) (field_types l)) c.fields.ensures.fields in
+    ap (λ n. behind n c.message_place.result (field_types c.fields.result.now)) c.values-k.ensures.value ∙ ap (λ n. behind c.args.self.now.values n (field_types c.fields.result.now)) c.message_place.ensures.place ∙ ap (λ (l : List Field). behind c.args.self.now.values (message_place c.args.self.now) (field_types l)) c.fields.ensures.fields in
     omega (arith, end, free_is c.args.self.now c.args.round c.in-Some.part.block.now c.in-Some.part.code.now part, free_fits c.args.self.now c.args.round c.in-Some.part.block.now c.in-Some.part.code.now part c.args.room.now c.requires.long, c.fill.ensures.long)
 
 pub load_fields-requires-clause-kinds : goal.load_fields-requires-clause-kinds

@@ -1,4 +1,4 @@
-use Rattle.std.proofs.Common.{◌≡◌, ◌+◌, ◌≤◌, ◌∙◌, ap, subst, sym, arith}
+use Rattle.std.proofs.Common.{◌≤◌, ◌∙◌, ap, subst, sym}
 use Rattle.round_lang.specs.Syntax.{ProgramTree}
 use Rattle.step_code.specs.Layout.{message_place, room_of, state_place}
 use Rattle.step_code.proofs.Safe.{message_within, state_from}

@@ -1,9 +1,8 @@
-use Rattle.std.proofs.Common.{◌≡◌, ◌∙◌, ◌-◌, ◌%◌, Option, Some, ap, subst, sym}
+use Rattle.std.proofs.Common.{◌≡◌, ◌∙◌, ◌-◌, ◌%◌, Some, ap, subst}
 use Rattle.std.specs.Prelude.{slice_get}
-use Rattle.round_lang.specs.Syntax.{BlockTree, ProgramTree}
-use Rattle.step_code.specs.declared.block_code.BlockCode.{BlockCode}
+use Rattle.round_lang.specs.Syntax.{ProgramTree}
 use Rattle.step_code.specs.Turns.{IsPart}
-use Rattle.step_code.proofs.Answering.{no_part, part_is}
+use Rattle.step_code.proofs.Answering.{part_is}
 use Rattle.step_code.proofs.program.StepProgram.part.Goals as goal
 
 pub returns-clause-some : goal.returns-clause-some

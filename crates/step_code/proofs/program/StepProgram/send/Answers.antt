@@ -1,4 +1,4 @@
-use Rattle.std.proofs.Common.{◌≡◌, ◌∙◌, ap, sym, refl, Option, Some, None, cond, true, false, map, List}
+use Rattle.std.proofs.Common.{◌≡◌, ◌∙◌, ap, sym, refl, Option, Some, None, cond, map, List}
 use Rattle.round_lang.specs.Syntax.{BlockTree}
 use Rattle.round_lang.specs.Tree.{Tree}
 use Rattle.round_lang.specs.declared.value.Value.{Value}

@@ -1,4 +1,4 @@
-use Rattle.std.proofs.Common.{◌≡◌, ◌∙◌, ◌+◌, ◌<◌, ◌^◌, ap, subst, sym, arith, List, [], ◌∷◌, ℕ}
+use Rattle.std.proofs.Common.{◌≡◌, ◌∙◌, ◌+◌, ◌<◌, ◌^◌, ap, subst, arith, [], ◌∷◌}
 use Rattle.step_code.specs.Relation.{Filled}
 use Rattle.step_code.proofs.Answering.{begun_state}
 use Rattle.step_code.proofs.Safe.{room_long}

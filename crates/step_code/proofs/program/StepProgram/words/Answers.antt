@@ -1,6 +1,5 @@
-use Rattle.std.proofs.Common.{◌≡◌, ◌+◌, ◌≤◌, ◌∙◌, ap, subst, sym, arith}
+use Rattle.std.proofs.Common.{◌+◌, ◌≤◌, subst, sym}
 use Rattle.round_lang.specs.Syntax.{ProgramTree}
-use Rattle.step_code.specs.Layout.{room_of}
 use Rattle.step_code.proofs.Safe.{room_long}
 use Rattle.step_code.proofs.program.StepProgram.words.Goals as goal
 

@@ -1,4 +1,4 @@
-use Rattle.std.proofs.Common.{◌≡◌, ◌-◌, ◌∙◌, length, subst, sym, ap, arith, rules}
+use Rattle.std.proofs.Common.{◌≡◌, ◌-◌, length, subst, arith, rules}
 use Rattle.step_code.specs.Machine.{Fine}
 use Rattle.step_code.proofs.room.Room.run.Goals as goal
 
