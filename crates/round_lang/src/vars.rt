@@ -1,7 +1,8 @@
 //! A node's state and messages, seen by contracts as lists of values.
-ghost use Rattle.std.specs.Prelude.{◌≡◌, ◌<◌, ◌≤◌, ◌↔◌, [], IfOk, IfSome, IsTrue, OnErr, OnOk, length, slice_index, slice_set};
+ghost use Rattle.std.specs.Prelude.{◌≡◌, ◌<◌, ◌≤◌, ◌↔◌, [], IfOk, IfSome, IsTrue, OnErr, OnOk, length, map, slice_index, slice_set};
+ghost use Rattle.std.specs.List.{AllByRecursion};
 ghost use Rattle.round_lang.specs.Values.{at, num, flag, set, row};
-ghost use Rattle.round_lang.specs.Words.{read, read_spot, size, values_of, IsSmall, IsSpelled};
+ghost use Rattle.round_lang.specs.Words.{all_words, kind_of, read, read_spot, size, values_of, IsSmall, IsSpelled};
 
 use crate::builder::VarsBuilder;
 use crate::kind::Kind;
@@ -57,6 +58,33 @@ impl Vars {
         ensures { result ≡ values_of shape words.items }
     {
         Vars { shape, words }
+    }
+
+    /// The values of these kinds that the words spell.
+    pub fn of_words(alloc: Global, shape: &Shape, words: &[u64]) -> Result<Vars, NoMemory>
+        requires { IsSpelled shape.now words.now }
+        ensures { IfOk result (λ v. v ≡ values_of shape.now words.now) }
+    {
+        Ok(Vars {
+            shape: shape.copy()?,
+            words: SmallVec::from_slice(alloc, words)?,
+        })
+    }
+
+    /// The words that the values are spelled with, one value behind the other.
+    pub fn as_words(&self) -> &[u64]
+        ensures words { result.now ≡ all_words self.now }
+        ensures small { AllByRecursion IsSmall self.now }
+    {
+        self.words.as_slice()
+    }
+
+    /// Writes other values of the same kinds, which the words spell.
+    pub fn set_words(&mut self, words: &[u64])
+        requires { IsSpelled (map kind_of self.old) words.now }
+        ensures { self.new ≡ values_of (map kind_of self.old) words.now }
+    {
+        self.words.as_mut_slice().copy_from_slice(words);
     }
 
     pub fn len(&self) -> usize

@@ -1,0 +1,12 @@
+pub mod Machine
+pub mod Going
+pub mod Code
+pub mod Where
+pub mod Assignments
+pub mod Layout
+pub mod Relation
+pub mod Small
+pub mod Compiled
+pub mod Rooms
+pub mod Inside
+pub mod Turns

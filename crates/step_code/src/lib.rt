@@ -1,0 +1,20 @@
+//! A program's flat code, and the room of words that it runs in.
+#![tactic(auto)]
+
+mod block_code;
+mod emit;
+mod fields;
+mod instr;
+mod layout;
+mod names;
+mod pieces;
+mod program;
+mod room;
+mod run;
+mod single;
+mod step;
+mod turn;
+
+pub use fields::Fields;
+pub use program::{StepProgram, compile};
+pub use room::Room;
