@@ -47,8 +47,7 @@ pub fn show_inbox(
     out: &mut String,
 ) -> Result<(), Fault> {
     let held = held_in(alloc, layout, text)?;
-    let mut inbox = InboxView::new(layout, &held);
-    while let Some((sender, frame)) = inbox.next() {
+    for (sender, frame) in InboxView::new(layout, &held) {
         write!(out, "[{sender}] ")?;
         show_view(layout, &frame, out)?;
     }

@@ -1,5 +1,5 @@
 //! The frames that a node holds, in rising order of sender.
-ghost use Rattle.std.specs.Prelude.{◌≡◌, ◌≤◌, ◌<◌, ◌^◌, [], ◌∷◌, length, MatchOption};
+ghost use Rattle.std.specs.Prelude.{◌≡◌, ◌≤◌, length};
 ghost use Rattle.frame_views.specs.Inboxes.{inbox_from, AreFrames};
 
 use crate::view::FrameView;
@@ -41,11 +41,19 @@ impl<'a> InboxView<'a> {
             at: 0,
         }
     }
+}
 
-    /// The next sender, and its frame.
-    pub fn next(&mut self) -> Option<(u32, FrameView<'a>)>
-        ensures { MatchOption result (self.old ≡ []) (λ p. self.old ≡ (p.0, p.1) ∷ self.new) }
-    {
+/// Each sender that holds a frame, and its frame.
+impl<'a> Iterator for InboxView<'a> {
+    ghost use Rattle.std.specs.Iterator.{YieldsFirst, item_count};
+
+    type Item = (u32, FrameView<'a>);
+
+    ghost next_gives = { YieldsFirst (λ rest. rest) };
+
+    ghost remaining = { item_count (λ rest. rest) };
+
+    fn next(&mut self) -> Option<(u32, FrameView<'a>)> {
         while self.at < self.held.len() {
             let sender = self.at;
             self.at += 1;

@@ -1,6 +1,6 @@
 use Rattle.std.proofs.Common.{length, drop, ◌-◌, ◌≡◌}
 use Rattle.frame_views.specs.Inboxes.{inbox_from, IsInbox}
-use Rattle.frame_views.proofs.inbox.InboxView.next.Given as goal
+use Rattle.frame_views.proofs.inbox.InboxViewIterator.next.Given as goal
 
 abbrev pub invariant-loop-self : goal.invariant-loop-self
 invariant-loop-self l = record {
