@@ -78,6 +78,7 @@ words_of (Flag b) = bit b ∷ []
 words_of (Set s) = s.bits ∷ []
 words_of (Row r) = r
 
+-- the words of values, one after the other
 abbrev pub all_words : List Value → List ℕ
 all_words = flat_map words_of
 
