@@ -1,5 +1,5 @@
 -- The texts are the programs.
-use Rattle.std.proofs.Common.{◌≡◌, ℕ, ◌^◌, ◌<◌, ◌≤◌, List, ◌∷◌, drop, length, Option, Some, None, refl, ap, ◌∙◌, arith}
+use Rattle.std.proofs.Common.{◌≡◌, true, ℕ, ◌^◌, ◌<◌, ◌≤◌, List, ◌∷◌, drop, length, Option, Some, None, refl, ap, ◌∙◌, arith}
 use Rattle.std.specs.Fmt.{decimal}
 use Rattle.std.proofs.lemmas.Fmt.{length-decimal-le_succ}
 use Rattle.std.proofs.lemmas.List.{length-append}
@@ -44,17 +44,28 @@ source_good n k bs p some few h = go (scanned n (32 ∷ bs)) refl h
     go (Some ws) e h =
         source_of _ _ p (header k bs ws few (scanned_good n (32 ∷ bs) ws e)) (program_is k _ ws p (count_read k ws some few) h)
 
-pub gather_source : (k : ℕ) → 1 ≤ k → k ≤ 64 → IsSource (text_of gather_rest k) (gather_tree k)
+-- what is read of a text is the program, by computing
+reads : (k : ℕ)
+    → ((scanned 400 gather_rest >>= behind_count k) ≡ Some (gather_tree k))
+    × ((scanned 600 count_votes_rest >>= behind_count k) ≡ Some (count_votes_tree k))
+    × ((scanned 2000 dls1_rest >>= behind_count k) ≡ Some (dls1 k))
 unfolding step symbol_step short_symbol long_symbol keyword frame_word choice_word type_word operator_word constant_word call_word same_mark reading.after reading.after_equal reading.name_at reading.type_at reading.value_within reading.number_at reading.begins_with reading.begins_name reading.same_level reading.operator_at reading.operand reading.chain reading.chained reading.compared reading.negated reading.closed reading.indexed reading.postfixed reading.called reading.has reading.brackets reading.comprehension reading.atom reading.choice reading.chosen reading.postfixes reading.products reading.sums reading.comparisons reading.negations reading.conjunctions reading.disjunctions reading.parse reading.formula parts.counted_name parts.many parts.listed parts.state parts.input parts.decide parts.begins_declaration parts.declaration parts.declarations parts.declared parts.assignment parts.assignments parts.field parts.fields parts.sent parts.head parts.sending parts.on_message parts.ending parts.block parts.blocks
-gather_source k some few = source_good 400 k (drop 1 gather_rest) (gather_tree k) some few refl
+reads k = (refl, refl, refl)
+
+pub gather_source : (k : ℕ) → 1 ≤ k → k ≤ 64 → IsSource (text_of gather_rest k) (gather_tree k)
+gather_source k some few = source_good 400 k (drop 1 gather_rest) (gather_tree k) some few (reads k).0
 
 pub count_votes_source : (k : ℕ) → 1 ≤ k → k ≤ 64 → IsSource (text_of count_votes_rest k) (count_votes_tree k)
-unfolding step symbol_step short_symbol long_symbol keyword frame_word choice_word type_word operator_word constant_word call_word same_mark reading.after reading.after_equal reading.name_at reading.type_at reading.value_within reading.number_at reading.begins_with reading.begins_name reading.same_level reading.operator_at reading.operand reading.chain reading.chained reading.compared reading.negated reading.closed reading.indexed reading.postfixed reading.called reading.has reading.brackets reading.comprehension reading.atom reading.choice reading.chosen reading.postfixes reading.products reading.sums reading.comparisons reading.negations reading.conjunctions reading.disjunctions reading.parse reading.formula parts.counted_name parts.many parts.listed parts.state parts.input parts.decide parts.begins_declaration parts.declaration parts.declarations parts.declared parts.assignment parts.assignments parts.field parts.fields parts.sent parts.head parts.sending parts.on_message parts.ending parts.block parts.blocks
-count_votes_source k some few = source_good 600 k (drop 1 count_votes_rest) (count_votes_tree k) some few refl
+count_votes_source k some few =
+    source_good 600 k (drop 1 count_votes_rest) (count_votes_tree k) some few (reads k).1
 
 pub dls1_source : (k : ℕ) → 1 ≤ k → k ≤ 64 → IsSource (text_of dls1_rest k) (dls1 k)
-unfolding step symbol_step short_symbol long_symbol keyword frame_word choice_word type_word operator_word constant_word call_word same_mark reading.after reading.after_equal reading.name_at reading.type_at reading.value_within reading.number_at reading.begins_with reading.begins_name reading.same_level reading.operator_at reading.operand reading.chain reading.chained reading.compared reading.negated reading.closed reading.indexed reading.postfixed reading.called reading.has reading.brackets reading.comprehension reading.atom reading.choice reading.chosen reading.postfixes reading.products reading.sums reading.comparisons reading.negations reading.conjunctions reading.disjunctions reading.parse reading.formula parts.counted_name parts.many parts.listed parts.state parts.input parts.decide parts.begins_declaration parts.declaration parts.declarations parts.declared parts.assignment parts.assignments parts.field parts.fields parts.sent parts.head parts.sending parts.on_message parts.ending parts.block parts.blocks
-dls1_source k some few = source_good 2000 k (drop 1 dls1_rest) (dls1 k) some few refl
+dls1_source k some few = source_good 2000 k (drop 1 dls1_rest) (dls1 k) some few (reads k).2
+
+-- every expression has its type
+types : (k : ℕ) → (is_typed (gather_tree k) ≡ true) × (is_typed (count_votes_tree k) ≡ true) × (is_typed (dls1 k) ≡ true)
+unfolding is_typed double_name no_input no_decision missing_round unknown_name not_allowed_here field_count wrong_type
+types k = (refl, refl, refl)
 
 short : (rest : List ℕ) (k : ℕ) → k ≤ 64 → length rest ≤ 4000 → length (text_of rest k) ≤ 65536
 short rest k few h =
@@ -64,28 +75,25 @@ short rest k few h =
     omega arith
 
 pub gather_text : (k : ℕ) → IsCount k → IsProgramText (text_of gather_rest k)
-unfolding is_typed double_name no_input no_decision missing_round unknown_name not_allowed_here field_count wrong_type
 gather_text k c = record {
   program = gather_tree k;
   source = gather_source k c.some c.few;
-  typed = refl;
+  typed = (types k).0;
   short = short gather_rest k c.few (omega arith);
 }
 
 pub count_votes_text : (k : ℕ) → IsCount k → IsProgramText (text_of count_votes_rest k)
-unfolding is_typed double_name no_input no_decision missing_round unknown_name not_allowed_here field_count wrong_type
 count_votes_text k c = record {
   program = count_votes_tree k;
   source = count_votes_source k c.some c.few;
-  typed = refl;
+  typed = (types k).1;
   short = short count_votes_rest k c.few (omega arith);
 }
 
 pub dls1_text : (k : ℕ) → IsCount k → IsProgramText (text_of dls1_rest k)
-unfolding is_typed double_name no_input no_decision missing_round unknown_name not_allowed_here field_count wrong_type
 dls1_text k c = record {
   program = dls1 k;
   source = dls1_source k c.some c.few;
-  typed = refl;
+  typed = (types k).2;
   short = short dls1_rest k c.few (omega arith);
 }

@@ -1,4 +1,5 @@
--- The programs that come with the product, over the values 0 to k-1; Algorithm 1 stands in round_meaning.
+-- The programs that come with the product, over the values 0 to k-1. Algorithm 1 stands in
+-- round_meaning.
 use Rattle.std.specs.Prelude.{ℕ, [], ◌∷◌, codes}
 use Rattle.round_lang.specs.declared.expr.BinaryOperator.TheVariants.{Add, Div, Entry, Equal, More, Union}
 use Rattle.round_lang.specs.declared.expr.Constant.TheVariants.{Empty, Nodes, True, Zero}
@@ -68,7 +69,8 @@ votes_round = record {
       ∷ record { target = codes "votes"; formula = TFixed Zero } ∷ [];
 }
 
--- values k period 1 input x state votes: row = zero state last: row = zero state top: set = empty decide top, and this round
+-- values k period 1 input x state votes: row = zero state last: row = zero state top: set = empty
+-- decide top, and this round
 abbrev pub count_votes_tree : ℕ → ProgramTree
 count_votes_tree k = record {
   values = k;

@@ -17,8 +17,8 @@ use std::alloc::Global;
 /// The most values that a program has.
 const MAX_VALUES: u32 = 64;
 
-/// Each node tells all that it has seen, its own input first, and decides the least of it. There are
-/// 1 to 64 values.
+/// Each node tells all that it has seen, its own input first, and decides the least of it. There
+/// are 1 to 64 values.
 pub fn gather(alloc: Global, values: u32) -> Result<Checked, LibraryFault>
     ensures bad { (result ≡ Err fault.BadValues) ↔ (¬ (IsCount values)) }
     ensures never_few { result ≢ Err fault.TooFew }

@@ -34,7 +34,8 @@ with_decision d.Split (Some v) = d.Split
 abbrev pub summary_of : List ClosedRound → Decided
 summary_of rows = fold (λ all (row : ClosedRound). with_decision all row.decision) d.None rows
 
--- the row's state is its node's after its round, in the run in rounds, and its decision is the state's
+-- the row's state is its node's after its round, in the run in rounds, and its decision is the
+-- state's
 abbrev pub IsOfRun : ProgramTree → Setup → (omits : ℕ → ℕ → ℕ → Bool) → ClosedRound → Type 0
 IsOfRun p s omits row =
     (row.node < s.nodes) × IsOfRounds (algorithm_of p s) omits row × (row.decision ≡ decision p row.state)

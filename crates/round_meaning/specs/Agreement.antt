@@ -21,7 +21,8 @@ pub record HasMajority (k : ℕ) (s : Setup) : Type 0 where
 abbrev pub IsInput : Setup → ℕ → Type 0
 IsInput s v = (i : ℕ) × (i < s.nodes) × (slice_index s.inputs i ≡ v)
 
--- the state of node i after r rounds of Algorithm 1; `omits i r j`: i doesn't get j's message of round r
+-- the state of node i after r rounds of Algorithm 1; `omits i r j`: i doesn't get j's message of
+-- round r
 abbrev pub state_after : ℕ → Setup → (omits : ℕ → ℕ → ℕ → Bool) → (r i : ℕ) → List Value
 state_after k s omits r i = rounds (algorithm_of (dls1 k) s) omits r i
 
@@ -44,7 +45,8 @@ abbrev pub Validity : Type 0
 Validity =
     (k : ℕ) (s : Setup) (omits : ℕ → ℕ → ℕ → Bool) → HasMajority k s → (i r v : ℕ) → i < s.nodes → HasDecided k s omits r i v → IsInput s v
 
--- from the round on in which v is decided, more than t nodes hold a lock on v of that round's phase or later
+-- from the round on in which v is decided, more than t nodes hold a lock on v of that round's phase
+-- or later
 abbrev pub DecisionsAreLocked : Type 0
 DecisionsAreLocked =
     (k : ℕ) (s : Setup) (omits : ℕ → ℕ → ℕ → Bool) → HasMajority k s → (i r d v : ℕ) → i < s.nodes → DecidesNext k s omits r i v → s.faults + 1 ≤ count_by (λ j. nat_le (phase_of (dls1 k) (suc r)) (lock_in (state_after k s omits (suc r + d) j) v)) (range_with_len 0 s.nodes)

@@ -1,4 +1,4 @@
--- Algorithm 1: consensus where fewer than half of the nodes fail, by stopping or by omitting messages.
+-- Algorithm 1: consensus where fewer than half of the nodes fail, by stopping or by omissions.
 -- Phase k has rounds 4k-3 to 4k, and node (k - 1) mod n owns it. A node locks a value with a phase.
 use Rattle.std.specs.Prelude.{ℕ, List, [], ◌∷◌, codes, slice_index}
 use Rattle.round_lang.specs.declared.block.Field.{Field}
