@@ -8,12 +8,12 @@
 //! act, and a line of standard output its answer:
 //!
 //! - `read HEX`: the frame that the bytes spell, or their fault; `decode` and the view must agree.
-//! - `write HEX COPY`: the message of that frame as that copy of it, in version 2; `encode` and both
-//!   ways of writing in place must agree.
+//! - `write COPY HEX`: the message of that frame as that copy of it, in version 2; `encode` and
+//!   both ways of writing in place must agree.
 //! - `beginnings HEX`: how many beginnings of the bytes are frames, and how many have each fault.
 //! - `changes HEX`: the same of the bytes with one of them set to each value.
 //! - `length ROUND`: how many bytes the frames of a round have.
-//! - `inbox HEX ..`: the senders that hold a frame, where `-` stands for none, with their frames.
+//! - `inbox HEX,HEX,..`: the senders that hold a frame, `-` standing for none, with their frames.
 #![tactic(auto)]
 
 mod acts;
