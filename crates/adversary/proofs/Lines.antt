@@ -31,7 +31,7 @@ module _ (text l rest : List ℕ) (s : State) (first : lines text ≡ l ∷ line
   line_refused : (f : LineFault) → line_step s l ≡ Err f → (k : ℕ) → from_line k s (lines text) ≡ Err (at_line k f)
   line_refused f is k = step_and_rest k (Err f) is
 
-  -- the fault of the line, but for want of memory
+  -- the fault of the line, but for being out of memory
   pub front_refused : (f : LineFault) (d : Draft) → GivesState {A = Unit {0}} (Err f) d (line_step s l) → GivesFront (Err f) s d text
   front_refused line.Bad d is = line_refused line.Bad is
   front_refused line.Large d is = line_refused line.Large is

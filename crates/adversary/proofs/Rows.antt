@@ -112,7 +112,7 @@ too_early_for_four : map (λ r. carried (world (0 ∷ 1 ∷ []) 2 5) (far_early 
 unfolding carried first steps algorithm
 too_early_for_four = refl
 
--- only the node with the input 1 sends, and each node notes whom it heard
+-- only the node with the input 1 sends, and each node notes the nodes heard from
 abbrev speaks_of_one : ProgramTree
 speaks_of_one = record {
   values = 2;

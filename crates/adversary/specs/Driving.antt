@@ -77,7 +77,8 @@ IsUnknownAt s events (fault.UnknownNode k) = IsFirstAt s events k × ((d : Event
 IsUnknownAt s events (fault.UnknownMessage k) = IsFirstAt s events k × ((d : Event) → IsRelease (slice_index_or events k d))
 IsUnknownAt s events f = ⊥
 
--- why a lawful setup isn't run: the first event that names what the run hasn't, and want of memory goes last
+-- why a lawful setup isn't run: the first event that names what the run hasn't;
+-- `NoMemory` goes last
 abbrev pub RunCause : Setup → List Event → RunFault → Type 0
 RunCause s events fault.BadSetup = Unit {0}
 RunCause s events fault.NoMemory = All (IsKnown s) events

@@ -1,4 +1,4 @@
--- Numbers in a line, parted by single spaces.
+-- Numbers in a line, separated by single spaces.
 use Rattle.std.specs.Prelude.{ℕ, ◌+◌, ◌-◌, ◌*◌, min, Bool, false, ◌&&◌, ◌==◌, nat_le, if◌then◌else◌, List, [], ◌∷◌, map, fold, Option, Some, None, Result, Ok, Err}
 use Rattle.std.specs.List.{list_all, slice_split, take_while}
 use Rattle.std.specs.Char.{is_ascii_digit}
@@ -14,7 +14,7 @@ is_number (b ∷ bs) = is_ascii_digit b && list_all is_ascii_digit bs
 abbrev pub value_of : List ℕ → ℕ
 value_of digits = fold (λ n b. 10 * n + (b - 48)) 0 digits
 
--- the words of a text, parted by single spaces
+-- the words of a text, separated by single spaces
 abbrev pub words_of : List ℕ → List (List ℕ)
 words_of text = slice_split (λ b. b == 32) text
 

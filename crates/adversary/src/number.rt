@@ -1,4 +1,4 @@
-//! Numbers in a line, parted by single spaces.
+//! Numbers in a line, separated by single spaces.
 ghost use Rattle.std.specs.Prelude.{◌≡◌, ◌≤◌, length, IfSome};
 ghost use Rattle.std.specs.Char.{is_ascii_digit};
 ghost use Rattle.std.specs.List.{prefix_len};

@@ -27,13 +27,13 @@ const USUAL_LINE: usize = 12;
 /// The schedule that a text is.
 ///
 /// Lines end with LF, which the last may lack, and a CR before it is dropped. Empty lines and lines
-/// that begin with `#` are skipped. Words are parted by one space, and numbers are decimal digits of
-/// any count. The header is `nodes N`, `faults T`, `inputs V V ..` with one value at least, `rounds R`,
-/// and `plan known D` or `plan growing`, in this order; then come events, `step I`, or `release J I R`
-/// for the message of round R from J to I.
+/// that begin with `#` are skipped. Words are separated by one space, and numbers are decimal digits
+/// of any count. The header is `nodes N`, `faults T`, `inputs V V ..` with one value at least,
+/// `rounds R`, and `plan known D` or `plan growing`, in this order; then come events, `step I`, or
+/// `release J I R` for the message of round R from J to I.
 ///
 /// Refused are first a text that is too long, and then the first line at fault: one of another shape
-/// or at another place before one with too large a number. `NoMemory` comes only for want of memory.
+/// or at another place before one with too large a number. `NoMemory` means out of memory alone.
 #[tactic(auto, unfolding(crate::specs::Reading::schedule_of))]
 pub fn read_schedule(alloc: Global, text: &str) -> Result<Schedule, ScheduleFault>
     ensures read { Gives result (spec.schedule_of text.now) }

@@ -19,9 +19,9 @@ use step_journal::{CloseFault, IdleFault, Journal, ReceiveFault, SendFault};
 use step_machine::{Event, Name, Node, Sealed};
 
 /// The journal of a schedule's events. A due round is closed at once, and steps past the last round
-/// are idle. An unlawful setup is refused first, then the first event that names what the run hasn't, both
-/// before any memory is taken. `NoMemory` is for want of memory alone: each other refusal of its own
-/// journal is proved never to come.
+/// are idle. An unlawful setup is refused first, then the first event that names what the run hasn't,
+/// both before any memory is taken. `NoMemory` means out of memory alone: each other refusal of its
+/// own journal is proved never to come.
 pub fn run_schedule<P: Plan>(
     alloc: Global,
     program: &Checked,

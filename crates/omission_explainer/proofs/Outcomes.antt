@@ -78,7 +78,7 @@ added v bits p h is_so e =
 pub same_set : (n : ℕ) (p q : ℕ → Bool) → ((j : ℕ) → p j ≡ q j) → set_of n p ≡ set_of n q
 same_set n p q same = is-set_of n (set_of n p) q (set_of-lt n p) (λ i h. bit-set_of n p i h ∙ ap (λ b. cond b 1 0) (same i))
 
--- the senders below n, parted by their marks
+-- the senders below n, separated by their marks
 pub record Sorted (m : ℕ → Mark) (first end n h s o : ℕ) : Type 0 where
   pub heard : h ≡ set_of n (λ j. is_within (m j) first end)
   pub silent : s ≡ set_of n (λ j. is_quiet (m j))
@@ -185,7 +185,7 @@ shows_suc start v i q h s o plan faithful node closed b =
           ∙ ap (λ x. not (is_heard (carried (world_of start v) (history v) i (suc q)) (λ k. is_some (message (world_of start v) (history v) q k i)) j) && not x) (quiet j)),
     )
 
--- the senders parted by their marks are the three sets of a closed round
+-- the senders separated by their marks are the three sets of a closed round
 pub shows : (start receives : ℕ → ℕ) (nodes : ℕ) (v : Log) (i r : ℕ) (u : Setup) (k h s o : ℕ) → PlanLaws nodes receives start → nodes ≡ v.setup.nodes → IsFaithful start v → i < v.setup.nodes → 0 < r → r < round_of v i → u ≡ v.setup → u.nodes ≤ k → k ≤ u.nodes → (k ≤ 64 → Sorted (λ j. mark_of (world_of start v) (history v) j i (r - 1)) (start (earliest r)) (start (r + 1)) k h s o) → Shows start v i (r - 1) r h s o
 shows start receives nodes v i r u k h s o laws n faithful node first closed setup low high made =
     let same : u.nodes ≡ v.setup.nodes = ap (λ (x : Setup). x.nodes) setup in

@@ -123,7 +123,7 @@ fn outcome_of(mark: Mark, first: u64, end: u64) -> Outcome
     }
 }
 
-/// The senders of a round, parted by what came of their messages to one receiver.
+/// The senders of a round, separated by what came of their messages to one receiver.
 #[derive(Clone, Copy)]
 struct Outcomes {
     heard: NodeSet,

@@ -71,7 +71,7 @@ some-decides p h = go (length p.decides) (IsClear-typed p h).decision
     go zero e = absurd cc
     go (suc n) e = omega arith
 
--- no cause but want of memory is answered for a checked program
+-- no cause but being out of memory is answered for a checked program
 pub not_typed : (f : CheckFault) (p : ProgramTree) → IsFault f p → f ≢ NoMemory → is_typed p ≡ true → ⊥
 not_typed DoubleName p stands other h = let clear = IsClear-typed p h in cc (stands, clear.names)
 not_typed NoInput p stands other h = let clear = IsClear-typed p h in cc (stands.1, clear.input)

@@ -48,7 +48,7 @@ fn program(parser: Parser, tokens: &[Token<'_>]) -> Result<Program, Fault>
 pub fn parse(alloc: Global, text: &str) -> Result<Program, LangFault>
     // What is answered is the text's program.
     ensures found { IfOk result (λ p. IsSource text.now p) }
-    // Only a text that is no program is refused, but for want of memory and where it's too long.
+    // Only a text that is no program is refused, or one that is too long, memory aside.
     ensures refused { IfErr result (λ e. e ≢ LangFault.NoMemory → e ≢ LangFault.TooLong → (p : ProgramTree) → IsSource text.now p → ⊥) }
     ensures long { (result ≡ Err LangFault.TooLong) ↔ (MAX_TEXT < length text.now) }
 {

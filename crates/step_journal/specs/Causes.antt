@@ -1,4 +1,4 @@
--- Why an event is refused. The causes of one call exclude each other, and want of memory goes last.
+-- Why an event is refused. The causes of one call exclude each other, and `NoMemory` goes last.
 use Rattle.std.specs.Prelude.{◌≡◌, ◌≢◌, ◌<◌, ◌≤◌, ℕ, ◌-◌}
 use Rattle.step_journal.specs.declared.fault.SendFault.{SendFault}
 use Rattle.step_journal.specs.declared.fault.SendFault.TheVariants as send

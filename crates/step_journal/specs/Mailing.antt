@@ -1,4 +1,4 @@
--- The names released to a node, parted by its receives.
+-- The names released to a node, separated by its receives.
 use Rattle.std.specs.Prelude.{◌≡◌, ℕ, ⊤, ◌-◌, ◌≤◌, List, [], ◌∷◌, drop, length, take}
 use Rattle.step_machine.specs.declared.event.Name.{Name}
 
@@ -7,7 +7,7 @@ pub record Mailed : Type 0 where
   pub handed : List (List Name)
   pub waiting : List Name
 
--- the names from a place on, parted at ends
+-- the names from a place on, separated at ends
 abbrev pub parts : ℕ → List ℕ → List Name → List (List Name)
 parts from [] names = []
 parts from (end ∷ ends) names = take (end - from) (drop from names) ∷ parts end ends names

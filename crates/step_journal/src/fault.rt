@@ -24,7 +24,7 @@ pub struct Refused {
 }
 
 impl Refused {
-    /// The work comes back for want of memory.
+    /// The work comes back, since there is no memory.
     pub(crate) fn memory(prepared: Prepared) -> Refused
         ensures fault { result.fault ≡ SendFault.NoMemory }
         ensures prepared { result.prepared ≡ prepared }
