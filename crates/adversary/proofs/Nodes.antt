@@ -92,7 +92,7 @@ module _ (start : ℕ → ℕ) (old new : Log) (i : ℕ) where
         let within : q < old.setup.rounds = omega (arith, l, ap (λ (s : Setup). s.rounds) g.setup) in
         let next : suc q ≡ round_of old i + k = omega arith in
         let w = world_of start old in
-        let told : All (IsTold w (history old) i) frames = λ x d z. record { to = (mail x d z).to; state = (said x d z).state } in
+        let told : All (IsTold w (history old) i) frames = λ x d z. record { to = (mail x d z).to; copy = (mail x d z).copy; state = (said x d z).state } in
         held_moved (Step i) q (held_of m k) g
         (held_received w p (history old) i q k (round_of old i) n m frames b r.first next (omega arith) fit.1 r.begun r.within once told h.round took (h.held k q b same within));
   }

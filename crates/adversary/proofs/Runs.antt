@@ -1,6 +1,6 @@
 -- What holds after each event of a schedule.
-use Rattle.std.proofs.Common.{◌≡◌, ◌≢◌, ℕ, ◌+◌, ◌<◌, List, [], ◌∷◌, ◌++◌, length, get_or, set, take, refl, sym, ap, subst, ◌∙◌, arith, ◌⊎◌, inl, inr, length-set}
-use Rattle.std.proofs.lemmas.Bool.{cases_eq}
+use Rattle.std.proofs.Common.{◌≡◌, ◌≢◌, ℕ, ◌+◌, ◌<◌, false, List, [], ◌∷◌, ◌++◌, length, get_or, set, take, refl, sym, ap, subst, ◌∙◌, arith, ◌⊎◌, inl, inr, length-set}
+use Rattle.std.proofs.lemmas.Bool.{and_left, cases_eq}
 use Rattle.std.specs.Prelude.{All}
 use Rattle.std.proofs.lemmas.List.{get_or-set_same, get_or-set_other, take_more}
 use Rattle.round_lang.specs.Syntax.{ProgramTree}
@@ -8,10 +8,10 @@ use Rattle.round_meaning.specs.declared.setup.Setup.{Setup}
 use Rattle.slot_plans.specs.Plan.{PlanLaws}
 use Rattle.step_journal.proofs.Starts.{plan_is}
 use Rattle.step_journal.specs.Log.{Log, Recorded, happened, opened, world_of}
+use Rattle.step_journal.specs.Trace.{is_step}
 use Rattle.step_journal.specs.World.{IsPlan}
 use Rattle.step_machine.specs.declared.event.Event.{Event}
-use Rattle.step_machine.specs.declared.event.Event.TheVariants.{Step, Release}
-use Rattle.step_machine.specs.declared.event.Name.{Name}
+use Rattle.step_machine.specs.declared.event.Event.TheVariants.{Step}
 use Rattle.step_machine.specs.Nodes.{NodeView}
 use Rattle.adversary.specs.Driving.{AreNodesOf, GoesOn, IsKnown, IsNodeOf}
 use Rattle.adversary.proofs.Nodes.{node_on, node_other, noted}
@@ -62,21 +62,21 @@ run_steps {P} start p s plan j k before after i nodes next n planned h l same g 
       (nodes_step (start j.plan) j.log k.log i nodes n planned l g (subst (λ (q : P). IsNodeOf (start q) k.log i n) same is) h.matching));
 }
 
-nodes_released : (start : ℕ → ℕ) (v : Log) (m : Name) (nodes : List NodeView) → IsPlan (world_of start v) → AreNodesOf start v nodes → AreNodesOf start (happened v (Release m)) nodes
-nodes_released start v m nodes p h = record {
+nodes_rest : (start : ℕ → ℕ) (v : Log) (e : Event) (nodes : List NodeView) → IsPlan (world_of start v) → ((i : ℕ) → is_step i e ≡ false) → AreNodesOf start v nodes → AreNodesOf start (happened v e) nodes
+nodes_rest start v e nodes p quiet h = record {
   sized = h.sized;
   each = λ i d l.
-      node_on start v (happened v (Release m)) i (Release m) (get_or nodes i d) p (noted v i (Release m)) (λ k. refl) (h.each i d l);
+      node_on start v (happened v e) i e (get_or nodes i d) p (noted v i e) (λ k. and_left _ _ (quiet i)) (h.each i d l);
 }
 
--- the network let a message go
-pub run_releases : {P : Type 0} (start : P → ℕ → ℕ) (p : ProgramTree) (s : Setup) (plan : P) (j k : Recorded P) (before after : List Event) (m : Name) (nodes : List NodeView) → IsPlan (world_of (start j.plan) j.log) → IsRun start p s plan j before nodes → k ≡ record { plan = j.plan; log = happened j.log (Release m) } → after ≡ before ++ Release m ∷ [] → IsRun start p s plan k after nodes
-run_releases {P} start p s plan j k before after m nodes planned h is more = record {
+-- an event of the network
+pub run_rests : {P : Type 0} (start : P → ℕ → ℕ) (p : ProgramTree) (s : Setup) (plan : P) (j k : Recorded P) (before after : List Event) (e : Event) (nodes : List NodeView) → IsPlan (world_of (start j.plan) j.log) → ((i : ℕ) → is_step i e ≡ false) → IsRun start p s plan j before nodes → k ≡ record { plan = j.plan; log = happened j.log e } → after ≡ before ++ e ∷ [] → IsRun start p s plan k after nodes
+run_rests {P} start p s plan j k before after e nodes planned quiet h is more = record {
   program = ap (λ z. z.log.program) is ∙ h.program;
   setup = ap (λ z. z.log.setup) is ∙ h.setup;
   planned = ap (λ z. z.plan) is ∙ h.planned;
-  trace = ap (λ z. z.log.trace) is ∙ ap (λ t. t ++ Release m ∷ []) h.trace ∙ sym more;
-  matching = subst (λ (z : Recorded P). AreNodesOf (start z.plan) z.log nodes) (sym is) (nodes_released (start j.plan) j.log m nodes planned h.matching);
+  trace = ap (λ z. z.log.trace) is ∙ ap (λ t. t ++ e ∷ []) h.trace ∙ sym more;
+  matching = subst (λ (z : Recorded P). AreNodesOf (start z.plan) z.log nodes) (sym is) (nodes_rest (start j.plan) j.log e nodes planned quiet h.matching);
 }
 
 -- a step that a run may have is one of its nodes'

@@ -10,8 +10,7 @@ use Rattle.step_journal.specs.Agreement.{row}
 use Rattle.step_journal.specs.Log.{IsDue, IsFaithful, Log, count_of, happened, history, round_of}
 use Rattle.step_journal.specs.Trace.{is_step, steps}
 use Rattle.step_machine.specs.declared.event.Event.{Event}
-use Rattle.step_machine.specs.declared.event.Event.TheVariants.{Step, Release}
-use Rattle.step_machine.specs.declared.event.Name.{Name}
+use Rattle.step_machine.specs.declared.event.Event.TheVariants.{Step}
 use Rattle.adversary.specs.Driving.{AreSettled, ClosedAreDue, GoesOn, IsInRound, IsSettled}
 
 -- one event more in the trace
@@ -125,10 +124,10 @@ settled_step start old new i g settled here j node due =
           )
     ]
 
--- the network let a message go
-pub settled_release : (start : ℕ → ℕ) (old new : Log) (n : Name) → new ≡ happened old (Release n) → AreSettled start old → AreSettled start new
-settled_release start old new n is settled j node due =
-    let count : count_of new j ≡ count_of old j = ap (λ (v : Log). count_of v j) is ∙ ap (steps j) (happened_first old (Release n)) ∙ steps_other j (Release n) (history old) refl in
+-- an event of the network
+pub settled_rest : (start : ℕ → ℕ) (old new : Log) (e : Event) → ((i : ℕ) → is_step i e ≡ false) → new ≡ happened old e → AreSettled start old → AreSettled start new
+settled_rest start old new e quiet is settled j node due =
+    let count : count_of new j ≡ count_of old j = ap (λ (v : Log). count_of v j) is ∙ ap (steps j) (happened_first old e) ∙ steps_other j e (history old) (quiet j) in
     let round : round_of new j ≡ round_of old j = ap (λ (v : Log). round_of v j) is in
     let setup : new.setup ≡ old.setup = ap (λ (v : Log). v.setup) is in
     settled j (omega (arith, node, ap (λ (s : Setup). s.nodes) setup)) (

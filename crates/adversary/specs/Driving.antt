@@ -1,11 +1,12 @@
 -- What holds while a schedule is run, and which events it may have.
 use Rattle.std.specs.Prelude.{◌≡◌, ◌≢◌, ◌↔◌, ℕ, ◌+◌, ◌<◌, ◌≤◌, List, ◌++◌, length, slice_index_or, All}
 use Rattle.step_journal.specs.Agreement.{row}
-use Rattle.step_journal.specs.Log.{Log, IsDue, IsName, count_of, history, round_of, state_before, world_of}
+use Rattle.step_journal.specs.Log.{Log, IsDue, count_of, history, round_of, state_before, world_of}
+use Rattle.step_journal.specs.Names.{IsName}
 use Rattle.step_journal.specs.Work.{AreCarried}
 use Rattle.round_meaning.specs.declared.setup.Setup.{Setup}
 use Rattle.step_machine.specs.declared.event.Event.{Event}
-use Rattle.step_machine.specs.declared.event.Event.TheVariants.{Step, Release}
+use Rattle.step_machine.specs.declared.event.Event.TheVariants.{Step, Release, Drop, Copy}
 use Rattle.step_machine.specs.Nodes.{HasPlaces, NodeView, ahead, held_of}
 use Rattle.adversary.specs.declared.fault.RunFault.{RunFault}
 use Rattle.adversary.specs.declared.fault.RunFault.TheVariants as fault
@@ -28,10 +29,12 @@ pub record IsInRound (start : ℕ → ℕ) (v : Log) (i : ℕ) : Type 0 where
   pub begun : start (round_of v i) ≤ count_of v i
   pub within : count_of v i < start (round_of v i + 1)
 
--- the event names a node and a message of the run
+-- the event names a node, or a copy of a message, of the run; copy 0 is made by no event of the network
 abbrev pub IsKnown : Setup → Event → Type 0
 IsKnown s (Step i) = i < s.nodes
 IsKnown s (Release n) = IsName s n
+IsKnown s (Drop n) = IsName s n
+IsKnown s (Copy n) = IsName s n × (0 < n.copy)
 
 -- the run went on by these events, and no other node closed a round
 pub record GoesOn (old new : Log) (i : ℕ) (events : List Event) : Type 0 where
@@ -61,10 +64,15 @@ pub record AreNodesOf (start : ℕ → ℕ) (v : Log) (nodes : List NodeView) : 
 abbrev pub IsStep : Event → Type 0
 IsStep (Step i) = Unit {0}
 IsStep (Release n) = ⊥
+IsStep (Drop n) = ⊥
+IsStep (Copy n) = ⊥
 
-abbrev pub IsRelease : Event → Type 0
-IsRelease (Step i) = ⊥
-IsRelease (Release n) = Unit {0}
+-- an event of the network
+abbrev pub IsOfMessage : Event → Type 0
+IsOfMessage (Step i) = ⊥
+IsOfMessage (Release n) = Unit {0}
+IsOfMessage (Drop n) = Unit {0}
+IsOfMessage (Copy n) = Unit {0}
 
 -- an event at this place names a node or a message that the run hasn't, and none before it does
 abbrev pub IsFirstAt : Setup → List Event → ℕ → Type 0
@@ -74,7 +82,7 @@ IsFirstAt s events k =
 -- the fault says of which kind the event at its place is
 abbrev pub IsUnknownAt : Setup → List Event → RunFault → Type 0
 IsUnknownAt s events (fault.UnknownNode k) = IsFirstAt s events k × ((d : Event) → IsStep (slice_index_or events k d))
-IsUnknownAt s events (fault.UnknownMessage k) = IsFirstAt s events k × ((d : Event) → IsRelease (slice_index_or events k d))
+IsUnknownAt s events (fault.UnknownMessage k) = IsFirstAt s events k × ((d : Event) → IsOfMessage (slice_index_or events k d))
 IsUnknownAt s events f = ⊥
 
 -- why a lawful setup isn't run: the first event that names what the run hasn't;

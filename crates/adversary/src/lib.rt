@@ -1,16 +1,9 @@
 //! Schedules of a run: their texts, and the journals of running them.
 #![tactic(auto)]
 
-mod draft;
 mod fault;
-mod front;
-mod line;
-mod number;
-mod reading;
 mod running;
-mod writing;
 
-pub use fault::{RunFault, ScheduleFault};
-pub use reading::{MAX_TEXT, Schedule, read_schedule};
+pub use fault::RunFault;
 pub use running::run_schedule;
-pub use writing::write_schedule;
+pub use schedule_text::{MAX_TEXT, Schedule, ScheduleFault, read_schedule, write_schedule};

@@ -2,7 +2,8 @@
 ghost use Rattle.std.specs.Prelude.{◌≡◌, ℕ, ◌+◌, ◌<◌, ◌≤◌, ◌∷◌, ◌↔◌, [], All, Err, IfErr, IfOk, IfSome, IfNone, IsTrue, OnOk};
 ghost use Rattle.round_meaning.specs.Setups.{IsLawful, IsSized, max_rounds};
 ghost use Rattle.step_journal.specs.Agreement.{row};
-ghost use Rattle.step_journal.specs.Log.{IsName, count_of, happened, opened, round_of};
+ghost use Rattle.step_journal.specs.Log.{count_of, happened, opened, round_of};
+ghost use Rattle.step_journal.specs.Names.{IsName};
 ghost use Rattle.step_journal.specs.Stock.{IsMail};
 ghost use Rattle.step_journal.specs.Taking.{HasTaken};
 ghost use Rattle.step_machine.specs.Nodes.{HasPlaces, algorithm_in};
@@ -16,7 +17,7 @@ use round_meaning::Setup;
 use slot_plans::Plan;
 use std::alloc::Global;
 use step_journal::{CloseFault, IdleFault, Journal, ReceiveFault, SendFault};
-use step_machine::{Event, Name, Node, Sealed};
+use step_machine::{Event, MAX_COPY, Name, Node, Sealed};
 
 /// The journal of a schedule's events. A due round is closed at once, and steps past the last round
 /// are idle. An unlawful setup is refused first, then the first event that names what the run hasn't,
@@ -63,8 +64,13 @@ fn first_unknown(setup: &Setup, events: &[Event]) -> Option<RunFault>
                     return Some(RunFault::UnknownNode(position));
                 }
             }
-            Event::Release(name) => {
+            Event::Release(name) | Event::Drop(name) => {
                 if !is_known(setup, *name) {
+                    return Some(RunFault::UnknownMessage(position));
+                }
+            }
+            Event::Copy(name) => {
+                if name.copy == 0 || !is_known(setup, *name) {
                     return Some(RunFault::UnknownMessage(position));
                 }
             }
@@ -80,6 +86,7 @@ fn is_known(setup: &Setup, name: Name) -> bool
         && name.to < setup.nodes
         && 1 <= name.round
         && name.round <= setup.rounds
+        && name.copy <= MAX_COPY
 }
 
 fn run<P: Plan>(
@@ -105,6 +112,8 @@ fn run<P: Plan>(
         match event {
             Event::Step(node) => step(&mut journal, &mut nodes[*node as usize], *node)?,
             Event::Release(name) => release(&mut journal, *name)?,
+            Event::Drop(name) => lose(&mut journal, *name)?,
+            Event::Copy(name) => copy(&mut journal, *name)?,
         }
     }
     journal.book().agrees();
@@ -146,6 +155,25 @@ fn release<P: Plan>(journal: &mut Journal<P>, name: Name) -> Result<(), NoMemory
     ensures { OnOk result (journal.new ≡ record journal.old { log = happened journal.old.log (event.Release name) }) }
 {
     let _moved = journal.release(name)?;
+    Ok(())
+}
+
+/// The network drops a message.
+fn lose<P: Plan>(journal: &mut Journal<P>, name: Name) -> Result<(), NoMemory>
+    requires { IsName journal.old.log.setup name }
+    ensures { OnOk result (journal.new ≡ record journal.old { log = happened journal.old.log (event.Drop name) }) }
+{
+    let _lost = journal.drop_frame(name)?;
+    Ok(())
+}
+
+/// The network copies a message.
+fn copy<P: Plan>(journal: &mut Journal<P>, name: Name) -> Result<(), NoMemory>
+    requires name { IsName journal.old.log.setup name }
+    requires other { 0 < name.copy }
+    ensures { OnOk result (journal.new ≡ record journal.old { log = happened journal.old.log (event.Copy name) }) }
+{
+    let _made = journal.copy_frame(name)?;
     Ok(())
 }
 

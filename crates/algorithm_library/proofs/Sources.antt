@@ -3,7 +3,7 @@ use Rattle.std.proofs.Common.{◌≡◌, true, ℕ, ◌^◌, ◌<◌, ◌≤◌,
 use Rattle.std.specs.Fmt.{decimal}
 use Rattle.std.proofs.lemmas.Fmt.{length-decimal-le_succ}
 use Rattle.std.proofs.lemmas.List.{length-append}
-use Rattle.round_check.specs.Causes.{is_typed, double_name, no_input, no_decision, missing_round, unknown_name, not_allowed_here, field_count, wrong_type}
+use Rattle.round_check.specs.Causes.{fault_of, is_typed, double_name, no_input, no_decision, missing_round, unknown_name, not_allowed_here, field_count, wrong_type}
 use Rattle.round_lang.specs.declared.token.Mark.TheVariants as m
 use Rattle.round_lang.specs.Keywords.{keyword, frame_word, choice_word, type_word, operator_word, constant_word, call_word, short_symbol, long_symbol}
 use Rattle.round_lang.specs.Lexemes.{Lexeme, mark, same_mark}
@@ -64,7 +64,7 @@ dls1_source k some few = source_good 2000 k (drop 1 dls1_rest) (dls1 k) some few
 
 -- every expression has its type
 types : (k : ℕ) → (is_typed (gather_tree k) ≡ true) × (is_typed (count_votes_tree k) ≡ true) × (is_typed (dls1 k) ≡ true)
-unfolding is_typed double_name no_input no_decision missing_round unknown_name not_allowed_here field_count wrong_type
+unfolding is_typed fault_of double_name no_input no_decision missing_round unknown_name not_allowed_here field_count wrong_type
 types k = (refl, refl, refl)
 
 short : (rest : List ℕ) (k : ℕ) → k ≤ 64 → length rest ≤ 4000 → length (text_of rest k) ≤ 65536

@@ -3,6 +3,7 @@ use Rattle.std.specs.Prelude.{◌≡◌, ◌≤◌, ℕ, ◌++◌, true, List, [
 use Rattle.std.specs.Fmt.{decimal}
 use Rattle.std.specs.List.{flat_map}
 use Rattle.round_check.specs.Causes.{is_typed}
+use Rattle.round_lang.specs.Limits.{max_text}
 use Rattle.round_lang.specs.Source.{IsSource}
 use Rattle.round_lang.specs.Syntax.{ProgramTree}
 
@@ -103,4 +104,4 @@ pub record IsProgramText (text : List ℕ) : Type 0 where
   pub program : ProgramTree
   pub source : IsSource text program
   pub typed : is_typed program ≡ true
-  pub short : length text ≤ 65536
+  pub short : length text ≤ max_text

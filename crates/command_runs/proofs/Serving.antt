@@ -2,15 +2,15 @@
 use Rattle.std.proofs.Common.{◌≡◌, ℕ, List, Option, Some, None, Result, Ok, Err, sym, ap, ◌∙◌, subst}
 use Rattle.std.specs.Prelude.{IfSome, IsOk, OnOk}
 use Rattle.std.specs.Io.KnownBytes.{Appends, Keeps}
-use Rattle.adversary.specs.declared.reading.Schedule.{Schedule}
+use Rattle.schedule_text.specs.declared.reading.Schedule.{Schedule}
 use Rattle.command_words.specs.declared.values.Source.{Source}
 use Rattle.command_words.specs.declared.values.Source.TheVariants as source
-use Rattle.round_lang.specs.Source.{IsSource}
 use Rattle.round_lang.specs.Syntax.{ProgramTree}
 use Rattle.slot_plans.specs.declared.kind.PlanKind.{PlanKind}
 use Rattle.command_runs.specs.Explained.{IsReportOf, IsVerdictOf}
 use Rattle.command_runs.specs.Library.{Offers}
-use Rattle.command_runs.specs.Served.{Answered, AnswersRun, Files, Holds, IsProgramOf, IsSchedule, Opens, file_name, receives_of, start_of}
+use Rattle.command_runs.specs.Served.{Answered, AnswersRun, Holds, IsCheckedSource, IsProgramOf, IsSchedule, Opens, file_name, receives_of, start_of}
+use Rattle.command_runs.specs.Texts.{Files}
 use Rattle.command_runs.specs.declared.asking.Answer.{Answer}
 use Rattle.command_runs.specs.declared.asking.Answer.TheVariants as answer
 use Rattle.command_runs.specs.declared.asking.Question.{Question}
@@ -21,7 +21,7 @@ use Rattle.command_runs.specs.declared.sources.Opened.TheVariants as opened
 -- the program of what was opened is the source's
 pub program_of : (s : Source) (files : Files) (o : Opened) (n t : ℕ) (p : ProgramTree) → Opens s files o → Holds o n t p → IsProgramOf s files n t p
 program_of (source.File name) files (opened.File q) n t p opens holds =
-    subst (λ (r : ProgramTree). IfSome (files (file_name name.now)) (λ text. IsSource text r)) (sym holds) opens
+    subst (λ (r : ProgramTree). IfSome (files (file_name name.now)) (λ text. IsCheckedSource text r)) (sym holds) opens
 program_of (source.Library name values) files (opened.Library m k) n t p opens holds =
     subst (λ x. Offers x values n t p) (ap (λ t. t.now) opens.0) (subst (λ k. Offers m.now k n t p) opens.1 holds)
 program_of (source.File name) files (opened.Library m k) n t p opens holds = absurd opens
@@ -70,3 +70,9 @@ pub printed : {A B E F : Type 0} {Q : Type 0} (r : Result A E) (done : Result B 
 printed (Ok x) (Ok y) a b c text done wrote kept f = f (appends_kept a b c text wrote kept)
 printed (Ok x) (Err y) a b c text done wrote kept f = absurd (cc done)
 printed (Err e) done a b c text went wrote kept f = tt
+
+-- an answer under a plan that is told in another way
+pub answered_as : (start receives starts waits : ℕ → ℕ) (p : ProgramTree) (s : Schedule) (q : Question) (a : Answer) → start ≡ starts → receives ≡ waits
+    → Answered start receives p s q a → Answered starts waits p s q a
+answered_as start receives starts waits p s q a same also h =
+    subst (λ f. Answered starts f p s q a) also (subst (λ f. Answered f receives p s q a) same h)

@@ -1,4 +1,9 @@
 pub mod Explained
 pub mod Library
+pub mod Texts
 pub mod Served
+pub mod Lines
+pub mod Refused
+pub mod Stages
 pub mod Desks
+pub mod Limits

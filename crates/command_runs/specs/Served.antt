@@ -1,20 +1,19 @@
 -- What the program writes, as a relation of its words to the files on the desk.
-use Rattle.std.specs.Prelude.{◌≡◌, ◌<◌, ◌≤◌, ◌+◌, ◌++◌, ◌⊎◌, ℕ, Bool, List, Option, IfSome, Ok, codes, length, take, if◌then◌else◌}
+use Rattle.std.specs.Prelude.{◌≡◌, ◌++◌, ◌⊎◌, ℕ, Bool, List, Option, IfSome, codes, length, true, if◌then◌else◌}
 use Rattle.std.specs.Fmt.{decimal}
 use Rattle.std.specs.Io.KnownBytes.{Appends}
 use Rattle.std.specs.Str.{bytes_eq}
-use Rattle.adversary.specs.Reading.{schedule_of}
-use Rattle.adversary.specs.declared.reading.Schedule.{Schedule}
+use Rattle.schedule_text.specs.Texts.{Says, max_text as max_schedule}
+use Rattle.schedule_text.specs.declared.reading.Schedule.{Schedule}
 use Rattle.command_runs.specs.declared.asking.Answer.{Answer}
 use Rattle.command_runs.specs.declared.asking.Answer.TheVariants as answer
 use Rattle.command_runs.specs.declared.asking.Question.{Question}
 use Rattle.command_runs.specs.declared.asking.Question.TheVariants as question
 use Rattle.command_runs.specs.declared.sources.Opened.{Opened}
 use Rattle.command_runs.specs.declared.sources.Opened.TheVariants as opened
-use Rattle.command_runs.specs.declared.texts.Text.{Text}
-use Rattle.command_runs.specs.declared.texts.Text.TheVariants as text
 use Rattle.command_runs.specs.Explained.{IsReportOf, IsVerdictOf}
 use Rattle.command_runs.specs.Library.{Offers}
+use Rattle.command_runs.specs.Texts.{Files, IsText}
 use Rattle.clap.specs.Words.{IsAmong, fault_of}
 use Rattle.clap.specs.declared.error.ErrorKind.TheVariants as kind
 use Rattle.command_words.specs.Commands.{roundc_app}
@@ -28,6 +27,8 @@ use Rattle.omission_explainer.specs.Report.{report_text}
 use Rattle.omission_explainer.specs.Verdict.{verdict_text}
 use Rattle.omission_explainer.specs.declared.judging.Verdict.{Verdict}
 use Rattle.omission_explainer.specs.declared.report.Report.{Report}
+use Rattle.round_check.specs.Causes.{is_typed}
+use Rattle.round_lang.specs.Limits.{max_text}
 use Rattle.round_lang.specs.Source.{IsSource}
 use Rattle.round_lang.specs.Syntax.{ProgramTree}
 use Rattle.round_meaning.specs.declared.setup.Setup.{Setup}
@@ -37,32 +38,24 @@ use Rattle.slot_plans.specs.declared.kind.PlanKind.{PlanKind}
 use Rattle.slot_plans.specs.declared.kind.PlanKind.TheVariants.{Growing, Known}
 use Rattle.step_machine.specs.declared.event.Event.{Event}
 
--- what a desk holds under each name, where it says so
-abbrev pub Files : Type 0
-Files = List ℕ → Option (List ℕ)
-
--- what was read of a file: all that it has, or its first bytes where it is longer than its limit
-abbrev pub IsTextOf : ℕ → Text → List ℕ → Type 0
-IsTextOf limit (text.Whole bytes) held = (length held ≤ limit) × (bytes.items ≡ held)
-IsTextOf limit (text.Longer bytes) held = (limit < length held) × (bytes.items ≡ take (limit + 1) held)
-
 -- a source file named `-` is reached by its folder, since `-` is standard input
 abbrev pub file_name : List ℕ → List ℕ
 file_name name = if bytes_eq name (codes "-") then codes "./-" else name
 
--- the program that a whole text is; a longer one is none
-abbrev pub SpellsProgram : Text → ProgramTree → Type 0
-SpellsProgram (text.Whole bytes) p = IsSource bytes.items p
-SpellsProgram (text.Longer bytes) p = ⊥
+-- the text is this program, every expression of which has its type
+pub record IsCheckedSource (text : List ℕ) (p : ProgramTree) : Type 0 where
+  pub fits : IsText max_text text
+  pub source : IsSource text p
+  pub typed : is_typed p ≡ true
 
 -- the program of a source, for so many nodes and faults: what the file's text is, or the library's
 abbrev pub IsProgramOf : Source → Files → (nodes faults : ℕ) → ProgramTree → Type 0
-IsProgramOf (File name) files nodes faults p = IfSome (files (file_name name.now)) (λ text. IsSource text p)
+IsProgramOf (File name) files nodes faults p = IfSome (files (file_name name.now)) (λ text. IsCheckedSource text p)
 IsProgramOf (Library name values) files nodes faults p = Offers name.now values nodes faults p
 
 -- a source that was opened: the program of its file, or what it names of the library
 abbrev pub Opens : Source → Files → Opened → Type 0
-Opens (File name) files (opened.File p) = IfSome (files (file_name name.now)) (λ text. IsSource text p)
+Opens (File name) files (opened.File p) = IfSome (files (file_name name.now)) (λ text. IsCheckedSource text p)
 Opens (Library name values) files (opened.Library n k) = (n ≡ name) × (k ≡ values)
 Opens _ files _ = ⊥
 
@@ -82,8 +75,9 @@ receives_of (Known delta) r = delta
 receives_of Growing r = r
 
 -- the text is this schedule
-abbrev pub IsSchedule : List ℕ → Setup → PlanKind → List Event → Type 0
-IsSchedule text s k events = schedule_of text ≡ Ok (s, k, events)
+pub record IsSchedule (text : List ℕ) (s : Setup) (k : PlanKind) (events : List Event) : Type 0 where
+  pub fits : IsText max_schedule text
+  pub says : Says text s k events
 
 -- `ok values K period P variables M`
 abbrev pub summary_text : ProgramTree → List ℕ
@@ -125,13 +119,17 @@ abbrev pub answer_text : Answer → List ℕ
 answer_text (answer.Report report told) = told_text report told
 answer_text (answer.Verdict verdict) = verdict_text verdict ++ codes "\n"
 
--- what `out` gained is what the command prints; a program is checked as for one node without faults
+-- what a command prints; a program is checked as for one node without faults
+abbrev pub Prints : Words → Files → List ℕ → Type 0
+Prints (Check source) files text = (p : ProgramTree) × IsProgramOf source files 1 0 p × (text ≡ summary_text p)
+Prints (Run source schedule told) files text =
+    (report : Report) × ReportsRun source files (files schedule.now) report × (text ≡ told_text report told)
+Prints (Judge source schedule correct delta gst) files text =
+    (verdict : Verdict) × JudgesRun source files (files schedule.now) correct.items delta gst verdict × (text ≡ verdict_text verdict ++ codes "\n")
+
+-- `out` gained what the command prints
 abbrev pub Serves : Words → Files → Option (List ℕ) → Option (List ℕ) → Type 0
-Serves (Check source) files old new = (p : ProgramTree) × IsProgramOf source files 1 0 p × Appends old new (summary_text p)
-Serves (Run source schedule told) files old new =
-    (report : Report) × ReportsRun source files (files schedule.now) report × Appends old new (told_text report told)
-Serves (Judge source schedule correct delta gst) files old new =
-    (verdict : Verdict) × JudgesRun source files (files schedule.now) correct.items delta gst verdict × Appends old new (verdict_text verdict ++ codes "\n")
+Serves w files old new = (text : List ℕ) × Prints w files text × Appends old new text
 
 -- the words mean a command, and it was served
 abbrev pub IsServed : List (List ℕ) → Files → Option (List ℕ) → Option (List ℕ) → Type 0

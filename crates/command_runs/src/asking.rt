@@ -1,13 +1,15 @@
 //! What is asked of the run of a schedule.
-ghost use Rattle.std.specs.Prelude.{◌≡◌, IfOk, IfSome};
-ghost use Rattle.command_runs.specs.Served.{Answered, AnswersRun, IsSchedule};
+ghost use Rattle.std.specs.Prelude.{◌≡◌, IfErr, IfOk, IfSome};
+ghost use Rattle.command_runs.specs.Refused.{IsNoSchedule, IsNotRun, IsUnanswered};
+ghost use Rattle.command_runs.specs.Served.{Answered, AnswersRun, IsSchedule, receives_of, start_of};
+ghost use Rattle.command_runs.specs.Stages.{IsNoScheduleIn, IsNotRunAs, IsScheduleIn, listed_by};
 
 use crate::desk::Desk;
 use crate::explained::{Terms, explained_run, judged_run};
 use crate::refusal::Refusal;
 use crate::sources::Opened;
 use crate::texts::{Text, begin_utf8};
-use adversary::{MAX_TEXT, Schedule, ScheduleFault, read_schedule};
+use adversary::{MAX_TEXT, RunFault, Schedule, ScheduleFault, read_schedule};
 use command_words::Source;
 use omission_explainer::{Report, Verdict};
 use round_check::Checked;
@@ -47,22 +49,15 @@ impl<'a> Run<'a> {
     ) -> Result<Answer, Refusal>
         ensures answer { IfOk result (AnswersRun self.now.source (D.files desk.old)
             (D.files desk.old self.now.schedule.now) question.entry) }
+        ensures refused { IfErr result (IsUnanswered self.now.source (D.files desk.old)
+            (D.files desk.old self.now.schedule.now) (listed_by question.entry)) }
         ensures written { D.written desk.new ≡ D.written desk.old }
     {
         let opened = Opened::open(alloc, self.source, desk)?;
         let schedule = schedule_in(alloc, self.schedule, desk)?;
         let setup = &schedule.setup;
         let program = opened.program(alloc, setup.nodes, setup.faults)?;
-        match schedule.plan {
-            PlanKind::Known(delta) => match Known::new(schedule.setup.nodes, delta) {
-                Some(plan) => answer_of(alloc, &program, &schedule, plan, question),
-                None => Err(Refusal::BadSetup),
-            },
-            PlanKind::Growing => match Growing::new(schedule.setup.nodes) {
-                Some(plan) => answer_of(alloc, &program, &schedule, plan, question),
-                None => Err(Refusal::BadSetup),
-            },
-        }
+        answer_by(alloc, &program, &schedule, question)
     }
 }
 
@@ -70,15 +65,53 @@ impl<'a> Run<'a> {
 fn schedule_in<D: Desk>(alloc: Global, name: &str, desk: &mut D) -> Result<Schedule, Refusal>
     ensures schedule { IfOk result (λ schedule. IfSome (D.files desk.old name.now)
         (λ text. IsSchedule text schedule.setup schedule.plan schedule.events.items)) }
+    ensures refused { IfErr result (IsNoSchedule (D.files desk.old name.now)) }
     ensures written { D.written desk.new ≡ D.written desk.old }
 {
-    match Text::read(alloc, name, MAX_TEXT, desk)? {
+    let text = Text::read(alloc, name, MAX_TEXT, desk)?;
+    schedule_of(alloc, text)
+}
+
+/// The schedule that a text is.
+fn schedule_of(alloc: Global, text: Text) -> Result<Schedule, Refusal>
+    ensures schedule { IfOk result (IsScheduleIn text) }
+    ensures refused { IfErr result (IsNoScheduleIn text) }
+{
+    match text {
         Text::Whole(bytes) => match str::from_utf8(&bytes) {
             Ok(text) => Ok(read_schedule(alloc, text)?),
             Err(_) => Err(Refusal::File),
         },
-        Text::Longer(bytes) if begin_utf8(&bytes) => Err(ScheduleFault::TooLong.into()),
+        Text::Longer(bytes) if begin_utf8(&bytes) => {
+            Err(Refusal::Schedule(ScheduleFault::TooLong))
+        }
         Text::Longer(_) => Err(Refusal::File),
+    }
+}
+
+/// The answer on a schedule's run under its plan.
+fn answer_by(
+    alloc: Global,
+    program: &Checked,
+    schedule: &Schedule,
+    question: Question<'_>,
+) -> Result<Answer, Refusal>
+    ensures answered { let plan = schedule.now.plan in let nodes = schedule.now.setup.nodes in
+        IfOk result (Answered (start_of plan nodes) (receives_of plan) program.now schedule.now
+        question.entry) }
+    ensures refused { let s = schedule.now in
+        IfErr result (IsNotRun program.now s.setup s.plan s.events.items
+        (listed_by question.entry)) }
+{
+    match schedule.plan {
+        PlanKind::Known(delta) => match Known::new(schedule.setup.nodes, delta) {
+            Some(plan) => answer_of(alloc, program, schedule, plan, question),
+            None => Err(Refusal::Run(RunFault::BadSetup)),
+        },
+        PlanKind::Growing => match Growing::new(schedule.setup.nodes) {
+            Some(plan) => answer_of(alloc, program, schedule, plan, question),
+            None => Err(Refusal::Run(RunFault::BadSetup)),
+        },
     }
 }
 
@@ -90,7 +123,10 @@ fn answer_of<P: Plan>(
     question: Question<'_>,
 ) -> Result<Answer, Refusal>
     requires { P.nodes plan ≡ schedule.now.setup.nodes }
-    ensures { IfOk result (Answered (P.start plan) (P.receives plan) program.now schedule.now question.entry) }
+    ensures answered { IfOk result (Answered (P.start plan) (P.receives plan) program.now
+        schedule.now question.entry) }
+    ensures refused { let s = schedule.now in
+        IfErr result (IsNotRunAs program.now s.setup s.events.items (listed_by question.entry)) }
 {
     let setup = &schedule.setup;
     let events = schedule.events.as_slice();

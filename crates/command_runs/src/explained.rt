@@ -4,7 +4,7 @@ ghost use Rattle.adversary.specs.Driving.{IsKnown, RunCause};
 ghost use Rattle.command_runs.specs.Explained.{AreListed, IsReportOf, IsVerdictOf};
 ghost use Rattle.omission_explainer.specs.Decided.{AreAgreed, AreInputs};
 ghost use Rattle.round_meaning.specs.Agreement.{RunsAlgorithm1};
-ghost use Rattle.round_meaning.specs.Setups.{IsLawful};
+ghost use Rattle.round_meaning.specs.Setups.{IsLawful, max_nodes};
 
 use adversary::{RunFault, run_schedule};
 use omission_explainer::{Report, Verdict, explain, judge};
@@ -15,9 +15,9 @@ use slot_plans::Plan;
 use std::alloc::Global;
 use step_machine::Event;
 
-/// The report of running a schedule's events in single steps: the run explained in rounds. Where the
-/// program is Algorithm 1, for a setup with fewer than half of the nodes faulty, all decisions in it
-/// are equal, and each is some node's input.
+/// The report of running a schedule's events in single steps: the run explained in rounds. Where
+/// the program is Algorithm 1, for a setup with fewer than half of the nodes faulty, all decisions
+/// in it are equal, and each is some node's input.
 ///
 /// Refusals are those of `run_schedule`.
 pub fn explained_run<P: Plan>(
@@ -28,7 +28,8 @@ pub fn explained_run<P: Plan>(
     events: &[Event],
 ) -> Result<Report, RunFault>
     requires { IsLawful program.now.values setup.now → P.nodes plan ≡ setup.now.nodes }
-    ensures bad_setup { (result ≡ Err RunFault.BadSetup) ↔ (IsLawful program.now.values setup.now → ⊥) }
+    ensures bad_setup { (result ≡ Err RunFault.BadSetup)
+        ↔ (IsLawful program.now.values setup.now → ⊥) }
     ensures cause { IfErr result (RunCause setup.now events.now) }
     ensures known { IfOk result (λ _answer. All (IsKnown setup.now) events.now) }
     ensures explained { IfOk result (IsReportOf (P.start plan) program.now setup.now events.now) }
@@ -45,8 +46,8 @@ pub fn explained_run<P: Plan>(
     }
 }
 
-/// What a run is judged for: the nodes that are taken as correct, the bound on the delay in steps, and
-/// the step number from which on it is to hold.
+/// What a run is judged for: the nodes that are taken as correct, the bound on the delay in steps,
+/// and the step number from which on it is to hold.
 #[derive(Clone, Copy)]
 pub struct Terms<'a> {
     pub correct: &'a [u32],
@@ -56,8 +57,8 @@ pub struct Terms<'a> {
 
 /// The verdict on running a schedule's events in single steps.
 ///
-/// Refusals are those of `run_schedule`; `BadSetup` is also answered where a node of `correct` isn't one of
-/// the run's.
+/// Refusals are those of `run_schedule`; `BadSetup` is also answered where a node of `correct` isn't
+/// one of the run's.
 pub fn judged_run<P: Plan>(
     alloc: Global,
     program: &Checked,
@@ -68,11 +69,12 @@ pub fn judged_run<P: Plan>(
 ) -> Result<Verdict, RunFault>
     requires { IsLawful program.now.values setup.now → P.nodes plan ≡ setup.now.nodes }
     ensures bad_setup { (result ≡ Err RunFault.BadSetup)
-        ↔ (IsLawful program.now.values setup.now × All (λ n. n < setup.now.nodes) terms.entry.correct.now → ⊥) }
+        ↔ (IsLawful program.now.values setup.now
+        × All (λ n. n < setup.now.nodes) terms.entry.correct.now → ⊥) }
     ensures cause { IfErr result (RunCause setup.now events.now) }
     ensures known { IfOk result (λ _answer. All (IsKnown setup.now) events.now) }
-    ensures judged { IfOk result (IsVerdictOf (P.start plan) (P.receives plan) program.now setup.now events.now
-        terms.entry.correct.now terms.entry.delta terms.entry.gst) }
+    ensures judged { IfOk result (IsVerdictOf (P.start plan) (P.receives plan) program.now setup.now
+        events.now terms.entry.correct.now terms.entry.delta terms.entry.gst) }
 {
     let Some(correct) = nodes_in(terms.correct, setup.nodes) else {
         return Err(RunFault::BadSetup);
@@ -82,11 +84,12 @@ pub fn judged_run<P: Plan>(
     Ok(judge(&journal, correct, terms.delta, terms.gst))
 }
 
-/// The set of the listed nodes, where each is below a number of nodes and below the most that there can be.
+/// The set of the listed nodes, where each is below a number of nodes and below the most that there
+/// can be.
 fn nodes_in(list: &[u32], nodes: u32) -> Option<NodeSet>
     ensures some { IfSome result (λ set. AreListed nodes list.now set.bits) }
     ensures each { IfSome result (λ _set. All (λ n. n < nodes) list.now) }
-    ensures none { IfNone result (All (λ n. (n < nodes) × (n < MAX_NODES)) list.now → ⊥) }
+    ensures none { IfNone result (All (λ n. (n < nodes) × (n < max_nodes)) list.now → ⊥) }
 {
     let mut set = NodeSet::empty();
     for node in list {

@@ -4,6 +4,7 @@
 mod asking;
 mod desk;
 mod explained;
+mod limits;
 mod memory_desk;
 mod refusal;
 mod run;
@@ -13,6 +14,7 @@ mod written;
 
 pub use desk::{Desk, DeskFault};
 pub use explained::{Terms, explained_run, judged_run};
+pub use limits::limits_agree;
 pub use memory_desk::MemoryDesk;
 pub use refusal::Refusal;
 pub use run::run_words;

@@ -1,106 +1,194 @@
 //! Why a command was refused.
-ghost use Rattle.std.specs.Prelude.{◌≡◌, ◌<◌, ◌≤◌};
+ghost use Rattle.std.specs.Prelude.{◌≡◌, IfSome, OnOk};
+ghost use Rattle.std.specs.Io.KnownBytes.{Appends};
+ghost use Rattle.std.specs.Fmt.{DisplaysOnOk, WritesOnOk};
+ghost use Rattle.command_runs.specs.Lines.{check_line, library_line, line_of, memory_line, run_line, schedule_line, source_line, status_of, words_line};
 
 use crate::desk::DeskFault;
 use adversary::{RunFault, ScheduleFault};
 use algorithm_library::LibraryFault;
 use command_words::WordsFault;
 use round_check::CheckFault;
-use round_lang::{LangFault, NoMemory, Span};
-use std::alloc::AllocError;
-use thiserror::Error;
+use round_lang::{LangFault, Span};
+use std::error::Error;
+use std::io::Write;
+use std::{fmt, io};
 
-/// One line on standard error, or `clap`'s own text.
-#[derive(Debug, Drop, Error)]
+/// Why a command was refused; it prints as one line, or as `clap`'s own text.
+#[derive(Debug, Drop)]
 pub enum Refusal {
-    #[error("{0}")]
-    Words(clap::Error),
-    #[error("error: a value is missing\n")]
-    Missing,
-    #[error("error: SOURCE is a file, or `@`, a name, `:` and digits\n")]
-    SourceWord,
-    #[error("error: LIST is node numbers with commas between them\n")]
-    ListWord,
-    #[error("error: D is a number of 1 to 1024\n")]
-    DeltaWord,
-    #[error("error: G is a number of 0 to 4294967295\n")]
-    GstWord,
-    #[error("refused file\n")]
+    /// The words are no command.
+    Words(WordsFault),
+    /// A file isn't there, or isn't UTF-8.
     File,
-    #[error("refused source {kind} at {first} {after}\n")]
-    SourcePlace {
-        kind: u8,
-        first: usize,
-        after: usize,
-    },
-    #[error("refused source {kind}\n")]
-    Source {
-        kind: u8,
-    },
-    #[error("refused check {kind}\n")]
-    Check {
-        kind: u8,
-    },
-    #[error("refused schedule {kind} at {line}\n")]
-    ScheduleLine {
-        kind: u8,
-        line: u64,
-    },
-    #[error("refused schedule 3\n")]
-    ScheduleTooLong,
-    #[error("refused library {kind}\n")]
-    Library {
-        kind: u8,
-    },
-    #[error("refused library 3\n")]
+    Source(LangFault),
+    Check(CheckFault),
+    Schedule(ScheduleFault),
+    Library(LibraryFault),
+    /// The library has no program of the name.
     NoSuchProgram,
-    #[error("refused run 1\n")]
-    BadSetup,
-    #[error("refused run {kind} at {position}\n")]
-    Event {
-        kind: u8,
-        position: usize,
-    },
-    #[error("refused write\n")]
+    Run(RunFault),
+    /// Standard output takes no more.
     Write,
-    #[error("no memory\n")]
     NoMemory,
 }
 
 impl Refusal {
     /// The exit status.
     pub fn status(&self) -> u8
-        ensures within { result ≤ 3 }
-        ensures refused { 0 < result }
+        ensures { result ≡ status_of self.now }
     {
         match self {
-            Refusal::Words(_)
-            | Refusal::Missing
-            | Refusal::SourceWord
-            | Refusal::ListWord
-            | Refusal::DeltaWord
-            | Refusal::GstWord => 2,
+            Refusal::Words(_) => 2,
             Refusal::NoMemory => 3,
             _ => 1,
         }
     }
+
+    /// Tells the refusal: one line, or `clap`'s own text. A failed write may leave a part of it.
+    pub fn tell<E: Write>(&self, err: &mut E) -> io::Result<()>
+        ensures { OnOk result (IfSome (line_of self.now)
+            (Appends (E.contents err.old) (E.contents err.new))) }
+    {
+        write!(err, "{self}")
+    }
 }
 
+impl fmt::Display for Refusal {
+    ghost output = { line_of };
+
+    fn fmt<W: fmt::Write>(&self, f: &mut fmt::Formatter<W>) -> fmt::Result {
+        match self {
+            Refusal::Words(fault) => write_words(fault, f),
+            Refusal::File => writeln!(f, "refused file"),
+            Refusal::Source(fault) => write_source(*fault, f),
+            Refusal::Check(fault) => write_check(*fault, f),
+            Refusal::Schedule(fault) => write_schedule(*fault, f),
+            Refusal::Library(fault) => write_library(*fault, f),
+            Refusal::NoSuchProgram => writeln!(f, "refused library 3"),
+            Refusal::Run(fault) => write_run(*fault, f),
+            Refusal::Write => writeln!(f, "refused write"),
+            Refusal::NoMemory => write_no_memory(f),
+        }
+    }
+}
+
+fn write_no_memory<W: fmt::Write>(f: &mut fmt::Formatter<W>) -> fmt::Result
+    ensures { WritesOnOk W.write_str_gives f.old result memory_line f.new }
+{
+    writeln!(f, "no memory")
+}
+
+fn write_words<W: fmt::Write>(fault: &WordsFault, f: &mut fmt::Formatter<W>) -> fmt::Result
+    ensures { DisplaysOnOk W.write_str_gives f.old result (words_line fault.now) f.new }
+{
+    match fault {
+        WordsFault::Refused(error) => write!(f, "{error}"),
+        WordsFault::Missing => writeln!(f, "error: a value is missing"),
+        WordsFault::Source => {
+            writeln!(f, "error: SOURCE is a file, or `@`, a name, `:` and digits")
+        }
+        WordsFault::List => {
+            writeln!(
+                f,
+                "error: LIST is node numbers of 0 to 4294967295 with commas between them"
+            )
+        }
+        WordsFault::Delta => writeln!(f, "error: D is a number of 1 to 1024"),
+        WordsFault::Gst => writeln!(f, "error: G is a number of 0 to 4294967295"),
+        WordsFault::NoMemory => write_no_memory(f),
+    }
+}
+
+fn write_source<W: fmt::Write>(fault: LangFault, f: &mut fmt::Formatter<W>) -> fmt::Result
+    ensures { WritesOnOk W.write_str_gives f.old result (source_line fault) f.new }
+{
+    match fault {
+        LangFault::BadToken(Span { first, after }) => {
+            writeln!(f, "refused source 1 at {first} {after}")
+        }
+        LangFault::Unexpected(Span { first, after }) => {
+            writeln!(f, "refused source 2 at {first} {after}")
+        }
+        LangFault::TooDeep => writeln!(f, "refused source 3"),
+        LangFault::TooLong => writeln!(f, "refused source 4"),
+        LangFault::LimitPassed(Span { first, after }) => {
+            writeln!(f, "refused source 5 at {first} {after}")
+        }
+        LangFault::NoMemory => write_no_memory(f),
+    }
+}
+
+fn write_check<W: fmt::Write>(fault: CheckFault, f: &mut fmt::Formatter<W>) -> fmt::Result
+    ensures { WritesOnOk W.write_str_gives f.old result (check_line fault) f.new }
+{
+    match fault {
+        CheckFault::UnknownName => writeln!(f, "refused check 1"),
+        CheckFault::DoubleName => writeln!(f, "refused check 2"),
+        CheckFault::WrongType => writeln!(f, "refused check 3"),
+        CheckFault::FieldCount => writeln!(f, "refused check 4"),
+        CheckFault::NotAllowedHere => writeln!(f, "refused check 5"),
+        CheckFault::NoInput => writeln!(f, "refused check 6"),
+        CheckFault::NoDecision => writeln!(f, "refused check 7"),
+        CheckFault::MissingRound => writeln!(f, "refused check 8"),
+        CheckFault::NoMemory => write_no_memory(f),
+    }
+}
+
+fn write_schedule<W: fmt::Write>(fault: ScheduleFault, f: &mut fmt::Formatter<W>) -> fmt::Result
+    ensures { WritesOnOk W.write_str_gives f.old result (schedule_line fault) f.new }
+{
+    match fault {
+        ScheduleFault::BadLine(line) => writeln!(f, "refused schedule 1 at {line}"),
+        ScheduleFault::NumberTooLarge(line) => writeln!(f, "refused schedule 2 at {line}"),
+        ScheduleFault::TooLong => writeln!(f, "refused schedule 3"),
+        ScheduleFault::NoMemory => write_no_memory(f),
+    }
+}
+
+fn write_library<W: fmt::Write>(fault: LibraryFault, f: &mut fmt::Formatter<W>) -> fmt::Result
+    ensures { WritesOnOk W.write_str_gives f.old result (library_line fault) f.new }
+{
+    match fault {
+        LibraryFault::TooFew => writeln!(f, "refused library 1"),
+        LibraryFault::BadValues => writeln!(f, "refused library 2"),
+        LibraryFault::NoMemory => write_no_memory(f),
+    }
+}
+
+fn write_run<W: fmt::Write>(fault: RunFault, f: &mut fmt::Formatter<W>) -> fmt::Result
+    ensures { WritesOnOk W.write_str_gives f.old result (run_line fault) f.new }
+{
+    match fault {
+        RunFault::BadSetup => writeln!(f, "refused run 1"),
+        RunFault::UnknownNode(position) => writeln!(f, "refused run 2 at {position}"),
+        RunFault::UnknownMessage(position) => writeln!(f, "refused run 3 at {position}"),
+        RunFault::NoMemory => write_no_memory(f),
+    }
+}
+
+impl Error for Refusal {}
+
 impl From<WordsFault> for Refusal {
+    ghost use Rattle.std.specs.Prelude.{◌≡◌};
+    ghost use Rattle.command_runs.specs.Refused.{of_words};
+
+    ghost from_gives = { λ fault r. r ≡ of_words fault };
+
     fn from(fault: WordsFault) -> Refusal {
         match fault {
-            WordsFault::Refused(error) => Refusal::Words(error),
-            WordsFault::Missing => Refusal::Missing,
-            WordsFault::Source => Refusal::SourceWord,
-            WordsFault::List => Refusal::ListWord,
-            WordsFault::Delta => Refusal::DeltaWord,
-            WordsFault::Gst => Refusal::GstWord,
             WordsFault::NoMemory => Refusal::NoMemory,
+            fault => Refusal::Words(fault),
         }
     }
 }
 
 impl From<DeskFault> for Refusal {
+    ghost use Rattle.std.specs.Prelude.{◌≡◌};
+    ghost use Rattle.command_runs.specs.Refused.{of_desk};
+
+    ghost from_gives = { λ fault r. r ≡ of_desk fault };
+
     fn from(fault: DeskFault) -> Refusal {
         match fault {
             DeskFault::Failed => Refusal::File,
@@ -109,76 +197,72 @@ impl From<DeskFault> for Refusal {
     }
 }
 
-fn at(kind: u8, span: Span) -> Refusal {
-    Refusal::SourcePlace {
-        kind,
-        first: span.first,
-        after: span.after,
-    }
-}
-
 impl From<LangFault> for Refusal {
+    ghost use Rattle.std.specs.Prelude.{◌≡◌};
+    ghost use Rattle.command_runs.specs.Refused.{of_source};
+
+    ghost from_gives = { λ fault r. r ≡ of_source fault };
+
     fn from(fault: LangFault) -> Refusal {
         match fault {
-            LangFault::BadToken(span) => at(1, span),
-            LangFault::Unexpected(span) => at(2, span),
-            LangFault::TooDeep => Refusal::Source { kind: 3 },
-            LangFault::TooLong => Refusal::Source { kind: 4 },
-            LangFault::LimitPassed(span) => at(5, span),
             LangFault::NoMemory => Refusal::NoMemory,
+            fault => Refusal::Source(fault),
         }
     }
 }
 
 impl From<CheckFault> for Refusal {
+    ghost use Rattle.std.specs.Prelude.{◌≡◌};
+    ghost use Rattle.command_runs.specs.Refused.{of_check};
+
+    ghost from_gives = { λ fault r. r ≡ of_check fault };
+
     fn from(fault: CheckFault) -> Refusal {
         match fault {
             CheckFault::NoMemory => Refusal::NoMemory,
-            cause => Refusal::Check { kind: cause as u8 },
+            fault => Refusal::Check(fault),
         }
     }
 }
 
 impl From<ScheduleFault> for Refusal {
+    ghost use Rattle.std.specs.Prelude.{◌≡◌};
+    ghost use Rattle.command_runs.specs.Refused.{of_schedule};
+
+    ghost from_gives = { λ fault r. r ≡ of_schedule fault };
+
     fn from(fault: ScheduleFault) -> Refusal {
         match fault {
-            ScheduleFault::BadLine(line) => Refusal::ScheduleLine { kind: 1, line },
-            ScheduleFault::NumberTooLarge(line) => Refusal::ScheduleLine { kind: 2, line },
-            ScheduleFault::TooLong => Refusal::ScheduleTooLong,
             ScheduleFault::NoMemory => Refusal::NoMemory,
+            fault => Refusal::Schedule(fault),
         }
     }
 }
 
 impl From<LibraryFault> for Refusal {
+    ghost use Rattle.std.specs.Prelude.{◌≡◌};
+    ghost use Rattle.command_runs.specs.Refused.{of_library};
+
+    ghost from_gives = { λ fault r. r ≡ of_library fault };
+
     fn from(fault: LibraryFault) -> Refusal {
         match fault {
-            LibraryFault::TooFew => Refusal::Library { kind: 1 },
-            LibraryFault::BadValues => Refusal::Library { kind: 2 },
             LibraryFault::NoMemory => Refusal::NoMemory,
+            fault => Refusal::Library(fault),
         }
     }
 }
 
 impl From<RunFault> for Refusal {
+    ghost use Rattle.std.specs.Prelude.{◌≡◌};
+    ghost use Rattle.command_runs.specs.Refused.{of_run};
+
+    ghost from_gives = { λ fault r. r ≡ of_run fault };
+
     fn from(fault: RunFault) -> Refusal {
         match fault {
-            RunFault::BadSetup => Refusal::BadSetup,
-            RunFault::UnknownNode(position) => Refusal::Event { kind: 2, position },
-            RunFault::UnknownMessage(position) => Refusal::Event { kind: 3, position },
             RunFault::NoMemory => Refusal::NoMemory,
+            fault => Refusal::Run(fault),
         }
-    }
-}
-
-impl From<NoMemory> for Refusal {
-    fn from(_error: NoMemory) -> Refusal {
-        Refusal::NoMemory
-    }
-}
-
-impl From<AllocError> for Refusal {
-    fn from(_error: AllocError) -> Refusal {
-        Refusal::NoMemory
     }
 }

@@ -1,14 +1,16 @@
 //! Running a command.
-ghost use Rattle.std.specs.Prelude.{◌≡◌, ◌≤◌, ◌⊎◌, IsOk, OnOk, map};
+ghost use Rattle.std.specs.Prelude.{◌≡◌, ◌<◌, ◌≤◌, ◌⊎◌, IfErr, IsOk, OnOk, map};
 ghost use Rattle.std.specs.Io.KnownBytes.{Appends, Keeps};
+ghost use Rattle.command_runs.specs.Refused.{IsCause, IsRefused, IsRefusedCommand, IsSilent};
 ghost use Rattle.command_runs.specs.Served.{AsksForHelp, IsServed, Serves, answer_text, summary_text};
+ghost use Rattle.command_runs.specs.Stages.{IsRefusedAnswer, TellsAnswer};
 
 use crate::asking::{Answer, Question, Run};
 use crate::desk::Desk;
 use crate::explained::Terms;
 use crate::refusal::Refusal;
 use crate::sources::Opened;
-use command_words::{Words, WordsFault, read_words};
+use command_words::{Source, Words, WordsFault, read_words};
 use omission_explainer::{decided, write_report};
 use round_check::Checked;
 use std::alloc::Global;
@@ -16,9 +18,9 @@ use std::io;
 use std::io::Write;
 
 /// Runs the command that the words name, and answers the exit status: 0 done, 1 refused input, 2 a
-/// bad command line, 3 no memory. With a refusal nothing is written to `out`, and one line to `err`;
-/// only where `out` fails it may have a part. Where the words ask for help or the version, `out` gets
-/// that text.
+/// bad command line, 3 no memory. With a refusal nothing is written to `out`, and one line to
+/// `err`; only where `out` fails it may have a part. Where the words ask for help or the version,
+/// `out` gets that text.
 pub fn run_words<'a, D: Desk, O: Write, E: Write>(
     alloc: Global,
     words: &'a [&'a str],
@@ -31,6 +33,9 @@ pub fn run_words<'a, D: Desk, O: Write, E: Write>(
     // words ask for help or the version, of whose text nothing is said.
     ensures served { result ≡ 0 → IsServed (map (λ s. s.now) words.entry.now) (D.files desk.old)
         (O.contents out.old) (O.contents out.new) ⊎ AsksForHelp (map (λ s. s.now) words.entry.now) }
+    // Another status: a cause stands, and none that is told before it, and `out` gained nothing.
+    ensures refused { 0 < result → IsRefused (map (λ s. s.now) words.entry.now)
+        (D.files desk.old) result (O.contents out.old) (O.contents out.new) }
     // No command writes a file.
     ensures written { D.written desk.new ≡ D.written desk.old }
     // With status 0 nothing was written to `err`.
@@ -40,7 +45,7 @@ pub fn run_words<'a, D: Desk, O: Write, E: Write>(
         Ok(()) => 0,
         Err(refusal) => {
             // Where `err` fails too there is nobody left to tell.
-            let _ = write!(err, "{refusal}");
+            let _ = refusal.tell(err);
             refusal.status()
         }
     }
@@ -54,6 +59,8 @@ fn serve<'a, D: Desk, O: Write>(
 ) -> Result<(), Refusal>
     ensures served { OnOk result (IsServed (map (λ s. s.now) words.entry.now) (D.files desk.old)
         (O.contents out.old) (O.contents out.new) ⊎ AsksForHelp (map (λ s. s.now) words.entry.now)) }
+    ensures refused { IfErr result (IsCause (map (λ s. s.now) words.entry.now) (D.files desk.old)) }
+    ensures silent { IfErr result (IsSilent (O.contents out.old) (O.contents out.new)) }
     ensures written { D.written desk.new ≡ D.written desk.old }
 {
     match read_words(alloc, words) {
@@ -74,21 +81,19 @@ fn carry_out<'a, D: Desk, O: Write>(
 ) -> Result<(), Refusal>
     ensures served { OnOk result (Serves command.entry (D.files desk.old)
         (O.contents out.old) (O.contents out.new)) }
+    ensures refused { IfErr result (IsRefusedCommand command.entry (D.files desk.old)) }
+    ensures silent { IfErr result (IsSilent (O.contents out.old) (O.contents out.new)) }
     ensures written { D.written desk.new ≡ D.written desk.old }
 {
     match command {
-        Words::Check { source } => {
-            let program = Opened::open(alloc, source, desk)?.program(alloc, 1, 0)?;
-            written(write_summary(&program, out), out)
-        }
+        Words::Check { source } => check_source(alloc, source, desk, out),
         Words::Run {
             source,
             schedule,
             decided,
         } => {
             let run = Run { source, schedule };
-            let answer = run.answer(alloc, Question::Report { decided }, desk)?;
-            written(write_answer(&answer, out), out)
+            answer(alloc, run, Question::Report { decided }, desk, out)
         }
         Words::Judge {
             source,
@@ -103,15 +108,56 @@ fn carry_out<'a, D: Desk, O: Write>(
                 delta,
                 gst,
             };
-            let answer = run.answer(alloc, Question::Verdict(terms), desk)?;
-            written(write_answer(&answer, out), out)
+            answer(alloc, run, Question::Verdict(terms), desk, out)
         }
     }
 }
 
+/// Says what a source declares.
+#[tactic(auto, using(crate::proofs::Telling::silent_same))]
+fn check_source<'a, D: Desk, O: Write>(
+    alloc: Global,
+    source: Source<'a>,
+    desk: &mut D,
+    out: &mut O,
+) -> Result<(), Refusal>
+    ensures served { OnOk result (Serves (Words.Check source.entry) (D.files desk.old)
+        (O.contents out.old) (O.contents out.new)) }
+    ensures refused { IfErr result
+        (IsRefusedCommand (Words.Check source.entry) (D.files desk.old)) }
+    ensures silent { IfErr result (IsSilent (O.contents out.old) (O.contents out.new)) }
+    ensures written { D.written desk.new ≡ D.written desk.old }
+{
+    let opened = Opened::open(alloc, source, desk)?;
+    let program = opened.program(alloc, 1, 0)?;
+    written(write_summary(&program, out), out)
+}
+
+/// Answers a question on a run.
+#[tactic(auto, using(crate::proofs::Telling::silent_same))]
+fn answer<'a, D: Desk, O: Write>(
+    alloc: Global,
+    run: Run<'a>,
+    question: Question<'_>,
+    desk: &mut D,
+    out: &mut O,
+) -> Result<(), Refusal>
+    ensures served { OnOk result (TellsAnswer run.entry.source (D.files desk.old)
+        (D.files desk.old run.entry.schedule.now) question.entry
+        (O.contents out.old) (O.contents out.new)) }
+    ensures refused { IfErr result (IsRefusedAnswer run.entry.source (D.files desk.old)
+        (D.files desk.old run.entry.schedule.now) question.entry) }
+    ensures silent { IfErr result (IsSilent (O.contents out.old) (O.contents out.new)) }
+    ensures written { D.written desk.new ≡ D.written desk.old }
+{
+    let answer = run.answer(alloc, question, desk)?;
+    written(write_answer(&answer, out), out)
+}
+
 /// What a program declares: the number of its values, its period and the number of its variables.
 fn write_summary<O: Write>(program: &Checked, out: &mut O) -> io::Result<()>
-    ensures { OnOk result (Appends (O.contents out.old) (O.contents out.new) (summary_text program.now)) }
+    ensures { OnOk result (Appends (O.contents out.old) (O.contents out.new)
+        (summary_text program.now)) }
 {
     let program = program.program();
     writeln!(
@@ -124,7 +170,8 @@ fn write_summary<O: Write>(program: &Checked, out: &mut O) -> io::Result<()>
 }
 
 fn write_answer<O: Write>(answer: &Answer, out: &mut O) -> io::Result<()>
-    ensures { OnOk result (Appends (O.contents out.old) (O.contents out.new) (answer_text answer.now)) }
+    ensures { OnOk result (Appends (O.contents out.old) (O.contents out.new)
+        (answer_text answer.now)) }
 {
     match answer {
         Answer::Report {
@@ -145,6 +192,7 @@ fn write_answer<O: Write>(answer: &Answer, out: &mut O) -> io::Result<()>
 /// That all was written, to the last byte that the writer still holds.
 fn written<O: Write>(done: io::Result<()>, out: &mut O) -> Result<(), Refusal>
     ensures done { OnOk result (IsOk done) }
+    ensures refused { IfErr result (λ r. r ≡ Refusal.Write) }
     ensures kept { OnOk result (Keeps (O.contents out.old) (O.contents out.new)) }
 {
     if done.is_err() || out.flush().is_err() {

@@ -1,7 +1,11 @@
 //! Programs, from source files and from the library.
-ghost use Rattle.std.specs.Prelude.{◌≡◌, ℕ, List, IfOk};
+ghost use Rattle.std.specs.Prelude.{◌≡◌, ℕ, List, IfErr, IfOk, IfSome, true};
 ghost use Rattle.command_runs.specs.Library.{Offers};
-ghost use Rattle.command_runs.specs.Served.{Holds, Opens, SpellsProgram, file_name};
+ghost use Rattle.command_runs.specs.Refused.{IsNoOffer, IsNoProgram, IsNotOpened};
+ghost use Rattle.command_runs.specs.Served.{Holds, IsCheckedSource, Opens, file_name};
+ghost use Rattle.command_runs.specs.Stages.{IsHeldBack, IsNoProgramIn, IsNoProgramOf, IsProgramIn};
+ghost use Rattle.round_check.specs.Causes.{is_typed};
+ghost use Rattle.round_lang.specs.Source.{IsSource};
 
 use crate::desk::Desk;
 use crate::refusal::Refusal;
@@ -29,21 +33,20 @@ impl<'a> Opened<'a> {
         desk: &mut D,
     ) -> Result<Opened<'a>, Refusal>
         ensures opened { IfOk result (Opens source.entry (D.files desk.old)) }
+        ensures refused { IfErr result (IsNotOpened source.entry (D.files desk.old)) }
         ensures files { (name : List ℕ) → D.files desk.new name ≡ D.files desk.old name }
         ensures written { D.written desk.new ≡ D.written desk.old }
     {
         match source {
-            Source::File(name) => {
-                let text = Text::read(alloc, file_name(name), MAX_TEXT, desk)?;
-                Ok(Opened::File(program_in(alloc, text)?))
-            }
+            Source::File(name) => { Ok(Opened::File(program_in(alloc, file_name(name), desk)?)) }
             Source::Library { name, values } => Ok(Opened::Library { name, values }),
         }
     }
 
     /// The program, for a run on so many nodes of which up to `faults` may fail.
     pub fn program(self, alloc: Global, nodes: u32, faults: u32) -> Result<Checked, Refusal>
-        ensures { IfOk result (Holds self.entry nodes faults) }
+        ensures program { IfOk result (Holds self.entry nodes faults) }
+        ensures refused { IfErr result (IsHeldBack self.entry nodes faults) }
     {
         match self {
             Opened::File(program) => Ok(program),
@@ -52,18 +55,39 @@ impl<'a> Opened<'a> {
     }
 }
 
-/// The program that a file's text is.
-fn program_in(alloc: Global, text: Text) -> Result<Checked, Refusal>
-    ensures { IfOk result (λ p. SpellsProgram text p) }
+/// The program that a file has.
+fn program_in<D: Desk>(alloc: Global, name: &str, desk: &mut D) -> Result<Checked, Refusal>
+    ensures program { IfOk result (λ p. IfSome (D.files desk.old name.now)
+        (λ text. IsCheckedSource text p)) }
+    ensures refused { IfErr result (IsNoProgram (D.files desk.old name.now)) }
+    ensures files { (other : List ℕ) → D.files desk.new other ≡ D.files desk.old other }
+    ensures written { D.written desk.new ≡ D.written desk.old }
+{
+    let text = Text::read(alloc, name, MAX_TEXT, desk)?;
+    program_of(alloc, text)
+}
+
+/// The program that a text is.
+fn program_of(alloc: Global, text: Text) -> Result<Checked, Refusal>
+    ensures program { IfOk result (IsProgramIn text) }
+    ensures refused { IfErr result (IsNoProgramIn text) }
 {
     match text {
         Text::Whole(bytes) => match str::from_utf8(&bytes) {
-            Ok(text) => Ok(check(alloc, parse(alloc, text)?)?),
+            Ok(text) => checked(alloc, text),
             Err(_) => Err(Refusal::File),
         },
-        Text::Longer(bytes) if begin_utf8(&bytes) => Err(LangFault::TooLong.into()),
+        Text::Longer(bytes) if begin_utf8(&bytes) => Err(Refusal::Source(LangFault::TooLong)),
         Text::Longer(_) => Err(Refusal::File),
     }
+}
+
+/// The program that a text in UTF-8 is.
+fn checked(alloc: Global, text: &str) -> Result<Checked, Refusal>
+    ensures program { IfOk result (λ p. IsSource text.now p × (is_typed p ≡ true)) }
+    ensures refused { IfErr result (IsNoProgramOf text.now) }
+{
+    Ok(check(alloc, parse(alloc, text)?)?)
 }
 
 /// A desk has standard input under `-`; a source file of that name is reached by its folder.
@@ -80,7 +104,8 @@ fn offered(
     nodes: u32,
     faults: u32,
 ) -> Result<Checked, Refusal>
-    ensures { IfOk result (Offers name.now values nodes faults) }
+    ensures offered { IfOk result (Offers name.now values nodes faults) }
+    ensures refused { IfErr result (IsNoOffer name.now values nodes faults) }
 {
     match name {
         "gather" => Ok(gather(alloc, values)?),

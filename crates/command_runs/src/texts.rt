@@ -1,6 +1,6 @@
 //! Texts of files, within their limits.
-ghost use Rattle.std.specs.Prelude.{◌≡◌, ℕ, List, IfOk, IfSome};
-ghost use Rattle.command_runs.specs.Served.{IsTextOf};
+ghost use Rattle.std.specs.Prelude.{◌≡◌, ◌↔◌, ℕ, Err, List, None, IfOk, IfSome, IsTrue};
+ghost use Rattle.command_runs.specs.Texts.{BeginsUtf8, IsTextOf};
 
 use crate::desk::{Desk, DeskFault};
 use std::alloc::Global;
@@ -23,7 +23,9 @@ impl Text {
         limit: usize,
         desk: &mut D,
     ) -> Result<Text, DeskFault>
-        ensures held { IfOk result (λ text. IfSome (D.files desk.old name.now) (IsTextOf limit text)) }
+        ensures held { IfOk result (λ text. IfSome (D.files desk.old name.now)
+            (IsTextOf limit text)) }
+        ensures failed { result ≡ Err DeskFault.Failed → D.files desk.old name.now ≡ None }
         ensures files { (other : List ℕ) → D.files desk.new other ≡ D.files desk.old other }
         ensures written { D.written desk.new ≡ D.written desk.old }
     {
@@ -37,7 +39,9 @@ impl Text {
 }
 
 /// Whether bytes begin a text in UTF-8: a character may be cut off at their end.
-pub fn begin_utf8(bytes: &[u8]) -> bool {
+pub fn begin_utf8(bytes: &[u8]) -> bool
+    ensures { IsTrue result ↔ BeginsUtf8 bytes.now }
+{
     match str::from_utf8(bytes) {
         Ok(_) => true,
         Err(error) => error.error_len().is_none(),

@@ -1,5 +1,5 @@
 -- From what the matches' calls answer to what the words give.
-use Rattle.std.proofs.Common.{◌≡◌, ◌∙◌, ap, List, Option, Some, None, Result, Ok, Err, Bool, true, false, ap₂, sym, refl, option_map, is_some, Bor, [], ◌∷◌, inl, inr}
+use Rattle.std.proofs.Common.{◌≡◌, ◌∙◌, ap, List, Option, Some, None, Result, Ok, Err, Bool, true, false, ap₂, sym, refl, option_map, is_some, Bor, [], ◌∷◌, ◌⊎◌, inl, inr, subst}
 use Rattle.std.specs.Prelude.{◌↔◌, Box, IfOk, IsTrue, OnErr, OnOk}
 use Rattle.std.specs.Option.{ok_or}
 use Rattle.std.specs.Box.{box_value}
@@ -11,13 +11,15 @@ use Rattle.clap.specs.Kinds.{or_else}
 use Rattle.clap.specs.Faults.{check_fault, defaults_fault, entered_fault, level_fault, settle_fault, walk_fault}
 use Rattle.clap.specs.Walk.{Held, Names, finished, nothing_held, settled, walk, walk_from}
 use Rattle.clap.specs.Simple.{Shape, argument_words, entered, names_of}
-use Rattle.clap.specs.Words.{Kinds, built, subcommand_of, fault_of, Row, Text, first_of, first_value, found_of, is_simple, is_simple_and_free, rows_of, subcommand_name_of, subcommand_rows_of}
+use Rattle.clap.specs.declared.error.Error.{Error}
+use Rattle.clap.specs.declared.error.kind.ErrorKind.TheVariants.{OutOfMemory}
+use Rattle.clap.specs.Words.{IsAmong, Kinds, built, kind_of, subcommand_of, fault_of, Row, Text, first_of, first_value, found_of, is_simple, is_simple_and_free, rows_of, subcommand_name_of, subcommand_rows_of}
 use Rattle.clap.specs.declared.parser.matches.ArgMatches.{ArgMatches}
 use Rattle.clap.specs.declared.parser.matches.ArgMatches.TheViews.{out-ArgMatches, out-SubCommand}
 use Rattle.clap.specs.declared.parser.matches.SubCommand.{SubCommand}
 use Rattle.clap.proofs.WalkLemmas.{first_value-rows}
 use Rattle.command_words.specs.Commands.{roundc_app}
-use Rattle.command_words.specs.Given.{Explains, FailsByValue}
+use Rattle.command_words.specs.Given.{Explains, FailsByValue, IsMistake}
 use Rattle.command_words.specs.declared.words.WordsFault.{WordsFault}
 use Rattle.command_words.specs.declared.words.WordsFault.TheVariants as fault
 
@@ -89,10 +91,23 @@ lack_explained words name rows (fault.Refused e) none is lack = absurd (elim lac
 ])
 lack_explained words name rows fault.Missing none is lack = (none, (name, rows, is, lack))
 lack_explained words name rows fault.Source none is lack = (none, (name, rows, is, lack))
-lack_explained words name rows fault.List none is lack = (none, (name, rows, is, lack))
-lack_explained words name rows fault.Delta none is lack = (none, (name, rows, is, lack))
-lack_explained words name rows fault.Gst none is lack = (none, (name, rows, is, lack))
+lack_explained words name rows fault.List none is lack = inl (none, (name, rows, is, lack))
+lack_explained words name rows fault.Delta none is lack = inl (none, (name, rows, is, lack))
+lack_explained words name rows fault.Gst none is lack = inl (none, (name, rows, is, lack))
 lack_explained words name rows fault.NoMemory none is lack = tt
+
+-- what the code makes of an error explains the refusal
+pub mistake_explained : (words : List Text) (error : Error) (e : WordsFault) → (kind_of error ≡ OutOfMemory) ⊎ IsAmong (kind_of error) (fault_of roundc_app words)
+    → IsMistake words error e → Explains words e
+mistake_explained words error (fault.Refused e) (inl memory) is = absurd (is.1 memory)
+mistake_explained words error (fault.Refused e) (inr among) is =
+    subst (λ (k : Error). IsAmong (kind_of k) (fault_of roundc_app words)) (sym is.0) among
+mistake_explained words error fault.Missing kinds is = absurd is
+mistake_explained words error fault.Source kinds is = absurd is
+mistake_explained words error fault.List kinds is = inr is
+mistake_explained words error fault.Delta kinds is = inr is
+mistake_explained words error fault.Gst kinds is = inr is
+mistake_explained words error fault.NoMemory kinds is = tt
 
 or_else_right : (a b : Kinds) → or_else a b ≡ [] → b ≡ []
 or_else_right [] b h = h

@@ -38,7 +38,6 @@ abbrev pub bare_app : App
 bare_app = let new = new_app (codes "roundc") in record new {
   top = record new.top {
     no_binary_name = true;
-    disable_help_subcommand = true;
     subcommand_required = true;
     has_version = true;
   };

@@ -1,8 +1,11 @@
 -- What the words of a command line say, by `clap`'s own definition of a simple command's matches.
-use Rattle.std.specs.Prelude.{◌≡◌, ◌≢◌, ◌≤◌, ◌⊎◌, ◌↔◌, ℕ, IsTrue, List, None, Some, codes, [], ⊤}
+use Rattle.std.specs.Prelude.{◌≡◌, ◌≢◌, ◌≤◌, ◌⊎◌, ◌↔◌, ◌∷◌, ◌&&◌, ◌||◌, ℕ, Bool, IsTrue, List, None, Some, codes, [], false, true, ⊤}
+use Rattle.std.specs.Str.{bytes_eq}
 use Rattle.clap.specs.Words.{Row, Text, first_of, subcommand_of, fault_of, IsAmong, kind_of}
+use Rattle.clap.specs.declared.error.Error.{Error}
+use Rattle.clap.specs.declared.error.kind.ErrorKind.TheVariants.{OutOfMemory}
 use Rattle.command_words.specs.Commands.{roundc_app}
-use Rattle.command_words.specs.Values.{IsNoList, ListText, NumberText, SourceText}
+use Rattle.command_words.specs.Values.{IsNoList, ListText, NumberText, SourceText, is_negative, max_delta}
 use Rattle.command_words.specs.declared.values.Source.{Source}
 use Rattle.command_words.specs.declared.words.Words.{Words}
 use Rattle.command_words.specs.declared.words.Words.TheVariants.{Check, Judge, Run}
@@ -21,7 +24,7 @@ GivesList rows list = (text : Text) × (first_of (codes "correct") rows ≡ Some
 
 -- the argument has a value, and it is the text of a number of 1 to 1,024
 abbrev pub GivesDelta : List Row → ℕ → Type 0
-GivesDelta rows n = (text : Text) × (first_of (codes "delta") rows ≡ Some text) × NumberText text n × (1 ≤ n) × (n ≤ 1024)
+GivesDelta rows n = (text : Text) × (first_of (codes "delta") rows ≡ Some text) × NumberText text n × (1 ≤ n) × (n ≤ max_delta)
 
 -- the argument has a value, and it is the text of the number
 abbrev pub GivesGst : List Row → ℕ → Type 0
@@ -68,7 +71,7 @@ FailsByList rows _ = ⊥
 abbrev pub FailsByDelta : List Row → WordsFault → Type 0
 FailsByDelta rows Missing = first_of (codes "delta") rows ≡ None
 FailsByDelta rows fault.Delta = (text : Text) × (first_of (codes "delta") rows ≡ Some text)
-    × ((n : ℕ) → NumberText text n → 1 ≤ n → ¬ (n ≤ 1024))
+    × ((n : ℕ) → NumberText text n → 1 ≤ n → ¬ (n ≤ max_delta))
 FailsByDelta rows _ = ⊥
 
 -- the fault of G: it has no value, or one that is the text of no number
@@ -98,9 +101,34 @@ abbrev pub HasBadValue : List Text → WordsFault → Type 0
 HasBadValue words fault = (fault_of roundc_app words ≡ []) × ((name : Text) × (rows : List Row)
     × (subcommand_of roundc_app words ≡ Some (name, rows)) × FailsByValue name rows fault)
 
+-- the word after the option is a number below 0, which `clap` takes for an option
+abbrev pub begins_negative : List Text → Bool
+begins_negative [] = false
+begins_negative (word ∷ rest) = is_negative word
+
+abbrev pub has_negative : Text → List Text → Bool
+has_negative option [] = false
+has_negative option (word ∷ rest) = (bytes_eq word option && begins_negative rest) || has_negative option rest
+
+-- a value isn't of its form, or is a number below 0
+abbrev pub HasBadNumber : Text → List Text → WordsFault → Type 0
+HasBadNumber option words fault = HasBadValue words fault ⊎ (has_negative option words ≡ true)
+
 -- why the words were refused: for one of the kinds of mistake that `clap` finds in them, or it
--- finds none, and a value is missing or isn't of its form
+-- finds none, and a value is missing or isn't of its form; or a number below 0 follows an option
 abbrev pub Explains : List Text → WordsFault → Type 0
 Explains words (Refused error) = IsAmong (kind_of error) (fault_of roundc_app words)
+Explains words fault.List = HasBadNumber (codes "--correct") words fault.List
+Explains words fault.Delta = HasBadNumber (codes "--delta") words fault.Delta
+Explains words fault.Gst = HasBadNumber (codes "--gst") words fault.Gst
 Explains words NoMemory = ⊤
 Explains words fault = HasBadValue words fault
+
+-- what the code makes of an error of `clap`
+abbrev pub IsMistake : List Text → Error → WordsFault → Type 0
+IsMistake words error (Refused e) = (e ≡ error) × (kind_of error ≢ OutOfMemory)
+IsMistake words error fault.List = has_negative (codes "--correct") words ≡ true
+IsMistake words error fault.Delta = has_negative (codes "--delta") words ≡ true
+IsMistake words error fault.Gst = has_negative (codes "--gst") words ≡ true
+IsMistake words error NoMemory = kind_of error ≡ OutOfMemory
+IsMistake words error _ = ⊥

@@ -1,6 +1,6 @@
 -- The texts of SOURCE, LIST and numbers, which `clap` passes on as they were written.
 use Rattle.std.specs.Prelude.{◌≡◌, ◌≢◌, ◌++◌, ◌∷◌, ◌==◌, ◌&&◌, ◌||◌, ◌<◌, ◌^◌, [], ℕ, Bool, IsTrue, List, false, min, ⊤}
-use Rattle.std.specs.Char.{is_ascii_alphabetic, is_ascii_alphanumeric}
+use Rattle.std.specs.Char.{is_ascii_alphabetic, is_ascii_alphanumeric, is_ascii_digit}
 use Rattle.std.specs.List.{list_all, slice_split}
 use Rattle.std.specs.Str.Parse.{IsNumeral, digits_value}
 use Rattle.clap.specs.Words.{Text}
@@ -46,6 +46,19 @@ pub record NumberText (text : Text) (n : ℕ) : Type 0 where
   pub digits : IsNumeral 10 text
   pub value : n ≡ digits_value 10 text
   pub small : n < 2 ^ 32
+
+-- the delay bound is at most this
+abbrev pub max_delta : ℕ
+max_delta = 1024
+
+-- `-` and then a digit
+abbrev pub begins_digit : Text → Bool
+begins_digit [] = false
+begins_digit (b ∷ rest) = is_ascii_digit b
+
+abbrev pub is_negative : Text → Bool
+is_negative [] = false
+is_negative (b ∷ rest) = (b == 45) && begins_digit rest
 
 abbrev pub is_comma : ℕ → Bool
 is_comma b = b == 44

@@ -100,7 +100,6 @@ pub(crate) fn roundc_command<'a>(alloc: Global) -> Result<Command<'a>, AllocErro
         .version("0.1.0")
         .about("Runs algorithms written in rounds, step by step")
         .no_binary_name(true)
-        .disable_help_subcommand(true)
         .subcommand_required(true)
         .subcommand(check_command(alloc)?)?
         .subcommand(run_command(alloc)?)?

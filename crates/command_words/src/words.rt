@@ -2,7 +2,8 @@
 ghost use Rattle.std.specs.Prelude.{◌≡◌, ◌≢◌, ◌⊎◌, ◌↔◌, [], IfErr, IfOk, IsTrue, OnErr, OnOk, codes, map};
 ghost use Rattle.clap.specs.Words.{fault_of, first_of, found_of, kind_of, rows_of};
 ghost use Rattle.command_words.specs.Commands.{roundc_app};
-ghost use Rattle.command_words.specs.Given.{Explains, FailsByDelta, FailsByGst, FailsByJudge, FailsByList, FailsBySource, FailsByValue, Gives, GivesDelta, GivesGst, GivesList, GivesSource, HasFlag, Means};
+ghost use Rattle.command_words.specs.Given.{Explains, FailsByDelta, FailsByGst, FailsByJudge, FailsByList, FailsBySource, FailsByValue, Gives, GivesDelta, GivesGst, GivesList, GivesSource, HasFlag, IsMistake, Means, begins_negative, has_negative};
+ghost use Rattle.command_words.specs.Values.{is_negative};
 ghost use Rattle.command_words.specs.declared.words.WordsFault.TheVariants.{NoMemory};
 
 use crate::commands::roundc_command;
@@ -46,11 +47,12 @@ pub enum WordsFault {
     Missing,
     /// A SOURCE that begins with `@` and doesn't go on as a name, `:` and digits.
     Source,
-    /// A LIST that isn't one or more numbers of 32 bits with commas between them.
+    /// A LIST that isn't one or more numbers of 32 bits with commas between them, also one that
+    /// begins with a number below 0.
     List,
-    /// A D that isn't a number of 1 to 1,024.
+    /// A D that isn't a number of 1 to 1,024, also one below 0.
     Delta,
-    /// A G that isn't a number of 32 bits.
+    /// A G that isn't a number of 32 bits, also one below 0.
     Gst,
     /// Memory ran out. Nothing is known of the words.
     NoMemory,
@@ -72,13 +74,47 @@ impl From<AllocError> for WordsFault {
     }
 }
 
-/// The program's own word for an error of `clap`.
-fn refusal(error: clap::Error) -> WordsFault
-    ensures { ((result ≡ WordsFault.NoMemory) × (kind_of error ≡ ErrorKind.OutOfMemory))
-        ⊎ ((result ≡ WordsFault.Refused error) × (kind_of error ≢ ErrorKind.OutOfMemory)) }
+/// Whether a word is a number below 0: `-` and then a digit.
+fn is_negative(word: &str) -> bool
+    ensures { result ≡ is_negative word.now }
+{
+    match word.as_bytes() {
+        [b'-', digit, ..] => digit.is_ascii_digit(),
+        _ => false,
+    }
+}
+
+/// Whether a number below 0 follows the option.
+fn has_negative(option: &str, words: &[&str]) -> bool
+    ensures { result ≡ has_negative option.now (map (λ s. s.now) words.now) }
+{
+    match words {
+        [] => false,
+        [word, rest @ ..] => {
+            (*word == option && begins_negative(rest)) || has_negative(option, rest)
+        }
+    }
+}
+
+fn begins_negative(words: &[&str]) -> bool
+    ensures { result ≡ begins_negative (map (λ s. s.now) words.now) }
+{
+    match words {
+        [] => false,
+        [word, ..] => is_negative(word),
+    }
+}
+
+/// The program's own word for an error of `clap`, which takes a number below 0 for an option.
+fn refusal(error: clap::Error, words: &[&str]) -> WordsFault
+    ensures { IsMistake (map (λ s. s.now) words.now) error result }
 {
     match error.kind() {
         ErrorKind::OutOfMemory => WordsFault::NoMemory,
+        ErrorKind::DisplayHelp | ErrorKind::DisplayVersion => WordsFault::Refused(error),
+        _ if has_negative("--correct", words) => WordsFault::List,
+        _ if has_negative("--delta", words) => WordsFault::Delta,
+        _ if has_negative("--gst", words) => WordsFault::Gst,
         _ => WordsFault::Refused(error),
     }
 }
@@ -182,7 +218,8 @@ fn command_of<'a>(
 ///
 /// A value that is missing, a repeated option, an unknown word, no word at all and a call for help
 /// or the version are `WordsFault::Refused`, with `clap`'s error. Where SOURCE has a fault too,
-/// `clap`'s goes first.
+/// `clap`'s goes first. Where `clap` refuses the words and an option of `judge` has a number below 0
+/// behind it, that is told.
 pub fn read_words<'a>(alloc: Global, words: &'a [&'a str]) -> Result<Words<'a>, WordsFault>
     // The command and its values are those of `clap`'s definition of a simple command's matches,
     // in which it finds no mistake.
@@ -193,7 +230,7 @@ pub fn read_words<'a>(alloc: Global, words: &'a [&'a str]) -> Result<Words<'a>, 
     let command = roundc_command(alloc)?;
     let matches = match command.try_get_matches_from(words) {
         Ok(matches) => matches,
-        Err(error) => return Err(refusal(error)),
+        Err(error) => return Err(refusal(error, words)),
     };
     match matches.subcommand() {
         Some((name, inner)) => command_of(alloc, name, inner),

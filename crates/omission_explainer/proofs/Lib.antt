@@ -4,6 +4,7 @@ pub mod Parts
 pub mod Outcomes
 pub mod Reports
 pub mod Moments
+pub mod Releases
 pub mod Delays
 pub mod Passes
 pub mod Slots

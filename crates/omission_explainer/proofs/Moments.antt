@@ -1,12 +1,12 @@
--- The moments of a history: their order, how many steps they have, and the first that passes a test.
-use Rattle.std.proofs.Common.{◌≡◌, ℕ, ◌+◌, ◌<◌, ◌≤◌, Bool, true, false, ◌&&◌, ◌==◌, List, [], ◌∷◌, ◌++◌, length, get_or, take, drop, reverse, Some, sym, subst, refl, ap, ◌∙◌, arith, ◌⊎◌, inl, inr}
-use Rattle.std.proofs.lemmas.Bool.{both_ways, cases_Bool, cases_lt, and_parts, and_from, eqb-true, eq-eqb}
+-- The moments of a history: their order, and how many steps they have.
+use Rattle.std.proofs.Common.{◌≡◌, ℕ, ◌+◌, ◌<◌, ◌≤◌, true, false, List, [], ◌∷◌, ◌++◌, length, get_or, take, drop, reverse, sym, subst, refl, ap, ◌∙◌, arith, ◌⊎◌, inl, inr}
+use Rattle.std.proofs.lemmas.Bool.{cases_Bool, cases_lt, eqb-true}
 use Rattle.std.proofs.lemmas.List.{length-reverse, length-take-le, reverse-append, take-append-drop, take_more}
 use Rattle.step_machine.specs.declared.event.Event.{Event}
-use Rattle.step_machine.specs.declared.event.Event.TheVariants.{Step, Release}
-use Rattle.step_journal.specs.Trace.{is_step, is_release, steps, first}
+use Rattle.step_machine.specs.declared.event.Event.TheVariants.{Step, Release, Drop, Copy}
+use Rattle.step_journal.specs.Trace.{is_step, steps}
 use Rattle.step_journal.proofs.Events.{pushed}
-use Rattle.step_journal.proofs.Moments.{At, Newest, Older, is_first}
+use Rattle.step_journal.proofs.Moments.{At, Newest, Older}
 use Rattle.step_journal.proofs.Places.{steps_at, steps_other, steps_grow}
 
 -- the steps up to an event are steps of the history
@@ -27,6 +27,8 @@ pub record StepAt (i x : ℕ) (t : List Event) : Type 0 where
 is_own : (i : ℕ) (e : Event) → is_step i e ≡ true → e ≡ Step i
 is_own i (Step k) h = ap Step (eqb-true k i h)
 is_own i (Release n) h = cc
+is_own i (Drop n) h = cc
+is_own i (Copy n) h = cc
 
 later_step : (i x : ℕ) (e : Event) (t : List Event) → StepAt i x t → StepAt i x (e ∷ t)
 later_step i x e t a = record { moment = a.moment; stands = Older e t a.stands; number = a.number }
@@ -43,31 +45,6 @@ pub step_at : (i x : ℕ) (t : List Event) → x < steps i t → StepAt i x t
 unfolding steps
 step_at i x [] l = absurd (omega arith)
 step_at i x (e ∷ t) l = step_at_by i x e t l (λ old. step_at i x t old) (cases_Bool (is_step i e)) (cases_lt x (steps i t))
-
--- the first that passes a test goes before each other that does
-pub first_least : (test : Event → List Event → Bool) (e : Event) (b m t : List Event) → first test t ≡ Some b → At m e t → test e m ≡ true → length b ≤ length m
-first_least test e b m t h s k = by (cases_lt (length m) (length b))
-  where
-    by : (length m < length b) ⊎ (length b ≤ length m) → length b ≤ length m
-    by (inl early) = absurd (both_ways (test e m) ((is_first test b t h).none e m s early) k)
-    by (inr late) = late
-
--- ---- releases
-
-pub released_it : (j i r : ℕ) (e : Event) → is_release j i r e ≡ true → e ≡ Release (record { from = j; to = i; round = r })
-released_it j i r (Step k) h = cc
-released_it j i r (Release n) h =
-    let outer : ((n.from == j && n.to == i) ≡ true) × ((n.round == r) ≡ true) = and_parts _ _ h in
-    let inner : ((n.from == j) ≡ true) × ((n.to == i) ≡ true) = and_parts _ _ outer.0 in
-    let from : n.from ≡ j = eqb-true _ _ inner.0 in
-    let to : n.to ≡ i = eqb-true _ _ inner.1 in
-    let round : n.round ≡ r = eqb-true _ _ outer.1 in
-    ap (λ x. Release (record { from = x; to = n.to; round = n.round })) from
-    ∙ ap (λ x. Release (record { from = j; to = x; round = n.round })) to
-    ∙ ap (λ x. Release (record { from = j; to = i; round = x })) round
-
-pub is_released : (j i r : ℕ) → is_release j i r (Release (record { from = j; to = i; round = r })) ≡ true
-is_released j i r = and_from _ _ (and_from _ _ (eq-eqb j j refl) (eq-eqb i i refl)) (eq-eqb r r refl)
 
 -- ---- a trace, read from its front
 

@@ -1,19 +1,20 @@
 -- One pass over a trace: the step counts of the correct nodes, and what they tell of each event.
-use Rattle.std.proofs.Common.{◌≡◌, ◌≢◌, ℕ, suc, ◌+◌, ◌<◌, ◌≤◌, ◌↔◌, Bool, true, false, max, List, [], ◌∷◌, length, get_or, set, replicate, sym, subst, refl, ap, ◌∙◌, arith, ◌⊎◌, inl, inr}
-use Rattle.std.specs.Prelude.{is_some}
+use Rattle.std.proofs.Common.{◌≡◌, ◌≢◌, ℕ, ◌+◌, ◌<◌, ◌≤◌, ◌↔◌, Bool, true, false, max, List, [], ◌∷◌, length, get_or, set, replicate, sym, subst, refl, ap, ◌∙◌, arith, ◌⊎◌, inl, inr}
+use Rattle.std.specs.Prelude.{is_some, reverse}
 use Rattle.std.proofs.lemmas.Bool.{both_ways, cases_eq, cases_lt, eq-eqb, ne_eqb}
 use Rattle.std.proofs.lemmas.List.{get_or-replicate, get_or_past, length-replicate, get_or-set_same, get_or-set_other, length-set}
 use Rattle.round_lang.specs.Sets.{is_in}
 use Rattle.step_machine.specs.declared.event.Event.{Event}
 use Rattle.step_machine.specs.declared.event.Event.TheVariants.{Step}
-use Rattle.step_journal.specs.History.{mark_of, message}
+use Rattle.step_machine.specs.declared.event.Name.{Name}
+use Rattle.step_journal.specs.History.{message}
 use Rattle.step_journal.specs.Trace.{is_step, steps}
 use Rattle.step_journal.specs.World.{World, IsPlan, is_receive, nodes_of}
 use Rattle.step_journal.proofs.Moments.{At, Newest, Older}
 use Rattle.step_journal.proofs.Places.{steps_at, steps_other, steps_le}
-use Rattle.omission_explainer.specs.Lateness.{HasReceive, KeepsBound, KeepsPace, open_until}
-use Rattle.omission_explainer.specs.Verdict.{AreNodes}
-use Rattle.omission_explainer.proofs.Delays.{ReleasedBetween, in_time, not_late}
+use Rattle.omission_explainer.specs.Lateness.{HasReceive, IsOwnSlot, KeepsBound, KeepsPace, marks_of, open_until}
+use Rattle.omission_explainer.specs.Verdict.{AreNodes, IsLetInBetween}
+use Rattle.omission_explainer.proofs.Delays.{in_time, not_late}
 use Rattle.omission_explainer.proofs.Moments.{newest_or_older}
 
 -- the counts of the correct nodes are their steps so far
@@ -90,66 +91,103 @@ lockstep_step correct k p counts here a = (
 
 -- ---- the bound
 
--- node j's step at the moment a is its slot to node i in round q + 1, and it has a message for it
-pub record SpokenAt (w : World) (t : List Event) (j i q : ℕ) (a : List Event) : Type 0 where
-  pub of_round : q < w.rounds
-  pub slot : steps j a ≡ w.start (suc q) + i
-  pub spoken : is_some (message w t q j i) ≡ true
+-- the step at the moment a is the slot of a message, which makes its copy 0
+pub record SpokenAt (w : World) (t : List Event) (n : Name) (a : List Event) : Type 0 where
+  pub first : 0 < n.round
+  pub last : n.round ≤ w.rounds
+  pub copy : n.copy ≡ 0
+  pub slot : steps n.from a ≡ w.start n.round + n.to
+  pub spoken : is_some (message w t n) ≡ true
 
 -- the delay bound for what was sent up to a moment
 abbrev pub IsBoundTo : World → List Event → ℕ → ℕ → ℕ → List Event → Type 0
 IsBoundTo w t correct delta gst p =
-    (j i q : ℕ) (a c : List Event)
-    → is_in correct j ≡ true → is_in correct i ≡ true
-    → At a (Step j) p → SpokenAt w t j i q a → gst ≤ steps j a
-    → At c (Step i) t → is_receive w (steps i c) ≡ true → steps j a + delta ≤ steps i c → length a < length c
-    → ReleasedBetween t j i (suc q) a c
+    (n : Name) (a c : List Event)
+    → is_in correct n.from ≡ true → is_in correct n.to ≡ true
+    → At a (Step n.from) p → SpokenAt w t n a → gst ≤ steps n.from a
+    → At c (Step n.to) t → is_receive w (steps n.to c) ≡ true → steps n.from a + delta ≤ steps n.to c → length a < length c
+    → IsLetInBetween w (reverse t) n (length a) (length c)
 
 pub bound_none : (w : World) (t : List Event) (correct delta gst : ℕ) → IsBoundTo w t correct delta gst []
-bound_none w t correct delta gst j i q a c x y s = elim s [ ]
+bound_none w t correct delta gst n a c x y s = elim s [ ]
+
+-- the delay bound for what was sent at one moment
+abbrev pub IsBoundAt : World → List Event → ℕ → ℕ → ℕ → ℕ → List Event → Type 0
+IsBoundAt w t correct delta gst k a =
+    (n : Name) (c : List Event)
+    → n.from ≡ k → is_in correct n.to ≡ true → SpokenAt w t n a → gst ≤ steps k a
+    → At c (Step n.to) t → is_receive w (steps n.to c) ≡ true → steps k a + delta ≤ steps n.to c → length a < length c
+    → IsLetInBetween w (reverse t) n (length a) (length c)
 
 pub bound_other : (w : World) (t : List Event) (correct delta gst : ℕ) (p : List Event) (e : Event) → IsOther correct e → IsBoundTo w t correct delta gst p ↔ IsBoundTo w t correct delta gst (e ∷ p)
 bound_other w t correct delta gst p e other = (
-  λ h j i q a c x y s. by h j i q a c x y (newest_or_older (Step j) e a p s),
-  λ h j i q a c x y s. h j i q a c x y (Older e p s),
+  λ h n a c x y s. by h n a c x y (newest_or_older (Step n.from) e a p s),
+  λ h n a c x y s. h n a c x y (Older e p s),
 )
   where
-    by : IsBoundTo w t correct delta gst p → (j i q : ℕ) (a c : List Event) → is_in correct j ≡ true → is_in correct i ≡ true → ((Step j ≡ e) × (a ≡ p)) ⊎ At a (Step j) p → SpokenAt w t j i q a → gst ≤ steps j a → At c (Step i) t → is_receive w (steps i c) ≡ true → steps j a + delta ≤ steps i c → length a < length c → ReleasedBetween t j i (suc q) a c
-    by h j i q a c x y (inl (own, now)) = let on : is_step j e ≡ true = ap (is_step j) (sym own) ∙ eq-eqb j j refl in let off = other j x in absurd cc
-    by h j i q a c x y (inr s) = h j i q a c x y s
+    by : IsBoundTo w t correct delta gst p → (n : Name) (a c : List Event) → is_in correct n.from ≡ true → is_in correct n.to ≡ true → ((Step n.from ≡ e) × (a ≡ p)) ⊎ At a (Step n.from) p → SpokenAt w t n a → gst ≤ steps n.from a → At c (Step n.to) t → is_receive w (steps n.to c) ≡ true → steps n.from a + delta ≤ steps n.to c → length a < length c → IsLetInBetween w (reverse t) n (length a) (length c)
+    by h n a c x y (inl (own, now)) =
+        let on : is_step n.from e ≡ true = ap (is_step n.from) (sym own) ∙ eq-eqb n.from n.from refl in
+        let off = other n.from x in
+        absurd cc
+    by h n a c x y (inr s) = h n a c x y s
 
 module _ (w : World) (t : List Event) (correct delta gst k : ℕ) (p : List Event) (counts : List ℕ) (plan : IsPlan w) (within : AreNodes (nodes_of w) correct) (here : is_in correct k ≡ true) (stands : At p (Step k) t) (a : Tallied correct p counts) where
-  -- the next step of node k keeps the bound
-  keeps_of : IsBoundTo w t correct delta gst (Step k ∷ p) → KeepsBound w t correct delta gst counts k
-  keeps_of h i q y of_round slot late has =
-      let n = a.counted k here in
-      let m = a.counted i y in
-      let at : steps k p ≡ w.start (suc q) + i = omega arith in
-      not_late w t p k i q plan (within i y) of_round at stands delta
-      (λ c spoken s r d l. h k i q p c here y Newest (record { of_round = of_round; slot = at; spoken = spoken }) (omega arith) s r d l)
-      (subst (λ z. HasReceive w (max (z + delta) (steps i p)) (open_until (steps i t) (mark_of w t k i q))) n
-      (subst (λ z. HasReceive w (max (get_or counts k 0 + delta) z) (open_until (steps i t) (mark_of w t k i q))) m has))
+  stands_own : (n : Name) → n.from ≡ k → At p (Step n.from) t
+  stands_own n own = subst (λ x. At p (Step x) t) (sym own) stands
 
-  bound_of : KeepsBound w t correct delta gst counts k → (i q : ℕ) (c : List Event) → is_in correct i ≡ true → SpokenAt w t k i q p → gst ≤ steps k p → At c (Step i) t → is_receive w (steps i c) ≡ true → steps k p + delta ≤ steps i c → length p < length c → ReleasedBetween t k i (suc q) p c
-  bound_of h i q c y spoken late s r d l =
-      let n = a.counted k here in
-      let m = a.counted i y in
-      in_time w t p k i q plan (within i y) spoken.of_round spoken.slot stands delta c spoken.spoken s r d l
-      (λ has. h i q y spoken.of_round (n ∙ spoken.slot) (omega arith)
-      (subst (λ z. HasReceive w (max (z + delta) (get_or counts i 0)) (open_until (steps i t) (mark_of w t k i q))) (sym n)
-      (subst (λ z. HasReceive w (max (steps k p + delta) z) (open_until (steps i t) (mark_of w t k i q))) (sym m) has)))
+  -- the next step of node k keeps the bound
+  keeps_of : IsBoundAt w t correct delta gst k p → KeepsBound w t correct delta gst counts k
+  keeps_of h n own y late has =
+      let slot = own.slot in
+      let count : get_or counts k 0 ≡ steps k p = a.counted k here in
+      let other : get_or counts n.to 0 ≡ steps n.to p = a.counted n.to y in
+      let same : steps n.from p ≡ steps k p = ap (λ x. steps x p) own.from in
+      let at : steps n.from p ≡ w.start n.round + n.to = omega arith in
+      let whole : max (get_or counts k 0 + delta) (get_or counts n.to 0) ≡ max (steps n.from p + delta) (steps n.to p) =
+      ap (λ z. max (z + delta) (get_or counts n.to 0)) (count ∙ sym same) ∙ ap (max (steps n.from p + delta)) other in
+      not_late w t p n plan own.to own.first own.last at (stands_own n own.from) delta
+      (λ c spoken s r d l. h n c own.from y (record { first = own.first; last = own.last; copy = own.copy; slot = at; spoken = spoken }) (omega arith) s r (omega arith) l)
+      (subst (λ z. HasReceive w z (open_until (steps n.to t) (marks_of w t n))) whole has)
+
+  bound_of : KeepsBound w t correct delta gst counts k → IsBoundAt w t correct delta gst k p
+  bound_of h n c own y spoken late s r d l =
+      let slot = spoken.slot in
+      let count : get_or counts k 0 ≡ steps k p = a.counted k here in
+      let other : get_or counts n.to 0 ≡ steps n.to p = a.counted n.to y in
+      let same : steps n.from p ≡ steps k p = ap (λ x. steps x p) own in
+      let whole : max (get_or counts k 0 + delta) (get_or counts n.to 0) ≡ max (steps n.from p + delta) (steps n.to p) =
+      ap (λ z. max (z + delta) (get_or counts n.to 0)) (count ∙ sym same) ∙ ap (max (steps n.from p + delta)) other in
+      let is_own : IsOwnSlot w k (get_or counts k 0) n = record {
+        from = own;
+        to = within n.to y;
+        first = spoken.first;
+        last = spoken.last;
+        copy = spoken.copy;
+        slot = omega arith;
+      } in
+      in_time w t p n plan (within n.to y) spoken.first spoken.last spoken.slot (stands_own n own) delta c spoken.spoken s r (omega arith) l
+      (λ has. h n is_own y (omega arith) (subst (λ z. HasReceive w z (open_until (steps n.to t) (marks_of w t n))) (sym whole) has))
 
   pub bound_step : (IsBoundTo w t correct delta gst p × KeepsBound w t correct delta gst counts k) ↔ IsBoundTo w t correct delta gst (Step k ∷ p)
   bound_step = (
-    λ h j i q b c x y s. by h j i q b c x y (newest_or_older (Step j) (Step k) b p s),
-    λ h. (λ j i q b c x y s. h j i q b c x y (Older (Step k) p s), keeps_of h),
+    λ h n b c x y s. by h n b c x y (newest_or_older (Step n.from) (Step k) b p s),
+    λ h. (λ n b c x y s. h n b c x y (Older (Step k) p s), keeps_of (at_step h)),
   )
     where
-      by : (IsBoundTo w t correct delta gst p × KeepsBound w t correct delta gst counts k) → (j i q : ℕ) (b c : List Event) → is_in correct j ≡ true → is_in correct i ≡ true → ((Step j ≡ Step k) × (b ≡ p)) ⊎ At b (Step j) p → SpokenAt w t j i q b → gst ≤ steps j b → At c (Step i) t → is_receive w (steps i c) ≡ true → steps j b + delta ≤ steps i c → length b < length c → ReleasedBetween t j i (suc q) b c
-      by h j i q b c x y (inl (own, now)) =
-          let node : j ≡ k = cc in
-          rw (node, now) (bound_of h.1 i q c y)
-      by h j i q b c x y (inr s) = h.0 j i q b c x y s
+      by : (IsBoundTo w t correct delta gst p × KeepsBound w t correct delta gst counts k) → (n : Name) (b c : List Event) → is_in correct n.from ≡ true → is_in correct n.to ≡ true → ((Step n.from ≡ Step k) × (b ≡ p)) ⊎ At b (Step n.from) p → SpokenAt w t n b → gst ≤ steps n.from b → At c (Step n.to) t → is_receive w (steps n.to c) ≡ true → steps n.from b + delta ≤ steps n.to c → length b < length c → IsLetInBetween w (reverse t) n (length b) (length c)
+      by h n b c x y (inl (own, now)) =
+          let node : n.from ≡ k = cc in
+          subst
+          (λ z. SpokenAt w t n z → gst ≤ steps n.from z → At c (Step n.to) t → is_receive w (steps n.to c) ≡ true → steps n.from z + delta ≤ steps n.to c → length z < length c → IsLetInBetween w (reverse t) n (length z) (length c))
+          (sym now)
+          (subst (λ i. SpokenAt w t n p → gst ≤ steps i p → At c (Step n.to) t → is_receive w (steps n.to c) ≡ true → steps i p + delta ≤ steps n.to c → length p < length c → IsLetInBetween w (reverse t) n (length p) (length c)) (sym node) (bound_of h.1 n c node y))
+      by h n b c x y (inr s) = h.0 n b c x y s
+
+      at_step : IsBoundTo w t correct delta gst (Step k ∷ p) → IsBoundAt w t correct delta gst k p
+      at_step h n c own y spoken late =
+          subst (λ i. At c (Step n.to) t → is_receive w (steps n.to c) ≡ true → steps i p + delta ≤ steps n.to c → length p < length c → IsLetInBetween w (reverse t) n (length p) (length c)) own
+          (h n p c (ap (is_in correct) own ∙ here) y (subst (λ i. At p (Step i) (Step k ∷ p)) (sym own) Newest) spoken (subst (λ i. gst ≤ steps i p) (sym own) late))
 
 -- ---- a pass
 

@@ -2,17 +2,18 @@
 use Rattle.std.proofs.Common.{◌≡◌, ℕ, zero, suc, ◌+◌, ◌-◌, ◌==◌, ◌<◌, ◌≤◌, Bool, true, false, cond, not, ◌&&◌, List, [], ◌∷◌, ◌++◌, map, Option, None, Some, refl, sym, ap, subst, ◌∙◌, if◌then◌else◌, arith, ◌⊎◌, inl, inr}
 use Rattle.std.specs.Prelude.{All, is_some, nat_lt, filter}
 use Rattle.std.specs.List.{flat_map, range_with_len}
-use Rattle.std.proofs.lemmas.Bool.{and_parts, and_from, both_ways, cases_lt, eq-eqb, eqb-true}
+use Rattle.std.proofs.lemmas.Bool.{and_parts, and_from, both_ways, cases_lt, eq-eqb, eqb-true, ltb-true}
 use Rattle.std.proofs.lemmas.Bool.Decides.{nat_tests}
 use Rattle.std.proofs.lemmas.List.Elements.{All-head, All-tail, All-weaker}
 use Rattle.round_lang.specs.Sets.{is_in}
 use Rattle.round_lang.specs.declared.value.Value.{Value}
 use Rattle.round_meaning.specs.Rounds.{inbox, received, rounds}
-use Rattle.step_journal.specs.History.{message, state}
+use Rattle.step_journal.specs.Fates.{carried}
+use Rattle.step_journal.specs.History.{state}
 use Rattle.step_journal.specs.Log.{Log, IsFaithful, count_of, history, round_of, world_of}
-use Rattle.step_journal.specs.Trace.{carried, sent}
+use Rattle.step_journal.specs.Trace.{steps}
 use Rattle.step_journal.specs.World.{IsPlan, nodes_of}
-use Rattle.step_journal.proofs.Carried.{SentBy, NotYet, Once, carried_sent, sent_by}
+use Rattle.step_journal.proofs.Fates.{carried_sent}
 use Rattle.step_journal.proofs.Kept.{end_same}
 use Rattle.step_journal.proofs.Plans.{start_le}
 use Rattle.step_journal.proofs.Reading.{nodes_are}
@@ -134,12 +135,8 @@ module _ {start : ℕ → ℕ} {v : Log} (plan : IsPlan (world_of start v)) (fai
           let up = start_le (world_of start v) plan (round_of v j + 1) (suc q) (omega arith) (omega arith) in
           absurd (omega arith)
 
-  stood_closed : (j i q : ℕ) → j < v.setup.nodes → q < v.setup.rounds → is_some (sent (world_of start v) (history v) j i (suc q)) ≡ true → q < round_of v j
-  stood_closed j i q node few stood = by (sent_by (world_of start v) j i (suc q) (history v))
-    where
-      by : SentBy (world_of start v) j i (suc q) (history v) → q < round_of v j
-      by (NotYet f l) = let off : is_some (sent (world_of start v) (history v) j i (suc q)) ≡ false = ap is_some f in absurd (both_ways _ off stood)
-      by (Once a f l) = slot_closed j i q node few l
+  stood_closed : (j i q : ℕ) → j < v.setup.nodes → q < v.setup.rounds → nat_lt (start (suc q) + i) (count_of v j) ≡ true → q < round_of v j
+  stood_closed j i q node few stood = slot_closed j i q node few (ltb-true _ _ stood)
 
   -- the run under the printed omissions is the recorded one, in each closed round
   pub same_run : v.setup.nodes ≤ 64 → (rows : List ClosedRound) → ((r i : ℕ) → 0 < r → i < v.setup.nodes → r < round_of v i → printed_omitted rows i r ≡ omitted_in start v r i) → (r i : ℕ) → i < v.setup.nodes → r < round_of v i → rounds (world_of start v).algorithm (printed_omits rows) r i ≡ state (world_of start v) (history v) r i
@@ -161,14 +158,14 @@ module _ {start : ℕ → ℕ} {v : Log} (plan : IsPlan (world_of start v)) (fai
       let ours : j < v.setup.nodes = omega arith in
       let below : nat_lt j v.setup.nodes ≡ true = grind (arith, nat_tests) in
       let e : suc q - 1 ≡ q = omega arith in
-      let test : printed_omits rows i (suc q) j ≡ is_omitted (carried w t i (suc q)) (λ k. is_some (message w t q k i)) (λ k. is_some (sent w t k i (suc q))) j =
+      let test : printed_omits rows i (suc q) j ≡ is_omitted (carried w t i (suc q)) (λ k. is_some (w.algorithm.send (suc q) (state w t q k) k i)) (λ k. nat_lt (start (suc q) + i) (steps k t)) j =
       ap (λ s. is_in s j) set
       ∙ is_in-set_of v.setup.nodes (is_omitted (carried_in start v (suc q) i) (sends_in start v (suc q) i) (stands_in start v (suc q) i)) j
       ∙ ap (λ b. b && is_omitted (carried_in start v (suc q) i) (sends_in start v (suc q) i) (stands_in start v (suc q) i) j) below
-      ∙ ap (λ x. is_omitted (carried_in start v (suc q) i) (λ k. is_some (message w t x k i)) (stands_in start v (suc q) i) j) e in
+      ∙ ap (λ x. is_omitted (carried_in start v (suc q) i) (λ k. is_some (w.algorithm.send (suc q) (state w t x k) k i)) (stands_in start v (suc q) i) j) e in
       let again = λ (past : q < round_of v j). ap (λ s. w.algorithm.send (suc q) s j i) (same_run small rows printed q j ours past) in
       ap (λ b. cond b None (received j (w.algorithm.send (suc q) (rounds w.algorithm (printed_omits rows) q j) j i))) test
-      ∙ entry_same j (carried w t i (suc q) j) (is_some (sent w t j i (suc q))) _ (message w t q j i)
+      ∙ entry_same j (carried w t i (suc q) j) (nat_lt (start (suc q) + i) (steps j t)) _ (w.algorithm.send (suc q) (state w t q j) j i)
       (λ c. again (slot_closed j i q ours (omega arith) (carried_sent w t i (suc q) j c)))
       (λ s. again (stood_closed j i q ours (omega arith) s))))
       me

@@ -107,7 +107,7 @@ module _ (start receives : ℕ → ℕ) (nodes : ℕ) (v : Log) (laws : PlanLaws
       let n = nodes_are start v in
       no_slot_there (world_of start v) run_plan r x z.0 (omega arith) slot.before_end
 
-  pub slot_is : (r j to x : ℕ) → IsSendSlot nodes start x r to → x < start (v.setup.rounds + 1) → IsOwnSlot (world_of start v) j x (record { from = j; to = to; round = r })
+  pub slot_is : (r j to x : ℕ) → IsSendSlot nodes start x r to → x < start (v.setup.rounds + 1) → IsOwnSlot (world_of start v) j x (record { from = j; to = to; round = r; copy = 0 })
   slot_is r j to x slot within =
       let z = slot.of_round in
       let at = slot.place in
@@ -118,5 +118,6 @@ module _ (start receives : ℕ → ℕ) (nodes : ℕ) (v : Log) (laws : PlanLaws
         to = omega arith;
         first = z.0;
         last = round_within (world_of start v) run_plan r x (omega arith) within;
+        copy = refl;
         slot = at;
       }

@@ -1,20 +1,41 @@
 -- The delay bound in the receiver's own steps, as one pass over a trace can tell it.
-use Rattle.std.specs.Prelude.{◌≡◌, ◌≢◌, ℕ, suc, ◌+◌, ◌<◌, ◌≤◌, true, List, max, slice_index}
+use Rattle.std.specs.Prelude.{◌≡◌, ◌≢◌, ℕ, suc, ◌+◌, ◌<◌, ◌≤◌, Bool, true, false, List, if◌then◌else◌, max, min, slice_index}
 use Rattle.round_lang.specs.Sets.{is_in}
 use Rattle.step_journal.specs.declared.mark.Mark.{Mark}
-use Rattle.step_journal.specs.declared.mark.Mark.TheVariants.{Unsent, Silent, Flying, Released}
+use Rattle.step_journal.specs.declared.mark.Mark.TheVariants.{Unsent, Silent, Flying, Released, Lost}
 use Rattle.step_journal.specs.History.{mark_of}
 use Rattle.step_journal.specs.Trace.{steps}
 use Rattle.step_journal.specs.World.{World, is_receive, nodes_of}
 use Rattle.step_machine.specs.declared.event.Event.{Event}
 use Rattle.step_machine.specs.declared.event.Name.{Name}
 
--- the step number below which a receiver that has taken `count` steps lacked a message: that of its release, or the next one; it lacks nothing of silence
-abbrev pub open_until : ℕ → Mark → ℕ
-open_until count Unsent = 0
-open_until count Silent = 0
-open_until count Flying = count
-open_until count (Released x) = x
+-- the step number below which a receiver that has taken `count` steps lacked a copy: that of its release, or the next one
+abbrev pub copy_open_until : ℕ → Mark → ℕ
+copy_open_until count Unsent = count
+copy_open_until count Silent = count
+copy_open_until count Flying = count
+copy_open_until count (Released x) = x
+copy_open_until count Lost = count
+
+-- copy 0 was made of a message
+abbrev pub is_spoken : Mark → Bool
+is_spoken Unsent = false
+is_spoken Silent = false
+is_spoken Flying = true
+is_spoken (Released x) = true
+is_spoken Lost = true
+
+-- the least of a message's copies
+abbrev pub least_copy : (ℕ → ℕ) → ℕ
+least_copy f = min (min (min (f 0) (f 1)) (f 2)) (f 3)
+
+-- the marks of a message's copies
+abbrev pub marks_of : World → List Event → Name → ℕ → Mark
+marks_of w t n k = mark_of w t (record n { copy = k })
+
+-- the step number below which a receiver that has taken `count` steps lacked each copy of a message; it lacks nothing of silence
+abbrev pub open_until : ℕ → (ℕ → Mark) → ℕ
+open_until count marks = if is_spoken (marks 0) then least_copy (λ k. copy_open_until count (marks k)) else 0
 
 -- one of the step numbers from low on and below high is a receive
 pub record HasReceive (w : World) (low high : ℕ) : Type 0 where
@@ -22,12 +43,6 @@ pub record HasReceive (w : World) (low high : ℕ) : Type 0 where
   pub after : low ≤ step
   pub before : step < high
   pub receive : is_receive w step ≡ true
-
--- where node j takes its next step after so many steps of each correct node, no message that it sends there is too late for a receive
-abbrev pub KeepsBound : World → List Event → ℕ → ℕ → ℕ → List ℕ → ℕ → Type 0
-KeepsBound w t correct delta gst counts j =
-    (i q : ℕ) → is_in correct i ≡ true → q < w.rounds → slice_index counts j ≡ w.start (suc q) + i → gst ≤ slice_index counts j
-    → ¬ HasReceive w (max (slice_index counts j + delta) (slice_index counts i)) (open_until (steps i t) (mark_of w t j i q))
 
 -- where node j takes its next step after so many steps of each correct node, each of them has taken as many
 abbrev pub KeepsPace : ℕ → List ℕ → ℕ → Type 0
@@ -37,10 +52,17 @@ KeepsPace correct counts i = (j : ℕ) → is_in correct j ≡ true → slice_in
 abbrev pub IsNoOwnSlot : World → ℕ → Type 0
 IsNoOwnSlot w count = (i q : ℕ) → i < nodes_of w → q < w.rounds → count ≢ w.start (suc q) + i
 
--- it is node j's slot of this message
+-- it is node j's slot of this message, which makes its copy 0
 pub record IsOwnSlot (w : World) (j count : ℕ) (n : Name) : Type 0 where
   pub from : n.from ≡ j
   pub to : n.to < nodes_of w
   pub first : 0 < n.round
   pub last : n.round ≤ w.rounds
+  pub copy : n.copy ≡ 0
   pub slot : count ≡ w.start n.round + n.to
+
+-- where node j takes its next step after so many steps of each correct node, no message that it sends there is too late for a receive
+abbrev pub KeepsBound : World → List Event → ℕ → ℕ → ℕ → List ℕ → ℕ → Type 0
+KeepsBound w t correct delta gst counts j =
+    (n : Name) → IsOwnSlot w j (slice_index counts j) n → is_in correct n.to ≡ true → gst ≤ slice_index counts j
+    → ¬ HasReceive w (max (slice_index counts j + delta) (slice_index counts n.to)) (open_until (steps n.to t) (marks_of w t n))

@@ -1,27 +1,28 @@
 -- What the rows of a record are to show.
-use Rattle.std.specs.Prelude.{◌≡◌, ℕ, ◌-◌, ◌<◌, Bool, List, filter, is_some, map, nat_lt}
+use Rattle.std.specs.Prelude.{◌≡◌, ℕ, ◌+◌, ◌-◌, ◌<◌, Bool, List, filter, is_some, map, nat_lt}
 use Rattle.std.specs.List.{flat_map, range_with_len}
 use Rattle.round_check.specs.Types.{kind_type}
 use Rattle.round_lang.specs.declared.expr.Ty.{Ty}
 use Rattle.round_lang.specs.Syntax.{ProgramTree}
 use Rattle.round_meaning.specs.Turn.{decision}
+use Rattle.step_journal.specs.Fates.{carried}
 use Rattle.step_journal.specs.History.{message, state}
 use Rattle.step_journal.specs.Log.{Log, count_of, history, round_of, world_of}
-use Rattle.step_journal.specs.Trace.{carried, sent}
+use Rattle.step_journal.specs.Work.{sent_name}
 use Rattle.omission_explainer.specs.Printed.{IsPrinted, heard_set, silent_set, omitted_set}
 use Rattle.omission_explainer.specs.Rows.{ClosedRound}
 
--- the message of a round from node j to node i was carried
+-- a copy of the message of a round from node j to node i was carried
 abbrev pub carried_in : (ℕ → ℕ) → Log → ℕ → ℕ → ℕ → Bool
 carried_in start v r i j = carried (world_of start v) (history v) i r j
 
 -- node j had a message for node i in a round
 abbrev pub sends_in : (ℕ → ℕ) → Log → ℕ → ℕ → ℕ → Bool
-sends_in start v r i j = is_some (message (world_of start v) (history v) (r - 1) j i)
+sends_in start v r i j = is_some (message (world_of start v) (history v) (sent_name j i r))
 
--- node j took its slot for node i in a round
+-- node j's slot to node i in a round stands in the trace: it took more steps than come before that one
 abbrev pub stands_in : (ℕ → ℕ) → Log → ℕ → ℕ → ℕ → Bool
-stands_in start v r i j = is_some (sent (world_of start v) (history v) j i r)
+stands_in start v r i j = nat_lt (start r + i) (count_of v j)
 
 -- the three sets of a round of node i
 abbrev pub heard_in : (ℕ → ℕ) → Log → ℕ → ℕ → ℕ

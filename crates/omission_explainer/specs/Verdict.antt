@@ -3,11 +3,13 @@ use Rattle.std.specs.Prelude.{◌≡◌, ℕ, ◌+◌, ◌<◌, ◌≤◌, ◌++
 use Rattle.std.specs.Fmt.{decimal}
 use Rattle.round_lang.specs.Sets.{is_in}
 use Rattle.step_journal.specs.Agreed.{message_in}
-use Rattle.step_journal.specs.Log.{IsName, Log, round_of, world_of}
-use Rattle.step_journal.specs.Places.{IsReleaseAt, IsStepAt, steps_before}
-use Rattle.step_journal.specs.World.{is_receive}
+use Rattle.step_journal.specs.Log.{Log, round_of, world_of}
+use Rattle.step_journal.specs.Names.{IsName}
+use Rattle.step_journal.specs.Places.{IsFirstAfter, IsLeftAt, IsMadeAt, IsReleaseAt, IsStepAt, steps_before}
+use Rattle.step_journal.specs.World.{World, is_receive}
 use Rattle.step_machine.specs.declared.event.Event.{Event}
 use Rattle.step_machine.specs.declared.event.Name.{Name}
+use Rattle.step_machine.specs.Frames.{max_copy}
 use Rattle.omission_explainer.specs.declared.judging.Verdict.{Verdict}
 use Rattle.omission_explainer.specs.Reported.{omitted_in}
 
@@ -20,22 +22,39 @@ abbrev pub IsLockstep : List Event → ℕ → Type 0
 IsLockstep trace correct =
     (i j c place : ℕ) → is_in correct i ≡ true → is_in correct j ≡ true → IsStepAt trace i c place → c ≤ steps_before trace j place
 
--- the message of this name is sent at a place, by its sender's step number s; silence is none
+-- the message of this name is sent at a place, by its sender's step number s, which makes copy 0; silence is none
 pub record IsSentAt (start : ℕ → ℕ) (v : Log) (n : Name) (s place : ℕ) : Type 0 where
   pub name : IsName v.setup n
+  pub copy : n.copy ≡ 0
   pub slot : s ≡ start n.round + n.to
   pub there : IsStepAt v.trace n.from s place
   pub message : IsSome (message_in start v n)
 
--- each message that a correct node sends to another by its step number gst or a later one is released before each receive of the other
--- that comes after that send and has a step number greater by delta or more
+-- the copy is made at some place, and its first release or drop after that is the release at place b
+pub record IsLetInAt (w : World) (trace : List Event) (n : Name) (b : ℕ) : Type 0 where
+  pub place : ℕ
+  pub made : IsMadeAt w trace n place
+  pub leaves : IsFirstAfter (IsLeftAt trace n) place b
+  pub release : IsReleaseAt trace n b
+
+-- one of the message's copies is let in between two places
+pub record IsLetInBetween (w : World) (trace : List Event) (n : Name) (a c : ℕ) : Type 0 where
+  pub copy : ℕ
+  pub few : copy ≤ max_copy
+  pub place : ℕ
+  pub let_in : IsLetInAt w trace (record n { copy = copy }) place
+  pub after : a < place
+  pub before : place < c
+
+-- of each message that a correct node sends to another by its step number gst or a later one, some copy is let in before each receive
+-- of the other that comes after that send and has a step number greater by delta or more
 abbrev pub IsDelayBound : (ℕ → ℕ) → Log → ℕ → ℕ → ℕ → Type 0
 IsDelayBound start v correct delta gst =
     (n : Name) (s a received c : ℕ)
     → is_in correct n.from ≡ true → is_in correct n.to ≡ true
     → IsSentAt start v n s a → gst ≤ s
     → IsStepAt v.trace n.to received c → is_receive (world_of start v) received ≡ true → s + delta ≤ received → a < c
-    → (b : ℕ) × IsReleaseAt v.trace n b × (a < b) × (b < c)
+    → IsLetInBetween (world_of start v) v.trace n a c
 
 -- from a round on, no closed round of a correct node omits a correct node
 abbrev pub HearsFrom : (ℕ → ℕ) → Log → ℕ → ℕ → Type 0

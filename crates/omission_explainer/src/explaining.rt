@@ -1,13 +1,12 @@
 //! From a journal to its report.
-ghost use Rattle.std.specs.Prelude.{◌≡◌, ◌+◌, ◌<◌, ◌≤◌, ◌↔◌, ℕ, All, IfOk, map, true};
+ghost use Rattle.std.specs.Prelude.{◌≡◌, ◌≢◌, ◌+◌, ◌<◌, ◌≤◌, ◌↔◌, ℕ, All, IfOk, IsTrue, map};
 ghost use Rattle.std.specs.Arc.{arc_value};
 ghost use Rattle.round_check.specs.Types.{kind_type};
 ghost use Rattle.round_meaning.specs.Rounds.{algorithm_of};
 ghost use Rattle.round_meaning.specs.Turn.{decision};
 ghost use Rattle.step_journal.specs.Agreement.{row};
-ghost use Rattle.step_journal.specs.Log.{IsName, history, round_of, world_of};
+ghost use Rattle.step_journal.specs.Log.{history, round_of, world_of};
 ghost use Rattle.step_journal.specs.History.{state};
-ghost use Rattle.step_journal.specs.Work.{is_within};
 ghost use Rattle.omission_explainer.specs.InRounds.{IsOfRounds, printed_omits};
 ghost use Rattle.omission_explainer.specs.Reported.{IsReported, IsRowOf, closed_rounds, counts_in, heard_in, names_in, omitted_in, place, silent_in, types_in};
 
@@ -110,16 +109,18 @@ enum Outcome {
     Omitted,
 }
 
-/// A message is carried where its release came while its receiver was in one of the rounds in which
-/// it's kept.
-fn outcome_of(mark: Mark, first: u64, end: u64) -> Outcome
-    ensures heard { result ≡ Outcome.Heard ↔ is_within mark first end ≡ true }
+/// Silence by the mark of copy 0, and else whether one of the copies was carried.
+fn outcome_of(mark: Mark, carried: bool) -> Outcome
+    ensures heard { result ≡ Outcome.Heard ↔ (IsTrue carried × (mark ≢ Mark.Silent)) }
     ensures silent { result ≡ Outcome.Silent ↔ mark ≡ Mark.Silent }
 {
-    match mark {
-        Mark::Silent => Outcome::Silent,
-        Mark::Released(count) if first <= count && count < end => Outcome::Heard,
-        Mark::Released(_) | Mark::Flying | Mark::Unsent => Outcome::Omitted,
+    if mark == Mark::Silent {
+        return Outcome::Silent;
+    }
+    if carried {
+        Outcome::Heard
+    } else {
+        Outcome::Omitted
     }
 }
 
@@ -132,6 +133,9 @@ struct Outcomes {
 }
 
 /// What came of the messages of a node's closed round.
+///
+/// A message is carried where one of its copies was released while its receiver was in one of the
+/// rounds in which it's kept.
 fn outcomes_of<P: Plan>(book: &Book<P>, node: u32, round: u32) -> Outcomes
     requires node { node < book.now.log.setup.nodes }
     requires first { 0 < round }
@@ -152,8 +156,9 @@ fn outcomes_of<P: Plan>(book: &Book<P>, node: u32, round: u32) -> Outcomes
             from,
             to: node,
             round,
+            copy: 0,
         };
-        match outcome_of(book.mark(name), first, end) {
+        match outcome_of(book.mark(name), book.was_released(name, first, end)) {
             Outcome::Heard => heard = heard.with(from),
             Outcome::Silent => silent = silent.with(from),
             Outcome::Omitted => omitted = omitted.with(from),

@@ -1,8 +1,9 @@
 //! Whether a run kept what its plan counts on.
-ghost use Rattle.std.specs.Prelude.{◌≡◌, ◌+◌, ◌<◌, ◌↔◌, IfSome, IsTrue, MatchOption, Some, length, max};
+ghost use Rattle.std.specs.Prelude.{◌≡◌, ◌+◌, ◌<◌, ◌≤◌, ◌↔◌, IfSome, IsTrue, MatchOption, Some, length, max};
 ghost use Rattle.slot_plans.specs.Plan.{IsClearRound};
-ghost use Rattle.step_journal.specs.Log.{IsName, count_of, history, mark_in, world_of};
-ghost use Rattle.omission_explainer.specs.Lateness.{HasReceive, IsNoOwnSlot, IsOwnSlot, KeepsBound, KeepsPace, open_until};
+ghost use Rattle.step_journal.specs.Log.{count_of, history, mark_in, world_of};
+ghost use Rattle.step_journal.specs.Names.{IsName};
+ghost use Rattle.omission_explainer.specs.Lateness.{HasReceive, IsNoOwnSlot, IsOwnSlot, KeepsBound, KeepsPace, copy_open_until, marks_of, open_until};
 ghost use Rattle.omission_explainer.specs.Verdict.{AreNodes, HearsFrom, IsDelayBound, IsLockstep, yes_or_no};
 
 use round_meaning::NodeSet;
@@ -78,6 +79,8 @@ pub fn judge<P: Plan>(journal: &Journal<P>, correct: NodeSet, delta: u32, gst: u
                 }
             }
             Event::Release(_) => {}
+            Event::Drop(_) => {}
+            Event::Copy(_) => {}
         }
     }
     Verdict {
@@ -114,7 +117,7 @@ fn keeps_pace(correct: NodeSet, counts: &[u64], node: u32) -> bool
 /// receives of its receiver.
 ///
 /// A receive comes after the send where its step number isn't below the receiver's count at the
-/// send, and after the release where it isn't below the receiver's count there.
+/// send, and after the release of a copy where it isn't below the receiver's count there.
 fn keeps_bound<P: Plan>(book: &Book<P>, terms: Terms, counts: &[u64], node: u32) -> bool
     requires sized { length counts.now ≡ 16 }
     requires node { node < book.now.log.setup.nodes }
@@ -155,20 +158,35 @@ fn slot_at<P: Plan>(book: &Book<P>, node: u32, count: u64) -> Option<Name>
             from: node,
             to,
             round,
+            copy: 0,
         }),
         Slot::Receive { round: _, last: _ } => None,
     }
 }
 
-/// Up to which step number its receiver lacks a message.
+/// Up to which step number its receiver lacks a message: its copies' least.
 fn open_until<P: Plan>(book: &Book<P>, name: Name) -> u64
     requires { IsName book.now.log.setup name }
-    ensures { result ≡ open_until (count_of book.now.log name.to) (mark_in (P.start book.now.plan) book.now.log name) }
+    ensures { result ≡ open_until (count_of book.now.log name.to) (marks_of (world_of (P.start book.now.plan) book.now.log) (history book.now.log) name) }
 {
-    match book.mark(name) {
+    match book.mark(name.original()) {
         Mark::Unsent | Mark::Silent => 0,
-        Mark::Flying => book.count_of(name.to),
+        Mark::Flying | Mark::Released(_) | Mark::Lost => copy_open_until(book, name, 0)
+            .min(copy_open_until(book, name, 1))
+            .min(copy_open_until(book, name, 2))
+            .min(copy_open_until(book, name, 3)),
+    }
+}
+
+/// Up to which step number its receiver lacks a copy of a message.
+fn copy_open_until<P: Plan>(book: &Book<P>, name: Name, copy: u32) -> u64
+    requires name { IsName book.now.log.setup name }
+    requires copy { copy ≤ 3 }
+    ensures { result ≡ copy_open_until (count_of book.now.log name.to) (mark_in (P.start book.now.plan) book.now.log (record name { copy = copy })) }
+{
+    match book.mark(Name { copy, ..name }) {
         Mark::Released(count) => count,
+        Mark::Unsent | Mark::Silent | Mark::Flying | Mark::Lost => book.count_of(name.to),
     }
 }
 

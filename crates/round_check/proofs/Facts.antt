@@ -1,6 +1,6 @@
 -- What a checked program keeps.
-use Rattle.std.proofs.Common.{◌≡◌, ◌≢◌, ◌<◌, ℕ, zero, suc, Bool, true, false, List, [], ◌∷◌, length, Option, Some, None, refl, subst, arith}
-use Rattle.std.specs.Prelude.{◌&&◌, ◌||◌, not, is_some, unwrap_or, slice_get, nat_lt, ◌==◌}
+use Rattle.std.proofs.Common.{◌≡◌, ◌<◌, ℕ, zero, suc, Bool, true, false, List, [], ◌∷◌, length, Option, Some, None, refl, ap, subst, arith}
+use Rattle.std.specs.Prelude.{◌&&◌, ◌||◌, not, is_none, is_some, unwrap_or, slice_get, nat_lt, ◌==◌}
 use Rattle.std.specs.List.{list_any}
 use Rattle.std.proofs.lemmas.Bool.Decides.{nat_tests}
 use Rattle.round_lang.specs.declared.expr.Ty.{Ty}
@@ -8,8 +8,8 @@ use Rattle.round_lang.specs.declared.expr.Ty.TheVariants.{Num, Bool as Truth, Se
 use Rattle.round_lang.specs.declared.program.Variable.{Variable}
 use Rattle.round_lang.specs.Syntax.{BlockTree, ProgramTree}
 use Rattle.round_check.specs.declared.fault.CheckFault.{CheckFault}
-use Rattle.round_check.specs.declared.fault.CheckFault.TheVariants.{UnknownName, DoubleName, WrongType, FieldCount, NotAllowedHere, NoInput, NoDecision, MissingRound, NoMemory}
-use Rattle.round_check.specs.Causes.{double_name, no_input, no_decision, missing_round, unknown_name, not_allowed_here, field_count, wrong_type, is_typed, IsFault, repeats_variable, second_input, double_field, first_input, input_name, decided_name}
+use Rattle.round_check.specs.declared.fault.CheckFault.TheVariants.{UnknownName, DoubleName, WrongType, FieldCount, NotAllowedHere, NoInput, NoDecision, MissingRound}
+use Rattle.round_check.specs.Causes.{double_name, no_input, no_decision, missing_round, unknown_name, not_allowed_here, field_count, wrong_type, fault_of, first_standing, is_typed, repeats_variable, second_input, double_field, first_input, input_name, decided_name}
 use Rattle.round_check.specs.Rules.{breaks_program}
 use Rattle.round_check.specs.Types.{Context, type_of, has_type, variable_type, context_with, wrong_start, wrong_sent, wrong_assignment, wrong_decide, wrong_block}
 use Rattle.round_check.specs.declared.rules.Rule.TheVariants.{Fresh}
@@ -25,8 +25,10 @@ pub record IsClear (p : ProgramTree) : Type 0 where
   pub counts : field_count p ≡ false
   pub types : wrong_type p ≡ false
 
--- where none of eight tests holds, each fails
-none_of_eight : (a b c d e f g h : Bool) → not a && not b && not c && not d && not e && not f && not g && not h ≡ true → (a ≡ false) × (b ≡ false) × (c ≡ false) × (d ≡ false) × (e ≡ false) × (f ≡ false) × (g ≡ false) × (h ≡ false)
+-- where none of eight causes stands, each test fails
+none_of_eight : (a b c d e f g h : Bool)
+    → is_none (first_standing ((DoubleName, a) ∷ (NoInput, b) ∷ (NoDecision, c) ∷ (MissingRound, d) ∷ (UnknownName, e) ∷ (NotAllowedHere, f) ∷ (FieldCount, g) ∷ (WrongType, h) ∷ [])) ≡ true
+    → (a ≡ false) × (b ≡ false) × (c ≡ false) × (d ≡ false) × (e ≡ false) × (f ≡ false) × (g ≡ false) × (h ≡ false)
 none_of_eight true b c d e f g h q = absurd cc
 none_of_eight false true c d e f g h q = absurd cc
 none_of_eight false false true d e f g h q = absurd cc
@@ -39,7 +41,7 @@ none_of_eight false false false false false false false false q = (refl, refl, r
 
 -- no cause stands against a checked program
 pub IsClear-typed : (p : ProgramTree) → is_typed p ≡ true → IsClear p
-unfolding is_typed
+unfolding is_typed fault_of
 IsClear-typed p h =
     let n = none_of_eight (double_name p) (no_input p) (no_decision p) (missing_round p) (unknown_name p) (not_allowed_here p) (field_count p) (wrong_type p) h in
     record {
@@ -71,17 +73,14 @@ some-decides p h = go (length p.decides) (IsClear-typed p h).decision
     go zero e = absurd cc
     go (suc n) e = omega arith
 
--- no cause but being out of memory is answered for a checked program
-pub not_typed : (f : CheckFault) (p : ProgramTree) → IsFault f p → f ≢ NoMemory → is_typed p ≡ true → ⊥
-not_typed DoubleName p stands other h = let clear = IsClear-typed p h in cc (stands, clear.names)
-not_typed NoInput p stands other h = let clear = IsClear-typed p h in cc (stands.1, clear.input)
-not_typed NoDecision p stands other h = let clear = IsClear-typed p h in cc (stands.2, clear.decision)
-not_typed MissingRound p stands other h = let clear = IsClear-typed p h in cc (stands.3, clear.rounds)
-not_typed UnknownName p stands other h = let clear = IsClear-typed p h in cc (stands.4, clear.known)
-not_typed NotAllowedHere p stands other h = let clear = IsClear-typed p h in cc (stands.5, clear.allowed)
-not_typed FieldCount p stands other h = let clear = IsClear-typed p h in cc (stands.6, clear.counts)
-not_typed WrongType p stands other h = let clear = IsClear-typed p h in cc (stands.7, clear.types)
-not_typed NoMemory p stands other h = other refl
+-- a program is typed exactly where it has no fault
+pub typed-none : (p : ProgramTree) → fault_of p ≡ None → is_typed p ≡ true
+unfolding is_typed
+typed-none p h = ap is_none h
+
+pub none-typed : (p : ProgramTree) (f : CheckFault) → fault_of p ≡ Some f → is_typed p ≡ true → ⊥
+unfolding is_typed
+none-typed p f h typed = cc (ap is_none h, typed)
 
 -- where neither of two tests holds, each fails
 pub neither : (a b : Bool) → a || b ≡ false → (a ≡ false) × (b ≡ false)

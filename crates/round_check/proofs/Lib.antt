@@ -1,3 +1,5 @@
 pub mod Facts
 pub mod TypeLaws
 pub mod Starts
+pub mod OneMeanings
+pub mod Sites

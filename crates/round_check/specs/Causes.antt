@@ -1,11 +1,11 @@
 -- When a program is refused: each cause, and the order in which they are answered.
-use Rattle.std.specs.Prelude.{◌≡◌, ℕ, suc, Bool, true, false, ◌&&◌, ◌||◌, not, List, [], ◌∷◌, length, count_by, Option, Some, None, is_some, unwrap_or, slice_get, nat_lt, ◌==◌, if◌then◌else◌}
+use Rattle.std.specs.Prelude.{◌≡◌, ℕ, suc, Bool, true, false, ◌&&◌, ◌||◌, not, List, [], ◌∷◌, length, count_by, Option, Some, None, is_none, is_some, unwrap_or, slice_get, nat_lt, ◌==◌, if◌then◌else◌}
 use Rattle.std.specs.List.{list_any}
 use Rattle.round_lang.specs.declared.block.Field.{Field}
 use Rattle.round_lang.specs.declared.program.Variable.{Variable}
 use Rattle.round_lang.specs.Syntax.{BlockTree, ProgramTree}
 use Rattle.round_check.specs.declared.fault.CheckFault.{CheckFault}
-use Rattle.round_check.specs.declared.fault.CheckFault.TheVariants.{UnknownName, DoubleName, WrongType, FieldCount, NotAllowedHere, NoInput, NoDecision, MissingRound, NoMemory}
+use Rattle.round_check.specs.declared.fault.CheckFault.TheVariants.{UnknownName, DoubleName, WrongType, FieldCount, NotAllowedHere, NoInput, NoDecision, MissingRound}
 use Rattle.round_check.specs.declared.rules.Rule.TheVariants.{Fresh, Known, Allowed}
 use Rattle.round_check.specs.Names.{is_input, declares, has_field}
 use Rattle.round_check.specs.Rules.{breaks_program}
@@ -80,32 +80,25 @@ field_count p = list_any (λ (b : BlockTree). not (length b.fields == length b.s
 unfoldable pub wrong_type : ProgramTree → Bool
 wrong_type p = wrong_program (context_with [] p) p
 
+-- the causes, in the order in which they are answered, and which of them stand
+abbrev pub causes : ProgramTree → List (CheckFault × Bool)
+causes p =
+    (DoubleName, double_name p) ∷ (NoInput, no_input p) ∷ (NoDecision, no_decision p)
+    ∷ (MissingRound, missing_round p) ∷ (UnknownName, unknown_name p) ∷ (NotAllowedHere, not_allowed_here p)
+    ∷ (FieldCount, field_count p) ∷ (WrongType, wrong_type p) ∷ []
+
+-- the first that stands
+abbrev pub first_standing : List (CheckFault × Bool) → Option CheckFault
+first_standing [] = None
+first_standing (c ∷ cs) = if c.1 then Some c.0 else first_standing cs
+
+-- why a program is refused: the first cause that stands
+unfoldable pub fault_of : ProgramTree → Option CheckFault
+fault_of p = first_standing (causes p)
+
 -- no cause stands
 unfoldable pub is_typed : ProgramTree → Bool
-is_typed p =
-    not (double_name p) && not (no_input p) && not (no_decision p) && not (missing_round p)
-    && not (unknown_name p) && not (not_allowed_here p) && not (field_count p) && not (wrong_type p)
-
--- the cause stands, and none that is answered before it
-abbrev pub IsFault : CheckFault → ProgramTree → Type 0
-IsFault DoubleName p = double_name p ≡ true
-IsFault NoInput p = (double_name p ≡ false) × (no_input p ≡ true)
-IsFault NoDecision p = (double_name p ≡ false) × (no_input p ≡ false) × (no_decision p ≡ true)
-IsFault MissingRound p =
-    (double_name p ≡ false) × (no_input p ≡ false) × (no_decision p ≡ false) × (missing_round p ≡ true)
-IsFault UnknownName p =
-    (double_name p ≡ false) × (no_input p ≡ false) × (no_decision p ≡ false) × (missing_round p ≡ false)
-    × (unknown_name p ≡ true)
-IsFault NotAllowedHere p =
-    (double_name p ≡ false) × (no_input p ≡ false) × (no_decision p ≡ false) × (missing_round p ≡ false)
-    × (unknown_name p ≡ false) × (not_allowed_here p ≡ true)
-IsFault FieldCount p =
-    (double_name p ≡ false) × (no_input p ≡ false) × (no_decision p ≡ false) × (missing_round p ≡ false)
-    × (unknown_name p ≡ false) × (not_allowed_here p ≡ false) × (field_count p ≡ true)
-IsFault WrongType p =
-    (double_name p ≡ false) × (no_input p ≡ false) × (no_decision p ≡ false) × (missing_round p ≡ false)
-    × (unknown_name p ≡ false) × (not_allowed_here p ≡ false) × (field_count p ≡ false) × (wrong_type p ≡ true)
-IsFault NoMemory p = Unit {0}
+is_typed p = is_none (fault_of p)
 
 -- the input's name
 abbrev pub input_name : ProgramTree → List ℕ

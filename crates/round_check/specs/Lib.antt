@@ -5,3 +5,4 @@ pub mod Rules
 pub mod Types
 pub mod Causes
 pub mod Shapes
+pub mod OneMeaning

@@ -1,7 +1,7 @@
 //! The causes for which a program is refused, and the first that stands.
-ghost use Rattle.std.specs.Prelude.{◌≡◌, ◌≢◌, ◌<◌, ◌+◌, ◌^◌, true, IfSome, OnSome, IfNone, option_copied, length};
+ghost use Rattle.std.specs.Prelude.{◌≡◌, ◌<◌, ◌+◌, ◌^◌, option_copied, length};
 ghost use Rattle.std.specs.List.{list_any};
-ghost use Rattle.round_check.specs.Causes.{repeats_variable, repeats_field, has_variable_name, double_field, second_input, double_name, first_input, no_input, no_decision, numbered_from, missing_round, unknown_name, not_allowed_here, field_count, wrong_type, is_typed, IsFault};
+ghost use Rattle.round_check.specs.Causes.{repeats_variable, repeats_field, has_variable_name, double_field, second_input, double_name, first_input, no_input, no_decision, numbered_from, missing_round, unknown_name, not_allowed_here, field_count, wrong_type, fault_of};
 
 use crate::fault::CheckFault;
 use crate::names::{declares, has_field, is_input};
@@ -146,11 +146,9 @@ fn wrong_type(program: &Program) -> bool
 }
 
 /// The first cause that stands, in the order in which they are answered.
-#[tactic(auto, unfolding(crate::specs::Causes::is_typed))]
+#[tactic(auto, unfolding(crate::specs::Causes::fault_of))]
 pub(crate) fn first_cause(program: &Program) -> Option<CheckFault>
-    ensures cause { IfSome result (λ fault. IsFault fault program.now) }
-    ensures not_memory { IfSome result (λ fault. fault ≢ CheckFault.NoMemory) }
-    ensures none { IfNone result (is_typed program.now ≡ true) }
+    ensures { result ≡ fault_of program.now }
 {
     if double_name(program) {
         Some(CheckFault::DoubleName)

@@ -1,7 +1,7 @@
 //! Checked programs.
-ghost use Rattle.std.specs.Prelude.{◌≡◌, ◌↔◌, true, IfOk, IfErr, IsTrue, OnOk, option_copied, slice_get};
+ghost use Rattle.std.specs.Prelude.{◌≡◌, ◌↔◌, true, IfOk, IfErr, IfSome, IsErrOf, IsTrue, OnOk, option_copied, slice_get};
 ghost use Rattle.std.specs.Arc.{arc_value};
-ghost use Rattle.round_check.specs.Causes.{is_typed, IsFault, input_name, decided_name};
+ghost use Rattle.round_check.specs.Causes.{fault_of, is_typed, input_name, decided_name};
 ghost use Rattle.round_check.specs.Shapes.{message_kinds, state_kinds};
 
 use crate::causes::{first_cause, first_input};
@@ -37,11 +37,11 @@ impl Model for Checked {
 }
 
 /// The program where no cause stands against it, else the first that stands; NoMemory only where
-/// memory runs out.
+/// none stands and memory runs out.
 pub fn check(alloc: Global, program: Program) -> Result<Checked, CheckFault>
     ensures ok { IfOk result (λ checked. checked ≡ program) }
     ensures typed { OnOk result (is_typed program ≡ true) }
-    ensures fault { IfErr result (λ fault. IsFault fault program) }
+    ensures fault { IfSome (fault_of program) (λ fault. IsErrOf result fault) }
     ensures memory_alone { is_typed program ≡ true
         → IfErr result (λ fault. fault ≡ CheckFault.NoMemory) }
 {

@@ -4,6 +4,7 @@
 mod causes;
 mod checked;
 mod fault;
+mod laws;
 mod names;
 mod rules;
 mod shapes;
@@ -12,3 +13,4 @@ mod typing;
 
 pub use checked::{Checked, check};
 pub use fault::CheckFault;
+pub use laws::names_have_one_meaning;

@@ -35,3 +35,7 @@ max_name = 32
 
 abbrev pub max_number : ℕ
 max_number = 4294967295
+
+-- bytes of a text
+abbrev pub max_text : ℕ
+max_text = 65536

@@ -1,6 +1,7 @@
 //! From a text to its program.
 ghost use Rattle.std.specs.Prelude.{◌≡◌, ◌≢◌, ◌<◌, ◌↔◌, IfOk, IfErr, Err, length};
 ghost use Rattle.round_lang.specs.CodeTokens.{lexemes};
+ghost use Rattle.round_lang.specs.Limits.{max_text};
 ghost use Rattle.round_lang.specs.Outcome.{Gives};
 ghost use Rattle.round_lang.specs.Parts as parts;
 ghost use Rattle.round_lang.specs.Source.{IsSource};
@@ -50,7 +51,7 @@ pub fn parse(alloc: Global, text: &str) -> Result<Program, LangFault>
     ensures found { IfOk result (λ p. IsSource text.now p) }
     // Only a text that is no program is refused, or one that is too long, memory aside.
     ensures refused { IfErr result (λ e. e ≢ LangFault.NoMemory → e ≢ LangFault.TooLong → (p : ProgramTree) → IsSource text.now p → ⊥) }
-    ensures long { (result ≡ Err LangFault.TooLong) ↔ (MAX_TEXT < length text.now) }
+    ensures long { (result ≡ Err LangFault.TooLong) ↔ (max_text < length text.now) }
 {
     if text.len() > MAX_TEXT {
         return Err(LangFault::TooLong);

@@ -87,6 +87,13 @@ impl Vars {
         self.words.as_mut_slice().copy_from_slice(words);
     }
 
+    /// The kinds of the values, in order.
+    pub fn kinds(&self) -> &[Kind]
+        ensures { result.now ≡ map kind_of self.now }
+    {
+        self.shape.kinds()
+    }
+
     pub fn len(&self) -> usize
         ensures { result ≡ length self.now }
     {

@@ -14,7 +14,7 @@ use Rattle.round_meaning.specs.Meaning.{Env, bind, constant, value}
 use Rattle.round_meaning.specs.Turn.{sent, with_dest}
 use Rattle.round_meaning.proofs.RoundLaws.{map_same}
 
-set_of_same : (k : ℕ) (p q : ℕ → Bool) → ((v : ℕ) → p v ≡ q v) → set_of k p ≡ set_of k q
+pub set_of_same : (k : ℕ) (p q : ℕ → Bool) → ((v : ℕ) → p v ≡ q v) → set_of k p ≡ set_of k q
 unfolding set_of
 set_of_same k p q h = ap mask_l (map_same p q 0 k (λ v lo hi. h v))
 

@@ -10,6 +10,7 @@ pub mod Sound
 pub mod TypedTurns
 pub mod TypedStarts
 mod Broadcasts
+mod Places
 pub mod EqualityLaws
 pub mod PhaseSteps
 pub mod SetReading

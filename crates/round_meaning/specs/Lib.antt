@@ -16,3 +16,4 @@ pub mod Broadcast
 pub mod Algorithm1
 pub mod Agreement
 pub mod SetMembers
+pub mod Places

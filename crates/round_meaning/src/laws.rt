@@ -2,6 +2,7 @@
 ghost use Rattle.round_meaning.specs.Typed.{EndsAreStates, SendsAreMessages, StartsAreStates, TypedValuesFit};
 ghost use Rattle.round_meaning.specs.Agreement.{Agreement, DecisionsAreLocked, NoOtherLocks, Validity};
 ghost use Rattle.round_meaning.specs.Laws.{DifferencesAreExact, DifferencesStop, OnlyPastCounts, OnlySendersCount, OnlySendersCountInRuns, SumsAreExact, SumsStop};
+ghost use Rattle.round_meaning.specs.Places.{PlacesAreKept};
 ghost use Rattle.round_meaning.specs.SetMembers.{SetsAreMembers};
 
 use round_check::Checked;
@@ -44,6 +45,15 @@ pub fn types_are_kept(program: &Checked)
 {
     program.typed();
     let _values = program.program().values();
+}
+
+/// No value of a checked program depends on what means nothing where it is computed: an initial value
+/// on no round, phase, receiver or sender, what is sent on no sender, what is done with a message on
+/// no receiver, and how a round ends on neither.
+pub fn places_are_kept(program: &Checked)
+    ensures { PlacesAreKept program.now }
+{
+    program.typed();
 }
 
 /// Algorithm 1 under every omission table: any two decisions, of any nodes at any rounds, are equal,

@@ -1,6 +1,6 @@
 use Rattle.std.proofs.Common.{◌≡◌, ℕ, zero, suc, ◌+◌, ◌-◌, ◌^◌, ◌<◌, ◌≤◌, ⊎_elim, refl, arith}
 use Rattle.std.proofs.lemmas.Bool.{cases_lt}
-use Rattle.slot_plans.specs.declared.limits.TheConstants.{MAX_ROUNDS}
+use Rattle.slot_plans.specs.Limits.{max_rounds}
 use Rattle.slot_plans.specs.Plan.{PlanLaws, IsClear}
 
 -- the send slots of a round end before the next round starts
@@ -50,10 +50,10 @@ round-unique nodes start apart step r s f g =
     omega (arith, before-later nodes start apart step r s f.first f.ends g.starts, before-later nodes start apart step s r g.first g.ends f.starts)
 
 -- the start of a round fits a number of 32 bits
-pub start-fits : {nodes : ℕ} {receives start : ℕ → ℕ} → PlanLaws nodes receives start → (r : ℕ) → 1 ≤ r → r ≤ MAX_ROUNDS + 1 → start r < 2 ^ 32
+pub start-fits : {nodes : ℕ} {receives start : ℕ → ℕ} → PlanLaws nodes receives start → (r : ℕ) → 1 ≤ r → r ≤ max_rounds + 1 → start r < 2 ^ 32
 start-fits {nodes} {start} laws r h l =
-    omega (arith, laws.few_steps, start-le nodes start (starts_apart laws) r (MAX_ROUNDS + 1) h l)
+    omega (arith, laws.few_steps, start-le nodes start (starts_apart laws) r (max_rounds + 1) h l)
 
 -- so does a round's length
-pub len-fits : {nodes : ℕ} {receives start : ℕ → ℕ} → PlanLaws nodes receives start → (r : ℕ) → 1 ≤ r → r ≤ MAX_ROUNDS → nodes + receives r < 2 ^ 32
+pub len-fits : {nodes : ℕ} {receives start : ℕ → ℕ} → PlanLaws nodes receives start → (r : ℕ) → 1 ≤ r → r ≤ max_rounds → nodes + receives r < 2 ^ 32
 len-fits laws r h l = omega (arith, laws.next_start r h, start-fits laws (r + 1) (omega arith) (omega arith))

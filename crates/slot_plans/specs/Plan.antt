@@ -1,27 +1,27 @@
 use Rattle.std.specs.Prelude.{◌≡◌, ℕ, ◌+◌, ◌^◌, ◌<◌, ◌≤◌, Option, Some, None}
-use Rattle.slot_plans.specs.declared.limits.TheConstants.{MAX_NODES, MAX_DELTA, MAX_ROUNDS}
+use Rattle.slot_plans.specs.Limits.{max_delta, max_nodes, max_rounds}
 
 -- a number of nodes that a plan can have
 abbrev pub IsNodeCount : ℕ → Type 0
-IsNodeCount n = (1 ≤ n) × (n ≤ MAX_NODES)
+IsNodeCount n = (1 ≤ n) × (n ≤ max_nodes)
 
 -- a bound on the delay that a plan can have
 abbrev pub IsDelta : ℕ → Type 0
-IsDelta delta = (1 ≤ delta) × (delta ≤ MAX_DELTA)
+IsDelta delta = (1 ≤ delta) × (delta ≤ max_delta)
 
 -- a round, counted from 1
 abbrev pub IsRound : ℕ → Type 0
-IsRound r = (1 ≤ r) × (r ≤ MAX_ROUNDS)
+IsRound r = (1 ≤ r) × (r ≤ max_rounds)
 
 -- each round is a send slot for each node and then receive steps, and the next round follows it
 pub record PlanLaws (nodes : ℕ) (receives start : ℕ → ℕ) : Type 0 where
   pub some_node : 1 ≤ nodes
-  pub few_nodes : nodes ≤ MAX_NODES
+  pub few_nodes : nodes ≤ max_nodes
   pub some_receive : (r : ℕ) → 1 ≤ r → 1 ≤ receives r
   pub receives_rise : (r : ℕ) → 1 ≤ r → receives r ≤ receives (r + 1)
   pub first_start : start 1 ≡ 0
   pub next_start : (r : ℕ) → 1 ≤ r → start (r + 1) ≡ start r + nodes + receives r
-  pub few_steps : start (MAX_ROUNDS + 1) < 2 ^ 32
+  pub few_steps : start (max_rounds + 1) < 2 ^ 32
 
 -- the round starts at the global stabilization time or later, and lasts for the delay
 pub record IsClear (receives start : ℕ → ℕ) (delta gst r : ℕ) : Type 0 where

@@ -1,5 +1,6 @@
 //! What each plan does, and what follows from it.
 ghost use Rattle.std.specs.Prelude.{◌≡◌, ℕ, ◌+◌, ◌<◌, ◌≤◌, true};
+ghost use Rattle.slot_plans.specs.Limits.{max_rounds};
 ghost use Rattle.slot_plans.specs.Plan.{PlanLaws, IsClearRound};
 ghost use Rattle.slot_plans.specs.Slot.{IsSlotOf};
 
@@ -23,13 +24,13 @@ pub trait Plan: Copy + PartialEq + Eq + Drop {
     /// How many receive steps a round has.
     fn receives(&self, round: u32) -> u32
         requires first { 1 ≤ round }
-        requires last { round ≤ MAX_ROUNDS }
+        requires last { round ≤ max_rounds }
         ensures { result ≡ receives self.now round };
 
     /// How many steps of a node come before a round; one past the last round, how many there are.
     fn start(&self, round: u32) -> u32
         requires first { 1 ≤ round }
-        requires last { round ≤ MAX_ROUNDS + 1 }
+        requires last { round ≤ max_rounds + 1 }
         ensures { result ≡ start self.now round };
 
     ghost laws: { (p : Self) → PlanLaws (nodes p) (receives p) (start p) };
@@ -39,7 +40,7 @@ pub trait Plan: Copy + PartialEq + Eq + Drop {
     /// How many steps a round has.
     final fn len(&self, round: u32) -> u32
         requires first { 1 ≤ round }
-        requires last { round ≤ MAX_ROUNDS }
+        requires last { round ≤ max_rounds }
         ensures { result ≡ nodes self.now + receives self.now round }
     {
         self.nodes() + self.receives(round)
@@ -47,7 +48,7 @@ pub trait Plan: Copy + PartialEq + Eq + Drop {
 
     /// What a step of a node is for.
     final fn place(&self, step: u32) -> Slot
-        requires { step < start self.now (MAX_ROUNDS + 1) }
+        requires { step < start self.now (max_rounds + 1) }
         ensures { IsSlotOf (nodes self.now) (start self.now) step result }
     {
         let round = round_of(self, step);
@@ -76,9 +77,9 @@ pub trait Plan: Copy + PartialEq + Eq + Drop {
 
 // The round of a step, by halving.
 fn round_of<P: Plan>(plan: &P, step: u32) -> u32
-    requires { step < P.start plan.now (MAX_ROUNDS + 1) }
+    requires { step < P.start plan.now (max_rounds + 1) }
     ensures first { 1 ≤ result }
-    ensures last { result ≤ MAX_ROUNDS }
+    ensures last { result ≤ max_rounds }
     ensures started { P.start plan.now result ≤ step }
     ensures unfinished { step < P.start plan.now (result + 1) }
 {

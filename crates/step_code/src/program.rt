@@ -1,12 +1,12 @@
 //! Compiled programs.
-ghost use Rattle.std.specs.Prelude.{◌≡◌, ◌≤◌, ◌<◌, ◌^◌, ◌+◌, ◌-◌, ◌%◌, true, IfOk, IfSome, IsNone, None, OnOk, Some, length, option_copied, slice_get};
+ghost use Rattle.std.specs.Prelude.{◌≡◌, ◌≤◌, ◌<◌, ◌^◌, ◌+◌, ◌-◌, ◌%◌, ◌↔◌, true, IsTrue, IfOk, IfSome, IsNone, None, OnOk, Some, length, option_copied, slice_get};
 ghost use Rattle.round_check.specs.Shapes.{block_kinds};
 ghost use Rattle.round_check.specs.Causes.{is_typed};
 ghost use Rattle.round_meaning.specs.Turn.{block_at};
 ghost use Rattle.step_code.specs.Assignments.{StartsNumbers, starts_top};
 ghost use Rattle.step_code.specs.Layout.{init_code, message_place, room_of, start_names, state_place};
 ghost use Rattle.step_code.specs.Machine.{Fine};
-ghost use Rattle.step_code.specs.Turns.{IsPart};
+ghost use Rattle.step_code.specs.Turns.{IsOfRound, IsOfState, IsPart};
 
 use crate::block_code::{BlockCode, compile_blocks};
 use crate::instr::Instr;
@@ -15,7 +15,7 @@ use crate::names::Known;
 use crate::pieces::{Piece, emit_starts};
 use crate::single::further;
 use round_check::Checked;
-use round_lang::{Block, NoMemory, Program, Shape, Ty};
+use round_lang::{Block, Message, NoMemory, Program, Shape, Ty, Vars};
 use std::alloc::Global;
 use std::marker::Model;
 
@@ -76,6 +76,24 @@ impl StepProgram {
         ensures few { result ≤ 64 }
     {
         self.program.program().values()
+    }
+
+    /// Whether the values are of the kinds that a state's are.
+    pub fn is_state(&self, values: &Vars) -> bool
+        ensures { IsTrue result ↔ IsOfState self.now values.now }
+    {
+        self.program.state_shape().is(values.kinds())
+    }
+
+    /// Whether the values are of the kinds that those of a round's messages are.
+    pub fn is_message(&self, round: u32, values: &Message) -> bool
+        ensures { IsTrue result ↔ IsOfRound self.now round values.now }
+    {
+        let place = place_at(self.program.program(), round);
+        match self.program.message_shape(place) {
+            Some(shape) => shape.is(values.kinds()),
+            None => true,
+        }
     }
 
     /// Where the words of a message begin, which is where those of the state end.

@@ -1,16 +1,17 @@
 -- Each event keeps what was handed out and answers.
-use Rattle.std.proofs.Common.{◌≡◌, ◌≢◌, ℕ, ◌-◌, ◌<◌, Bool, true, false, ◌&&◌, List, [], ◌∷◌, ◌++◌, length, get_or, set, sym, refl, ap, ◌∙◌, arith, ◌⊎◌, inl, inr}
+use Rattle.std.proofs.Common.{◌≡◌, ◌≢◌, ℕ, ◌<◌, Bool, true, false, ◌&&◌, List, [], ◌∷◌, ◌++◌, length, get_or, set, sym, refl, ap, ◌∙◌, arith, ◌⊎◌, inl, inr}
 use Rattle.std.proofs.lemmas.Bool.{and_left, and_right, cases_eq, eq-eqb, ne_eqb}
 use Rattle.std.proofs.lemmas.List.{get_or-set_same, get_or-set_other, length-set, append-nil}
 use Rattle.step_machine.specs.declared.event.Name.{Name}
 use Rattle.step_machine.specs.declared.event.Event.{Event}
-use Rattle.step_machine.specs.declared.event.Event.TheVariants.{Step, Release}
+use Rattle.step_machine.specs.declared.event.Event.TheVariants.{Step, Release, Drop, Copy}
 use Rattle.step_journal.specs.World.{World, nodes_of, is_receive}
+use Rattle.step_journal.specs.Fates.{is_take}
 use Rattle.step_journal.specs.Trace.{is_step, steps}
-use Rattle.step_journal.specs.History.{mark_of, buffer_of, handed_of, answers_of, is_flying}
+use Rattle.step_journal.specs.History.{answer_to, buffer_of, handed_of, answers_of}
 use Rattle.step_journal.specs.Agreement.{Accounts}
 
-handed_kept : (w : World) (i : ℕ) (e : Event) (t : List Event) → (is_step i e && is_receive w (steps i t)) ≡ false → handed_of w i (e ∷ t) ≡ handed_of w i t
+handed_kept : (w : World) (i : ℕ) (e : Event) (t : List Event) → is_take w i e t ≡ false → handed_of w i (e ∷ t) ≡ handed_of w i t
 unfolding handed_of
 handed_kept w i e t h = rw h refl
 
@@ -22,9 +23,9 @@ answers_step : (w : World) (k : ℕ) (t : List Event) → answers_of w (Step k �
 unfolding answers_of
 answers_step w k t = append-nil (answers_of w t)
 
-answers_more : (w : World) (n : Name) (t : List Event) → answers_of w (Release n ∷ t) ≡ answers_of w t ++ is_flying (mark_of w t n.from n.to (n.round - 1)) ∷ []
+answers_more : (w : World) (e : Event) (b : Bool) (t : List Event) → answer_to w e t ≡ b ∷ [] → answers_of w (e ∷ t) ≡ answers_of w t ++ b ∷ []
 unfolding answers_of
-answers_more w n t = refl
+answers_more w e b t h = ap (λ z. answers_of w t ++ z) h
 
 step_at : (w : World) (t : List Event) (k i : ℕ) → is_receive w (steps k t) ≡ false → (i ≡ k) ⊎ (i ≡ k → ⊥) → handed_of w i (Step k ∷ t) ≡ handed_of w i t
 step_at w t k i h (inl same) = handed_kept w i (Step k) t (and_right _ _ (ap (λ z. is_receive w (steps z t)) same ∙ h))
@@ -51,9 +52,10 @@ accounts_receive w t handed answers k b l h x a = record {
   answered = a.answered ∙ sym (answers_step w k t);
 }
 
-pub accounts_release : (w : World) (t : List Event) (handed : List (List (List Name))) (answers next : List Bool) (n : Name) (b : Bool) → b ≡ is_flying (mark_of w t n.from n.to (n.round - 1)) → next ≡ answers ++ b ∷ [] → Accounts w t handed answers → Accounts w (Release n ∷ t) handed next
-accounts_release w t handed answers next n b h e a = record {
+-- an event of the network
+pub accounts_answer : (w : World) (t : List Event) (handed : List (List (List Name))) (answers next : List Bool) (e : Event) (b : Bool) → ((i : ℕ) → is_take w i e t ≡ false) → answer_to w e t ≡ b ∷ [] → next ≡ answers ++ b ∷ [] → Accounts w t handed answers → Accounts w (e ∷ t) handed next
+accounts_answer w t handed answers next e b quiet h n a = record {
   sized = a.sized;
-  handed = λ i z. a.handed i z ∙ sym (handed_kept w i (Release n) t refl);
-  answered = e ∙ ap (λ z. z ++ b ∷ []) a.answered ∙ ap (λ z. answers_of w t ++ z ∷ []) h ∙ sym (answers_more w n t);
+  handed = λ i z. a.handed i z ∙ sym (handed_kept w i e t (quiet i));
+  answered = n ∙ ap (λ z. z ++ b ∷ []) a.answered ∙ sym (answers_more w e b t h);
 }

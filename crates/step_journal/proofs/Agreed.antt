@@ -1,85 +1,77 @@
 -- What a record says of its messages is what stands in its list of events.
-use Rattle.std.proofs.Common.{◌≡◌, ℕ, suc, ◌+◌, ◌-◌, ◌<◌, ◌≤◌, Bool, true, false, ◌&&◌, List, length, Option, Some, None, sym, subst, refl, ap, ◌∙◌, arith, ◌⊎◌, inl, inr, is_some, is_none, if◌then◌else◌}
+use Rattle.std.proofs.Common.{◌≡◌, ℕ, zero, suc, ◌+◌, ◌-◌, ◌<◌, ◌≤◌, Bool, true, false, ◌&&◌, List, length, Option, Some, None, sym, subst, refl, ap, ◌∙◌, arith, ◌⊎◌, inl, inr, is_some, if◌then◌else◌}
 use Rattle.std.specs.Prelude.{reverse, IsSome}
 use Rattle.std.specs.List.{count_by}
-use Rattle.std.proofs.lemmas.Bool.{and_parts, cases_lt}
+use Rattle.std.proofs.lemmas.Bool.{and_from, and_parts, cases_lt}
 use Rattle.std.proofs.lemmas.List.{reverse-reverse}
 use Rattle.round_lang.specs.declared.value.Value.{Value}
 use Rattle.step_machine.specs.declared.event.Event.{Event}
 use Rattle.step_machine.specs.declared.event.Name.{Name}
-use Rattle.step_machine.specs.Frames.{sent_under}
 use Rattle.step_journal.specs.declared.mark.Mark.{Mark}
-use Rattle.step_journal.specs.declared.mark.Mark.TheVariants.{Unsent, Flying}
-use Rattle.step_journal.specs.Agreed.{IsDueRound, IsInBuffer, IsInFlight, IsSpoken, JournalAgrees, message_in}
-use Rattle.step_journal.specs.Agreement.{is_named}
-use Rattle.step_journal.specs.History.{is_buffered, mark_by, mark_of, state}
-use Rattle.step_journal.specs.Log.{Holds, IsName, Log, history, mark_in, round_of, waiting_in, world_of}
-use Rattle.step_journal.specs.Places.{IsCarried, IsFirstAfter, IsReceiveAt, IsReleaseAt, IsSlotAt}
-use Rattle.step_journal.specs.Trace.{released, sent, taken}
+use Rattle.step_journal.specs.declared.mark.Mark.TheVariants as mark
+use Rattle.step_journal.specs.Agreed.{IsDueRound, IsInBuffer, IsInFlight, IsMessage, IsSpoken, JournalAgrees, message_in}
+use Rattle.step_journal.specs.Fates.{Fate, Unmade, Moving, Waiting, Taken, Lost, fate, is_waiting}
+use Rattle.step_journal.specs.History.{hushed, is_buffered, marked, message}
+use Rattle.step_journal.specs.Log.{Holds, Log, history, mark_in, round_of, waiting_in, world_of}
+use Rattle.step_journal.specs.Names.{IsName}
+use Rattle.step_journal.specs.Places.{IsCarried, IsMadeAt, IsSlotAt, Sent, steps_before}
+use Rattle.step_journal.specs.Trace.{is_name}
 use Rattle.step_journal.specs.World.{World}
 use Rattle.step_journal.proofs.Buffers.{buffer_counts}
-use Rattle.step_journal.proofs.Placed.{carried_found, carried_place, receive_none, receive_place, release_found, release_none, release_place, slot_found, slot_place}
+use Rattle.step_journal.proofs.Kept.{mark_is}
+use Rattle.step_journal.proofs.Placed.{IsMoving, IsWaiting, Placed, carried_found, carried_place, made_found, moving_found, placed, unmade_found, waiting_found}
 use Rattle.step_journal.proofs.Plans.{start_le}
 use Rattle.step_journal.proofs.Reading.{faithful}
 
--- ---- one message in a history
+-- ---- the mark of one copy
 
--- what the sender sends under a name
-abbrev said : World → List Event → Name → Option (List Value)
-said w t n = sent_under w.algorithm n (state w t (n.round - 1) n.from)
+spoken_by : (m : Option (List Value)) (f : Fate) → (f ≡ Unmade → ⊥) → IsSpoken m (marked 0 m f)
+spoken_by m Unmade h = absurd (h refl)
+spoken_by None Moving h = refl
+spoken_by None (Waiting x) h = refl
+spoken_by None (Taken x c) h = refl
+spoken_by None Lost h = refl
+spoken_by (Some m) Moving h = tt
+spoken_by (Some m) (Waiting x) h = tt
+spoken_by (Some m) (Taken x c) h = tt
+spoken_by (Some m) Lost h = tt
 
-mark_at : (w : World) (t : List Event) (n : Name) → 0 < n.round → mark_of w t n.from n.to (n.round - 1) ≡ mark_by n.to (sent w t n.from n.to n.round) (said w t n) (released w t n.from n.to n.round)
-unfolding mark_of
-mark_at w t n h =
-    let e : suc (n.round - 1) ≡ n.round = omega arith in
-    ap (λ z. mark_by n.to (sent w t n.from n.to z) (w.algorithm.send z (state w t (n.round - 1) n.from) n.from n.to) (released w t n.from n.to z)) e
+silent_by : (k : ℕ) (m : Option (List Value)) (f : Fate) → m ≡ None → marked (suc k) m f ≡ mark.Unsent
+silent_by k m Unmade h = refl
+silent_by k None Moving h = refl
+silent_by k None (Waiting x) h = refl
+silent_by k None (Taken x c) h = refl
+silent_by k None Lost h = refl
+silent_by k (Some m) Moving h = cc
+silent_by k (Some m) (Waiting x) h = cc
+silent_by k (Some m) (Taken x c) h = cc
+silent_by k (Some m) Lost h = cc
 
-buffered_at : (w : World) (t : List Event) (n : Name) → 0 < n.round → is_buffered w t n.from n.to (n.round - 1) ≡ (is_some (released w t n.from n.to n.round) && is_some (said w t n) && is_none (taken w t n.from n.to n.round))
-buffered_at w t n h =
-    let e : suc (n.round - 1) ≡ n.round = omega arith in
-    ap (λ z. is_some (released w t n.from n.to z) && is_some (w.algorithm.send z (state w t (n.round - 1) n.from) n.from n.to) && is_none (taken w t n.from n.to z)) e
+hushed_still : (k : ℕ) → hushed k ≡ mark.Flying → ⊥
+hushed_still zero h = cc
+hushed_still (suc k) h = cc
 
-spoken_by : (i : ℕ) (a : Option (List Event)) (m : Option (List Value)) (b : Option (List Event)) (x : List Event) → a ≡ Some x → IsSpoken m (mark_by i a m b)
-spoken_by i None m b x h = cc
-spoken_by i (Some a) None b x h = refl
-spoken_by i (Some a) (Some m) None x h = tt
-spoken_by i (Some a) (Some m) (Some b) x h = tt
+flying_by : (k : ℕ) (m : Option (List Value)) (f : Fate) → marked k m f ≡ mark.Flying → (f ≡ Moving) × IsSome m
+flying_by k m Unmade h = cc
+flying_by k None Moving h = absurd (hushed_still k h)
+flying_by k None (Waiting x) h = absurd (hushed_still k h)
+flying_by k None (Taken x c) h = absurd (hushed_still k h)
+flying_by k None Lost h = absurd (hushed_still k h)
+flying_by k (Some m) Moving h = (refl, refl)
+flying_by k (Some m) (Waiting x) h = cc
+flying_by k (Some m) (Taken x c) h = cc
+flying_by k (Some m) Lost h = cc
 
-unsent_by : (i : ℕ) (a : Option (List Event)) (m : Option (List Value)) (b : Option (List Event)) → (a ≡ None) ⊎ ((x : List Event) × (a ≡ Some x) × ⊥) → mark_by i a m b ≡ Unsent
-unsent_by i a m b (inl none) = rw none refl
-unsent_by i a m b (inr x) = absurd x.2
+flies_by : (k : ℕ) (m : Option (List Value)) → IsSome m → marked k m Moving ≡ mark.Flying
+flies_by k None h = cc
+flies_by k (Some m) h = refl
 
-none_or : (a : Option (List Event)) → ((x : List Event) → a ≡ Some x → ⊥) → a ≡ None
-none_or None h = refl
-none_or (Some x) h = absurd (h x refl)
-
-flying_by : (i : ℕ) (a : Option (List Event)) (m : Option (List Value)) (b : Option (List Event)) → mark_by i a m b ≡ Flying → (x : List Event) × (a ≡ Some x) × IsSome m × (b ≡ None)
-flying_by i None m b h = cc
-flying_by i (Some a) None b h = cc
-flying_by i (Some a) (Some m) (Some b) h = cc
-flying_by i (Some a) (Some m) None h = (a, refl, refl, refl)
-
-flies_by : (i : ℕ) (a : Option (List Event)) (m : Option (List Value)) (b : Option (List Event)) (x : List Event) → a ≡ Some x → IsSome m → b ≡ None → mark_by i a m b ≡ Flying
-flies_by i None m b x e s n = cc
-flies_by i (Some a) None b x e s n = cc
-flies_by i (Some a) (Some m) (Some b) x e s n = cc
-flies_by i (Some a) (Some m) None x e s n = refl
-
--- what is released was sent
-sent_before : (w : World) (t : List Event) (n : Name) (b : List Event) (o : Option (List Event)) → sent w t n.from n.to n.round ≡ o → released w t n.from n.to n.round ≡ Some b → (a : List Event) × (sent w t n.from n.to n.round ≡ Some a)
-sent_before w t n b None s h = let none : released w t n.from n.to n.round ≡ None = rw s refl in cc
-sent_before w t n b (Some a) s h = (a, s)
-
-some_of : (o : Option (List Event)) → is_some o ≡ true → (x : List Event) × (o ≡ Some x)
-some_of None h = cc
-some_of (Some x) h = (x, refl)
-
-none_of : (o : Option (List Event)) → is_none o ≡ true → o ≡ None
-none_of None h = refl
-none_of (Some x) h = cc
-
-all_three : (b : Option (List Event)) (m : Option (List Value)) (c : Option (List Event)) (x : List Event) → b ≡ Some x → IsSome m → c ≡ None → (is_some b && is_some m && is_none c) ≡ true
-all_three b m c x p q r = rw (p, q, r) refl
+waiting_by : (f : Fate) → is_waiting f ≡ true → (x : ℕ) × (f ≡ Waiting x)
+waiting_by Unmade h = cc
+waiting_by Moving h = cc
+waiting_by (Waiting x) h = (x, refl)
+waiting_by (Taken x c) h = cc
+waiting_by Lost h = cc
 
 as_one : (b : Bool) (n : ℕ) → n ≡ (if b then 1 else 0) → n ≡ 1 → b ≡ true
 as_one true n h e = refl
@@ -91,93 +83,70 @@ at_most_one false n h = omega arith
 
 -- ---- by places, over the reversed history
 
-module _ {start : ℕ → ℕ} {nodes : ℕ} {v : Log} {counts : List ℕ} {marks : List Mark} {waiting : List (List Name)} {handed : List (List (List Name))} {answers : List Bool} (h : Holds start nodes v counts marks waiting handed answers) where
+-- ---- by places, over the reversed history
+
+module _ {start : ℕ → ℕ} {nodes : ℕ} {v : Log} {counts : List ℕ} {tables : List (List Mark)} {waiting : List (List Name)} {handed : List (List (List Name))} {answers : List Bool} (h : Holds start nodes v counts tables waiting handed answers) where
   own_list : reverse (history v) ≡ v.trace
   own_list = reverse-reverse v.trace
 
-  to_slot : (n : Name) (p : ℕ) → IsSlotAt (world_of start v) v.trace n p → (a : List Event) × (sent (world_of start v) (history v) n.from n.to n.round ≡ Some a) × (length a ≡ p)
-  to_slot n p s = slot_found (world_of start v) (history v) n p (subst (λ z. IsSlotAt (world_of start v) z n p) (sym own_list) s)
+  abbrev fate_in : Name → Fate
+  fate_in n = fate (world_of start v) (history v) n
 
-  of_slot : (n : Name) (a : List Event) → sent (world_of start v) (history v) n.from n.to n.round ≡ Some a → IsSlotAt (world_of start v) v.trace n (length a)
-  of_slot n a s = subst (λ z. IsSlotAt (world_of start v) z n (length a)) own_list (slot_place (world_of start v) (history v) n a s)
+  mark_as : (n : Name) → mark_in start v n ≡ marked n.copy (message_in start v n) (fate_in n)
+  mark_as n = mark_is (world_of start v) (history v) n
 
-  agreed_spoken : (n : Name) (p : ℕ) → IsName v.setup n → IsSlotAt (world_of start v) v.trace n p → IsSpoken (message_in start v n) (mark_in start v n)
-  agreed_spoken n p l s =
-      let w = world_of start v in
-      let a = to_slot n p s in
-      subst (λ z. IsSpoken (message_in start v n) z) (sym (mark_at w (history v) n l.first))
-      (spoken_by n.to (sent w (history v) n.from n.to n.round) (message_in start v n) (released w (history v) n.from n.to n.round) a.0 a.1)
+  to_made : (n : Name) (p : ℕ) → IsMadeAt (world_of start v) v.trace n p → IsMadeAt (world_of start v) (reverse (history v)) n p
+  to_made n p m = subst (λ z. IsMadeAt (world_of start v) z n p) (sym own_list) m
 
-  agreed_unsent : (n : Name) → IsName v.setup n → ((p : ℕ) → IsSlotAt (world_of start v) v.trace n p → ⊥) → mark_in start v n ≡ Unsent
+  agreed_spoken : (n : Name) (p : ℕ) → IsName v.setup n → n.copy ≡ 0 → IsSlotAt (world_of start v) v.trace n p → IsSpoken (message_in start v n) (mark_in start v n)
+  agreed_spoken n p l c s =
+      let made = made_found (world_of start v) (history v) n p (to_made n p (Sent c s)) in
+      subst (λ z. IsSpoken (message_in start v n) z) (sym (mark_as n ∙ ap (λ k. marked k (message_in start v n) (fate_in n)) c))
+      (spoken_by (message_in start v n) (fate_in n) made)
+
+  agreed_unsent : (n : Name) → IsName v.setup n → ((p : ℕ) → IsMadeAt (world_of start v) v.trace n p → ⊥) → mark_in start v n ≡ mark.Unsent
   agreed_unsent n l none =
-      let w = world_of start v in
-      mark_at w (history v) n l.first
-      ∙ unsent_by n.to _ _ _ (inl (none_or (sent w (history v) n.from n.to n.round) (λ a s. none (length a) (of_slot n a s))))
+      mark_as n
+      ∙ ap (marked n.copy (message_in start v n)) (unmade_found (world_of start v) (history v) n (λ a m. none a (subst (λ z. IsMadeAt (world_of start v) z n a) own_list m)))
 
-  flies_to : (n : Name) → IsName v.setup n → mark_in start v n ≡ Flying → IsInFlight start v n
-  flies_to n l e =
-      let w = world_of start v in
-      let t = history v in
-      let x = flying_by n.to (sent w t n.from n.to n.round) (said w t n) (released w t n.from n.to n.round) (sym (mark_at w t n l.first) ∙ e) in
-      record {
-        a = length x.0;
-        slot = of_slot n x.0 x.1;
-        message = x.2;
-        none = λ b late is. release_none w t n x.0 x.1 x.3 b late (subst (λ z. IsReleaseAt z n b) (sym own_list) is);
-      }
+  agreed_uncopied : (n : Name) → IsName v.setup n → 0 < n.copy → message_in start v n ≡ None → mark_in start v n ≡ mark.Unsent
+  agreed_uncopied n l other none =
+      let e : n.copy ≡ suc (n.copy - 1) = omega arith in
+      mark_as n ∙ ap (λ k. marked k (message_in start v n) (fate_in n)) e ∙ silent_by (n.copy - 1) (message_in start v n) (fate_in n) none
 
-  flies_from : (n : Name) → IsName v.setup n → IsInFlight start v n → mark_in start v n ≡ Flying
-  flies_from n l f =
+  flies_to : (n : Name) → mark_in start v n ≡ mark.Flying → IsInFlight start v n
+  flies_to n e =
       let w = world_of start v in
-      let t = history v in
-      let a = to_slot n f.a f.slot in
-      let none : (b : List Event) → released w t n.from n.to n.round ≡ Some b → ⊥ =
-      λ b r.
-      let place = release_place w t n a.0 b a.1 r in
-      f.none (length b) (let late = place.later in let same = a.2 in omega arith) (subst (λ z. IsReleaseAt z n (length b)) own_list place.there) in
-      mark_at w t n l.first
-      ∙ flies_by n.to (sent w t n.from n.to n.round) (said w t n) (released w t n.from n.to n.round) a.0 a.1 f.message (none_or (released w t n.from n.to n.round) none)
+      let x = flying_by n.copy (message_in start v n) (fate_in n) (sym (mark_as n) ∙ e) in
+      let p : IsMoving w v.trace n = subst (λ z. IsMoving w z n) own_list (subst (λ (f : Fate). Placed w (reverse (history v)) n f) x.0 (placed w (history v) n)) in
+      record { a = p.a; made = p.made; message = x.1; none = p.none }
 
-  buffered_to : (n : Name) → IsName v.setup n → is_buffered (world_of start v) (history v) n.from n.to (n.round - 1) ≡ true → IsInBuffer start v n
-  buffered_to n l e =
+  flies_from : (n : Name) → IsInFlight start v n → mark_in start v n ≡ mark.Flying
+  flies_from n f =
       let w = world_of start v in
-      let t = history v in
-      let outer : ((is_some (released w t n.from n.to n.round) && is_some (said w t n)) ≡ true) × (is_none (taken w t n.from n.to n.round) ≡ true) = and_parts _ _ (sym (buffered_at w t n l.first) ∙ e) in
-      let inner : (is_some (released w t n.from n.to n.round) ≡ true) × (is_some (said w t n) ≡ true) = and_parts _ _ outer.0 in
-      let b = some_of (released w t n.from n.to n.round) inner.0 in
-      let none = none_of (taken w t n.from n.to n.round) outer.1 in
-      let a = sent_before w t n b.0 (sent w t n.from n.to n.round) refl b.1 in
-      record {
-        a = length a.0;
-        b = length b.0;
-        slot = of_slot n a.0 a.1;
-        message = inner.1;
-        release = subst (λ z. IsFirstAfter (IsReleaseAt z n) (length a.0) (length b.0)) own_list (release_place w t n a.0 b.0 a.1 b.1);
-        none = λ c late is. receive_none w t n b.0 b.1 none c late (subst (λ z. IsReceiveAt w z n.to c) (sym own_list) is);
-      }
+      let p : IsMoving w v.trace n = record { a = f.a; made = f.made; none = f.none } in
+      mark_as n
+      ∙ ap (marked n.copy (message_in start v n)) (moving_found w (history v) n (subst (λ z. IsMoving w z n) (sym own_list) p))
+      ∙ flies_by n.copy (message_in start v n) f.message
 
-  buffered_from : (n : Name) → IsName v.setup n → IsInBuffer start v n → is_buffered (world_of start v) (history v) n.from n.to (n.round - 1) ≡ true
-  buffered_from n l f =
+  buffered_to : (n : Name) → is_buffered (world_of start v) (history v) n ≡ true → IsInBuffer start v n
+  buffered_to n e =
       let w = world_of start v in
-      let t = history v in
-      let a = to_slot n f.a f.slot in
-      let first : IsFirstAfter (IsReleaseAt (reverse t) n) (length a.0) f.b =
-      subst (λ z. IsFirstAfter (IsReleaseAt (reverse t) n) z f.b) (sym a.2) (subst (λ z. IsFirstAfter (IsReleaseAt z n) f.a f.b) (sym own_list) f.release) in
-      let b = release_found w t n a.0 f.b a.1 first in
-      let none : (c : List Event) → taken w t n.from n.to n.round ≡ Some c → ⊥ =
-      λ c x.
-      let place = receive_place w t n b.0 c b.1 x in
-      f.none (length c) (let late = place.later in let same = b.2 in omega arith) (subst (λ z. IsReceiveAt w z n.to (length c)) own_list place.there) in
-      buffered_at w t n l.first
-      ∙ all_three (released w t n.from n.to n.round) (said w t n) (taken w t n.from n.to n.round) b.0 b.1 f.message (none_or (taken w t n.from n.to n.round) none)
+      let both : (is_waiting (fate_in n) ≡ true) × (is_some (message_in start v n) ≡ true) = and_parts _ _ e in
+      let x = waiting_by (fate_in n) both.0 in
+      let p : IsWaiting w v.trace n x.0 = subst (λ z. IsWaiting w z n x.0) own_list (subst (λ (f : Fate). Placed w (reverse (history v)) n f) x.1 (placed w (history v) n)) in
+      record { a = p.a; b = p.b; made = p.made; message = both.1; leaves = p.leaves; release = p.release; none = p.none }
 
-  counted : (n : Name) → IsName v.setup n → count_by (is_named n.from n.to n.round) (waiting_in start v n.to) ≡ (if is_buffered (world_of start v) (history v) n.from n.to (n.round - 1) then 1 else 0)
-  counted n l =
-      let first = l.first in
-      let last = l.last in
-      let e : suc (n.round - 1) ≡ n.round = omega arith in
-      ap (λ z. count_by (is_named n.from n.to z) (waiting_in start v n.to)) (sym e)
-      ∙ buffer_counts (world_of start v) h.plan (history v) n.from n.to (n.round - 1) (omega arith)
+  buffered_from : (n : Name) → IsInBuffer start v n → is_buffered (world_of start v) (history v) n ≡ true
+  buffered_from n f =
+      let w = world_of start v in
+      let p : IsWaiting w v.trace n (steps_before v.trace n.to f.b) = record { a = f.a; b = f.b; made = f.made; leaves = f.leaves; release = f.release; count = refl; none = f.none } in
+      and_from _ _
+      (ap is_waiting (waiting_found w (history v) n (steps_before v.trace n.to f.b) (subst (λ z. IsWaiting w z n (steps_before v.trace n.to f.b)) (sym own_list) p)))
+      f.message
+
+  counted : (n : Name) → IsName v.setup n → count_by (is_name n) (waiting_in start v n.to) ≡ (if is_buffered (world_of start v) (history v) n then 1 else 0)
+  counted n l = buffer_counts (world_of start v) h.plan (history v) n l.first l.last
 
   -- what the journal answers is what the run in rounds says
   pub agreed : JournalAgrees start v (mark_in start v) (waiting_in start v)
@@ -190,14 +159,15 @@ module _ {start : ℕ → ℕ} {nodes : ℕ} {v : Log} {counts : List ℕ} {mark
         );
         spoken = agreed_spoken;
         unsent = agreed_unsent;
+        uncopied = agreed_uncopied;
         stated = all.stated;
         closed = λ i r l low high. closed_due i r l low high;
         due = λ i r l d. due_near i r l d;
         exact = λ i l d. (let near = all.near i l d.last in let over = d.over in omega arith);
-        flies = λ n l. (flies_to n l, flies_from n l);
+        flies = λ n l. (flies_to n, flies_from n);
         waits = λ n l. (
-          λ e. buffered_to n l (as_one _ _ (counted n l) e),
-          λ f. counted n l ∙ ap (λ (b : Bool). if b then 1 else 0) (buffered_from n l f),
+          λ e. buffered_to n (as_one _ _ (counted n l) e),
+          λ f. counted n l ∙ ap (λ (b : Bool). if b then 1 else 0) (buffered_from n f),
         );
         once = λ n l. at_most_one _ _ (counted n l);
       }

@@ -1,5 +1,5 @@
 -- What closing a round leaves of a record.
-use Rattle.std.proofs.Common.{◌≡◌, ℕ, suc, ◌+◌, ◌-◌, ◌<◌, ◌≤◌, Bool, true, false, not, is_some, List, [], ◌∷◌, ◌++◌, length, set, Option, Some, None, sym, subst, refl, ap, ◌∙◌, arith, if◌then◌else◌}
+use Rattle.std.proofs.Common.{◌≡◌, ℕ, suc, ◌+◌, ◌-◌, ◌<◌, ◌≤◌, Bool, true, false, not, is_some, List, [], ◌∷◌, ◌++◌, length, get_or, set, Option, Some, None, sym, subst, refl, ap, ◌∙◌, arith, if◌then◌else◌}
 use Rattle.std.specs.Prelude.{option_map, Result, Ok, Err, OnErr, IfErr, IsErrAnd}
 use Rattle.std.specs.Option.{ForSome}
 use Rattle.round_lang.specs.declared.value.Value.{Value}
@@ -10,19 +10,20 @@ use Rattle.step_machine.specs.declared.event.Name.{Name}
 use Rattle.step_journal.specs.declared.mark.Mark.{Mark}
 use Rattle.step_journal.specs.Trace.{steps}
 use Rattle.step_journal.specs.World.{earliest}
-use Rattle.step_journal.specs.History.{state, mark_of}
+use Rattle.step_journal.specs.History.{state}
 use Rattle.step_journal.specs.Agreement.{Row, row}
 use Rattle.step_journal.specs.Log.{Log, Recorded, Holds, IsDue, closed, ended, world_of, history, round_of, mark_in, state_before}
 use Rattle.step_journal.specs.Causes.{IsDueIn, IsKnown}
-use Rattle.step_journal.specs.Work.{Tag, tag_of, heard_from, is_within, AreCarried}
+use Rattle.step_journal.specs.Work.{AreCarried, Tag, any_within, heard_from, sent_name, tag_of}
+use Rattle.step_journal.proofs.Fates.{copy_to}
 use Rattle.step_journal.proofs.Heard.{heard_is, sender_closed, tagged, ends_with}
 use Rattle.step_journal.proofs.Keeps.{keeps_close}
 use Rattle.step_journal.proofs.Reading.{nodes_are, one_of}
 
 -- what holds of the view with other rows holds of the fields with them
-pub to_rows : {P : Type 0} {s v : Recorded P} {counts : List ℕ} {marks : List Mark} {waiting : List (List Name)} {handed : List (List (List Name))} {answers : List Bool} {rows : List Row} (start : P → ℕ → ℕ) (nodes : P → ℕ) → s ≡ v → Holds (start v.plan) (nodes v.plan) (record v.log { rows = rows }) counts marks waiting handed answers → Holds (start s.plan) (nodes s.plan) (record s.log { rows = rows }) counts marks waiting handed answers
-to_rows {P} {s} {v} {counts} {marks} {waiting} {handed} {answers} {rows} start nodes e h =
-    subst (λ (z : Recorded P). Holds (start z.plan) (nodes z.plan) (record z.log { rows = rows }) counts marks waiting handed answers) (sym e) h
+pub to_rows : {P : Type 0} {s v : Recorded P} {counts : List ℕ} {tables : List (List Mark)} {waiting : List (List Name)} {handed : List (List (List Name))} {answers : List Bool} {rows : List Row} (start : P → ℕ → ℕ) (nodes : P → ℕ) → s ≡ v → Holds (start v.plan) (nodes v.plan) (record v.log { rows = rows }) counts tables waiting handed answers → Holds (start s.plan) (nodes s.plan) (record s.log { rows = rows }) counts tables waiting handed answers
+to_rows {P} {s} {v} {counts} {tables} {waiting} {handed} {answers} {rows} start nodes e h =
+    subst (λ (z : Recorded P). Holds (start z.plan) (nodes z.plan) (record z.log { rows = rows }) counts tables waiting handed answers) (sym e) h
 
 -- the algorithm of a node of the run is the run's
 same_algorithm : (n : NodeView) (v : Log) → n.program ≡ v.program → n.setup ≡ v.setup → algorithm_in n ≡ algorithm_of v.program v.setup
@@ -96,9 +97,9 @@ none_iff None false e = cc
 none_iff (Some f) true e = cc
 none_iff (Some f) false e = (λ x. cc, λ x. cc)
 
-module _ {start : ℕ → ℕ} {nodes : ℕ} {v : Log} {counts : List ℕ} {marks : List Mark} {waiting : List (List Name)} {handed : List (List (List Name))} {answers : List Bool} (h : Holds start nodes v counts marks waiting handed answers) where
+module _ {start : ℕ → ℕ} {nodes : ℕ} {v : Log} {counts : List ℕ} {tables : List (List Mark)} {waiting : List (List Name)} {handed : List (List (List Name))} {answers : List Bool} (h : Holds start nodes v counts tables waiting handed answers) where
   -- rows that stay
-  pub same_rows : (rows : List Row) → rows ≡ v.rows → Holds start nodes (record v { rows = rows }) counts marks waiting handed answers
+  pub same_rows : (rows : List Row) → rows ≡ v.rows → Holds start nodes (record v { rows = rows }) counts tables waiting handed answers
   same_rows rows e = record {
     lawful = h.lawful;
     sized = h.sized;
@@ -108,54 +109,53 @@ module _ {start : ℕ → ℕ} {nodes : ℕ} {v : Log} {counts : List ℕ} {mark
     accounts = h.accounts;
   }
 
+  -- one of the copies was released in time to be carried to a round
+  abbrev within : ℕ → ℕ → ℕ → Bool
+  within i j r = any_within (λ k. mark_in start v (copy_to j i r k)) (start (earliest r)) (start (r + 1))
+
+  -- the tag of what was carried to a round
+  abbrev heard_at : ℕ → ℕ → ℕ → Option Tag
+  heard_at i j r = if within i j r then Some (record { name = sent_name j i r; state = state_before v j r }) else None
+
   -- what was carried to a due round, by the marks
-  pub heard_read : (i j : ℕ) → i < v.setup.nodes → j < v.setup.nodes → IsDue start v i → heard_from (world_of start v) (history v) i (round_of v i - 1) j ≡ (if is_within (mark_in start v (record { from = j; to = i; round = round_of v i })) (start (earliest (round_of v i))) (start (round_of v i + 1)) then Some (record { name = record { from = j; to = i; round = round_of v i }; state = state_before v j (round_of v i) }) else None)
+  heard_read : (i j : ℕ) → i < v.setup.nodes → j < v.setup.nodes → IsDue start v i → heard_from (world_of start v) (history v) i (round_of v i - 1) j ≡ heard_at i j (round_of v i)
   heard_read i j l m due =
       let w = world_of start v in
       let t = history v in
       let low = h.book.began i (one_of start v i l) in
-      let within = due.0 in
+      let few = due.0 in
       let q = round_of v i - 1 in
       let r : suc q ≡ round_of v i = omega arith in
-      let first = ap (λ x. start (earliest x)) r in
-      let end : start (suc q + 1) ≡ start (round_of v i + 1) = ap (λ x. start (x + 1)) r in
-      let late : start (suc q + 1) ≤ steps i t = let d = due.1 in omega arith in
-      let same : is_within (mark_of w t j i q) (start (earliest (suc q))) (start (suc q + 1)) ≡ is_within (mark_of w t j i q) (start (earliest (round_of v i))) (start (round_of v i + 1)) =
-      ap (λ x. is_within (mark_of w t j i q) x (start (suc q + 1))) first ∙ ap (is_within (mark_of w t j i q) (start (earliest (round_of v i)))) end in
-      let known : is_within (mark_of w t j i q) (start (earliest (round_of v i))) (start (round_of v i + 1)) ≡ true → ◌≡◌ {A = Tag} (tagged j i q (state w t q j)) (record { name = record { from = j; to = i; round = round_of v i }; state = state_before v j (round_of v i) }) =
+      let less : suc q - 1 ≡ q = omega arith in
+      let late : start (suc q + 1) ≤ steps i t = let d = due.1 in let end = ap (λ x. start (x + 1)) r in omega arith in
+      let known : within i j (suc q) ≡ true → ◌≡◌ {A = Tag} (tagged j i q (state w t q j)) (record { name = sent_name j i (suc q); state = state_before v j (suc q) }) =
       λ c.
-      let closed = sender_closed w h.plan t counts v.rows marks j i q (start (earliest (round_of v i))) (start (round_of v i + 1)) (one_of start v j m) (omega arith) c h.book in
-      ap (λ x. record { name = record { from = j; to = i; round = x }; state = state w t q j }) r
-      ∙ ap (λ x. record { name = record { from = j; to = i; round = round_of v i }; state = x }) (sym (h.book.stated j q (one_of start v j m) closed)) in
+      let closed = sender_closed w h.plan t counts v.rows tables j i q (start (earliest (suc q))) (start (suc q + 1)) (one_of start v j m) (omega arith) c h.book in
+      ap (λ x. record { name = sent_name j i (suc q); state = x }) (sym (h.book.stated j q (one_of start v j m) closed) ∙ ap (λ x. get_or (row v.rows j) x []) (sym less)) in
       heard_is w h.plan t i q j (omega arith) late
-      ∙ ap (λ (c : Bool). if c then Some (tagged j i q (state w t q j)) else None) same
-      ∙ if_some (is_within (mark_of w t j i q) (start (earliest (round_of v i))) (start (round_of v i + 1))) known
+      ∙ if_some (within i j (suc q)) known
+      ∙ ap (heard_at i j) r
 
   -- the same by what the calls answer
-  pub heard_by : (i j r : ℕ) (m : Mark) (first end : ℕ) (b : Bool) → i < v.setup.nodes → j < v.setup.nodes → IsDue start v i → r ≡ round_of v i → m ≡ mark_in start v (record { from = j; to = i; round = r }) → first ≡ start (earliest r) → end ≡ start (r + 1) → is_within m first end ≡ b → heard_from (world_of start v) (history v) i (round_of v i - 1) j ≡ (if b then Some (record { name = record { from = j; to = i; round = r }; state = state_before v j r }) else None)
-  heard_by i j r m first end b l k due e a x y is =
-      let mark = mark_in start v (record { from = j; to = i; round = r }) in
-      let here : is_within mark (start (earliest r)) (start (r + 1)) ≡ b =
-      ap (λ z. is_within z (start (earliest r)) (start (r + 1))) (sym a) ∙ ap (λ z. is_within m z (start (r + 1))) (sym x) ∙ ap (is_within m first) (sym y) ∙ is in
+  pub heard_by : (i j r first end : ℕ) (b : Bool) → i < v.setup.nodes → j < v.setup.nodes → IsDue start v i → r ≡ round_of v i → first ≡ start (earliest r) → end ≡ start (r + 1) → any_within (λ k. mark_in start v (copy_to j i r k)) first end ≡ b → heard_from (world_of start v) (history v) i (round_of v i - 1) j ≡ (if b then Some (record { name = sent_name j i r; state = state_before v j r }) else None)
+  heard_by i j r first end b l k due e x y is =
       heard_read i j l k due
-      ∙ ap (λ (z : ℕ). if is_within (mark_in start v (record { from = j; to = i; round = z })) (start (earliest z)) (start (z + 1)) then Some (record { name = record { from = j; to = i; round = z }; state = state_before v j z }) else None) (sym e)
-      ∙ ap (λ (c : Bool). if c then Some (record { name = record { from = j; to = i; round = r }; state = state_before v j r }) else None) here
-
-  -- the sender of what was carried to a due round has closed the round before
-  pub sender_in : (i j : ℕ) → i < v.setup.nodes → j < v.setup.nodes → IsDue start v i → is_within (mark_in start v (record { from = j; to = i; round = round_of v i })) (start (earliest (round_of v i))) (start (round_of v i + 1)) ≡ true → round_of v i - 1 < round_of v j
-  sender_in i j l m due c =
-      let low = h.book.began i (one_of start v i l) in
-      let within = due.0 in
-      sender_closed (world_of start v) h.plan (history v) counts v.rows marks j i (round_of v i - 1) (start (earliest (round_of v i))) (start (round_of v i + 1)) (one_of start v j m) (omega arith) c h.book
+      ∙ ap (heard_at i j) (sym e)
+      ∙ ap (λ (c : Bool). if c then Some (record { name = sent_name j i r; state = state_before v j r }) else None) (within_by i j r first end b x y is)
+    where
+      within_by : (i j r first end : ℕ) (b : Bool) → first ≡ start (earliest r) → end ≡ start (r + 1) → any_within (λ k. mark_in start v (copy_to j i r k)) first end ≡ b → within i j r ≡ b
+      within_by i j r first end b x y is =
+          ap (λ z. any_within (λ k. mark_in start v (copy_to j i r k)) z (start (r + 1))) (sym x)
+          ∙ ap (any_within (λ k. mark_in start v (copy_to j i r k)) first) (sym y) ∙ is
 
   -- the row of the sender of what was carried is long enough
-  pub sender_by : (i j r : ℕ) (m : Mark) (first end : ℕ) → i < v.setup.nodes → j < v.setup.nodes → IsDue start v i → r ≡ round_of v i → m ≡ mark_in start v (record { from = j; to = i; round = r }) → first ≡ start (earliest r) → end ≡ start (r + 1) → is_within m first end ≡ true → r - 1 < round_of v j
-  sender_by i j r m first end l k due e a x y is =
-      let here : is_within (mark_in start v (record { from = j; to = i; round = r })) (start (earliest r)) (start (r + 1)) ≡ true =
-      ap (λ z. is_within z (start (earliest r)) (start (r + 1))) (sym a) ∙ ap (λ z. is_within m z (start (r + 1))) (sym x) ∙ ap (is_within m first) (sym y) ∙ is in
-      let P : ℕ → Type 0 = λ z. is_within (mark_in start v (record { from = j; to = i; round = z })) (start (earliest z)) (start (z + 1)) ≡ true in
-      let long = sender_in i j l k due (subst P e here) in
-      omega arith
+  pub sender_by : (i j r first end : ℕ) → i < v.setup.nodes → j < v.setup.nodes → IsDue start v i → r ≡ round_of v i → any_within (λ k. mark_in start v (copy_to j i r k)) first end ≡ true → r - 1 < round_of v j
+  sender_by i j r first end l k due e is =
+      let low = h.book.began i (one_of start v i l) in
+      let few = due.0 in
+      let q : suc (r - 1) ≡ r = omega arith in
+      sender_closed (world_of start v) h.plan (history v) counts v.rows tables j i (r - 1) first end (one_of start v j k) (omega arith)
+      (ap (λ x. any_within (λ c. mark_in start v (copy_to j i x c)) first end) q ∙ is) h.book
 
   -- what a node of the run finished from its recorded state with what was carried to it is the state of the run in rounds
   ended_is : (n : NodeView) → n.me < v.setup.nodes → n.program ≡ v.program → n.setup ≡ v.setup → length (held_now n) ≡ n.setup.nodes → IsHeld (algorithm_in n) n.setup.nodes n.me n.round (held_now n) → IsDueIn start v n → IsKnown start v n → ended n ≡ state (world_of start v) (history v) (round_of v n.me) n.me
@@ -178,12 +178,12 @@ module _ {start : ℕ → ℕ} {nodes : ℕ} {v : Log} {counts : List ℕ} {mark
       ends_with w t n.me q n.state (ended n) (held_now n) own (size ∙ setup_nodes ∙ sym m) known.1 (λ j b. from j (omega arith)) end
       ∙ ap (λ x. state w t x n.me) (sym r ∙ sym round_is)
 
-  pub close : (n : NodeView) (rows : List Row) → n.me < v.setup.nodes → n.program ≡ v.program → n.setup ≡ v.setup → length (held_now n) ≡ n.setup.nodes → IsHeld (algorithm_in n) n.setup.nodes n.me n.round (held_now n) → IsDueIn start v n → IsKnown start v n → rows ≡ (closed v n).rows → Holds start nodes (record v { rows = rows }) counts marks waiting handed answers
+  pub close : (n : NodeView) (rows : List Row) → n.me < v.setup.nodes → n.program ≡ v.program → n.setup ≡ v.setup → length (held_now n) ≡ n.setup.nodes → IsHeld (algorithm_in n) n.setup.nodes n.me n.round (held_now n) → IsDueIn start v n → IsKnown start v n → rows ≡ (closed v n).rows → Holds start nodes (record v { rows = rows }) counts tables waiting handed answers
   close n rows l p s size held due known e = record {
     lawful = h.lawful;
     sized = h.sized;
     plan = h.plan;
-    book = rw e (keeps_close (world_of start v) h.plan (history v) counts v.rows marks n.me (ended n) (one_of start v n.me l) due.0.0 due.0.1 (ended_is n l p s size held due known) h.book);
+    book = rw e (keeps_close (world_of start v) h.plan (history v) counts v.rows tables n.me (ended n) (one_of start v n.me l) due.0.0 due.0.1 (ended_is n l p s size held due known) h.book);
     waits = h.waits;
     accounts = h.accounts;
   }

@@ -1,39 +1,42 @@
 -- What each event leaves of a record.
-use Rattle.std.proofs.Common.{◌≡◌, ℕ, suc, ◌+◌, ◌-◌, ◌*◌, ◌<◌, ◌≤◌, Bool, true, false, leb, List, [], ◌∷◌, ◌++◌, length, get_or, set, sym, subst, refl, ap, ◌∙◌, arith, ◌⊎◌, inl, inr}
+use Rattle.std.proofs.Common.{◌≡◌, ℕ, suc, ◌+◌, ◌-◌, ◌*◌, ◌<◌, ◌≤◌, Bool, true, false, ◌&&◌, leb, List, [], ◌∷◌, ◌++◌, length, get_or, set, sym, subst, refl, ap, if◌then◌else◌, ◌∙◌, arith, ◌⊎◌, inl, inr}
 use Rattle.std.specs.Prelude.{reverse}
-use Rattle.std.proofs.lemmas.Bool.{cases_lt, lt-leb, leb-true}
+use Rattle.std.proofs.lemmas.Bool.{and_parts, cases_lt, lt-leb, leb-true}
 use Rattle.std.proofs.lemmas.List.{reverse-append, length-reverse}
 use Rattle.round_meaning.specs.Rounds.{algorithm_of}
-use Rattle.step_machine.specs.Frames.{Ready, IsPrepared}
+use Rattle.step_machine.specs.Frames.{Ready, IsPrepared, original}
 use Rattle.step_machine.specs.declared.event.Event.{Event}
-use Rattle.step_machine.specs.declared.event.Event.TheVariants.{Step, Release}
+use Rattle.step_machine.specs.declared.event.Event.TheVariants.{Step, Release, Drop, Copy}
 use Rattle.step_machine.specs.declared.event.Name.{Name}
 use Rattle.step_journal.specs.declared.mark.Mark.{Mark}
-use Rattle.step_journal.specs.declared.mark.Mark.TheVariants.{Unsent, Silent, Flying, Released}
+use Rattle.step_journal.specs.declared.mark.Mark.TheVariants.{Unsent, Silent, Flying, Released, Lost}
 use Rattle.step_journal.specs.World.{World, nodes_of, is_receive}
 use Rattle.step_journal.specs.Trace.{steps}
-use Rattle.step_journal.specs.History.{message, state, spoken, let_go, arrival, is_flying}
-use Rattle.step_journal.specs.Agreement.{Row, place_of, Agrees, Waits, Accounts, Puts, SameTable}
-use Rattle.step_journal.specs.Log.{Log, Recorded, Holds, IsName, IsDue, IsSlot, IsFlying, world_of, history, round_of, count_of, mark_in}
+use Rattle.step_journal.specs.History.{arrival, copied, dropped, is_copied, is_flying, is_unsent, let_go, message, spoken, state}
+use Rattle.step_journal.specs.Agreement.{Row, place_of, Agrees, Waits, Accounts}
+use Rattle.step_journal.specs.Tables.{Puts, SameTables, read_at}
+use Rattle.step_journal.specs.Log.{CanCopy, Log, Recorded, Holds, IsDue, IsSlot, IsFlying, world_of, history, round_of, count_of, mark_in}
+use Rattle.step_journal.specs.Names.{IsName}
 use Rattle.step_journal.specs.Causes.{IsSendFit, IsReceiveFit}
 use Rattle.step_journal.proofs.Plans.{is_receive_at}
 use Rattle.step_journal.proofs.Places.{steps_le}
-use Rattle.step_journal.proofs.Keeps.{keeps_idle, keeps_receive, keeps_send, keeps_release, round_same, idle_no_slot}
-use Rattle.step_journal.proofs.WaitsKept.{idle_is_no_receive, waits_step, waits_receive, waits_release, waits_late}
-use Rattle.step_journal.proofs.AccountsKept.{accounts_step, accounts_receive, accounts_release}
+use Rattle.step_journal.proofs.Keeps.{copied_other, dropped_other, keeps_idle, keeps_network, keeps_receive, keeps_send, released_other, round_same, idle_no_slot}
+use Rattle.step_journal.proofs.Kept.{mark_copy, mark_drop, mark_release}
+use Rattle.step_journal.proofs.WaitsKept.{idle_is_no_receive, waits_late, waits_quiet, waits_receive, waits_release, waits_step}
+use Rattle.step_journal.proofs.AccountsKept.{accounts_answer, accounts_receive, accounts_step}
 use Rattle.step_journal.proofs.Tables.{puts_same}
-use Rattle.step_journal.proofs.Reading.{nodes_are, one_of}
+use Rattle.step_journal.proofs.Reading.{named, nodes_are, one_of}
 
 -- what holds of the view with other events holds of the fields with them
-pub to_fields : {P : Type 0} {s v : Recorded P} {counts : List ℕ} {marks : List Mark} {waiting : List (List Name)} {handed : List (List (List Name))} {answers : List Bool} {trace : List Event} (start : P → ℕ → ℕ) (nodes : P → ℕ) → s ≡ v → Holds (start v.plan) (nodes v.plan) (record v.log { trace = trace }) counts marks waiting handed answers → Holds (start s.plan) (nodes s.plan) (record s.log { trace = trace }) counts marks waiting handed answers
-to_fields {P} {s} {v} {counts} {marks} {waiting} {handed} {answers} {trace} start nodes e h =
-    subst (λ (z : Recorded P). Holds (start z.plan) (nodes z.plan) (record z.log { trace = trace }) counts marks waiting handed answers) (sym e) h
+pub to_fields : {P : Type 0} {s v : Recorded P} {counts : List ℕ} {tables : List (List Mark)} {waiting : List (List Name)} {handed : List (List (List Name))} {answers : List Bool} {trace : List Event} (start : P → ℕ → ℕ) (nodes : P → ℕ) → s ≡ v → Holds (start v.plan) (nodes v.plan) (record v.log { trace = trace }) counts tables waiting handed answers → Holds (start s.plan) (nodes s.plan) (record s.log { trace = trace }) counts tables waiting handed answers
+to_fields {P} {s} {v} {counts} {tables} {waiting} {handed} {answers} {trace} start nodes e h =
+    subst (λ (z : Recorded P). Holds (start z.plan) (nodes z.plan) (record z.log { trace = trace }) counts tables waiting handed answers) (sym e) h
 
 -- one event more stands first in the history
 pub pushed : (xs : List Event) (x : Event) (ys : List Event) → ys ≡ xs ++ x ∷ [] → reverse ys ≡ x ∷ reverse xs
 pushed xs x ys h = ap reverse h ∙ reverse-append xs (x ∷ [])
 
-same_marks : (w : World) (t : List Event) (counts : List ℕ) (rows : List Row) (old new : List Mark) → SameTable old new → Agrees w t counts rows old → Agrees w t counts rows new
+same_marks : (w : World) (t : List Event) (counts : List ℕ) (rows : List Row) (old new : List (List Mark)) → SameTables Unsent old new → Agrees w t counts rows old → Agrees w t counts rows new
 same_marks w t counts rows old new e a = record {
   counted = a.counted;
   count = a.count;
@@ -43,43 +46,82 @@ same_marks w t counts rows old new e a = record {
   past = a.past;
   near = a.near;
   stated = a.stated;
-  mark = λ j i q x y z. e (place_of w j i q) ∙ a.mark j i q x y z;
+  mark = λ n x. e n.copy (place_of w n) ∙ a.mark n x;
 }
 
--- a release changes no mark but Flying
+-- what isn't in flight stays as it is
 pub let_go_idle : (x : ℕ) (m : Mark) → (m ≡ Flying → ⊥) → let_go x m ≡ m
 let_go_idle x Unsent e = refl
 let_go_idle x Silent e = refl
 let_go_idle x Flying e = absurd (e refl)
 let_go_idle x (Released y) e = refl
+let_go_idle x Lost e = refl
 
--- what isn't in flight doesn't arrive
+pub dropped_idle : (m : Mark) → (m ≡ Flying → ⊥) → dropped m ≡ m
+dropped_idle Unsent e = refl
+dropped_idle Silent e = refl
+dropped_idle Flying e = absurd (e refl)
+dropped_idle (Released y) e = refl
+dropped_idle Lost e = refl
+
 pub arrival_idle : (n : Name) (m : Mark) → (m ≡ Flying → ⊥) → arrival n m ≡ []
 arrival_idle n Unsent e = refl
 arrival_idle n Silent e = refl
 arrival_idle n Flying e = absurd (e refl)
 arrival_idle n (Released y) e = refl
+arrival_idle n Lost e = refl
 
 idle_flag : (m : Mark) → (m ≡ Flying → ⊥) → is_flying m ≡ false
 idle_flag Unsent e = refl
 idle_flag Silent e = refl
 idle_flag Flying e = absurd (e refl)
 idle_flag (Released y) e = refl
+idle_flag Lost e = refl
 
-module _ {start : ℕ → ℕ} {nodes : ℕ} {v : Log} {counts : List ℕ} {marks : List Mark} {waiting : List (List Name)} {handed : List (List (List Name))} {answers : List Bool} (h : Holds start nodes v counts marks waiting handed answers) where
+flying_flag : (m : Mark) → is_flying m ≡ true → m ≡ Flying
+flying_flag Unsent e = cc
+flying_flag Silent e = cc
+flying_flag Flying e = refl
+flying_flag (Released y) e = cc
+flying_flag Lost e = cc
+
+unsent_flag : (m : Mark) → is_unsent m ≡ true → m ≡ Unsent
+unsent_flag Unsent e = refl
+unsent_flag Silent e = cc
+unsent_flag Flying e = cc
+unsent_flag (Released y) e = cc
+unsent_flag Lost e = cc
+
+-- a copy is made of what is in flight alone, and once
+pub copied_now : (first m : Mark) → first ≡ Flying → m ≡ Unsent → is_copied first m ≡ true
+copied_now first m a b = rw (a, b) refl
+
+copied_idle_by : (first m : Mark) (b : Bool) → is_copied first m ≡ b → ((first ≡ Flying) × (m ≡ Unsent) → ⊥) → b ≡ false
+copied_idle_by first m true h off =
+    let both : (is_flying first ≡ true) × (is_unsent m ≡ true) = and_parts _ _ h in
+    absurd (off (flying_flag first both.0, unsent_flag m both.1))
+copied_idle_by first m false h off = refl
+
+copied_off : (first m : Mark) → ((first ≡ Flying) × (m ≡ Unsent) → ⊥) → is_copied first m ≡ false
+copied_off first m off = copied_idle_by first m (is_copied first m) refl off
+
+pub copied_idle : (first m : Mark) → ((first ≡ Flying) × (m ≡ Unsent) → ⊥) → copied first m ≡ m
+copied_idle first m off = rw (copied_off first m off) refl
+
+module _ {start : ℕ → ℕ} {nodes : ℕ} {v : Log} {counts : List ℕ} {tables : List (List Mark)} {waiting : List (List Name)} {handed : List (List (List Name))} {answers : List Bool} (h : Holds start nodes v counts tables waiting handed answers) where
   -- nothing was recorded
-  pub kept : (trace : List Event) (st : List ℕ) (mk : List Mark) (wt : List (List Name)) (hd : List (List (List Name))) (tl : List Bool) → trace ≡ v.trace → st ≡ counts → SameTable marks mk → wt ≡ waiting → hd ≡ handed → tl ≡ answers → Holds start nodes (record v { trace = trace }) st mk wt hd tl
+  pub kept : (trace : List Event) (st : List ℕ) (mk : List (List Mark)) (wt : List (List Name)) (hd : List (List (List Name))) (tl : List Bool) → trace ≡ v.trace → st ≡ counts → SameTables Unsent tables mk → wt ≡ waiting → hd ≡ handed → tl ≡ answers → Holds start nodes (record v { trace = trace }) st mk wt hd tl
   kept trace st mk wt hd tl a b c d e f = record {
     lawful = h.lawful;
     sized = h.sized;
     plan = h.plan;
-    book = rw (a, b) (same_marks (world_of start v) (history v) counts v.rows marks mk c h.book);
+    book = rw (a, b) (same_marks (world_of start v) (history v) counts v.rows tables mk c h.book);
     waits = rw (a, d) h.waits;
     accounts = rw (a, e, f) h.accounts;
   }
 
   -- an event was recorded
-  noted : (e : Event) (trace : List Event) (st : List ℕ) (mk : List Mark) (wt : List (List Name)) (hd : List (List (List Name))) (tl : List Bool) → trace ≡ v.trace ++ e ∷ [] → Agrees (world_of start v) (e ∷ history v) st v.rows mk → Waits (world_of start v) (e ∷ history v) wt → Accounts (world_of start v) (e ∷ history v) hd tl → Holds start nodes (record v { trace = trace }) st mk wt hd tl
+  noted : (e : Event) (trace : List Event) (st : List ℕ) (mk : List (List Mark)) (wt : List (List Name)) (hd : List (List (List Name))) (tl : List Bool) → trace ≡ v.trace ++ e ∷ [] → Agrees (world_of start v) (e ∷ history v) st v.rows mk → Waits (world_of start v) (e ∷ history v) wt → Accounts (world_of start v) (e ∷ history v) hd tl → Holds start nodes (record v { trace = trace }) st mk wt hd tl
   noted e trace st mk wt hd tl n a b c =
       let is : reverse trace ≡ e ∷ history v = pushed v.trace e trace n in
       record {
@@ -124,14 +166,14 @@ module _ {start : ℕ → ℕ} {nodes : ℕ} {v : Log} {counts : List ℕ} {mark
   pub idle_none : (k : ℕ) → k < v.setup.nodes → v.setup.rounds < round_of v k → is_receive (world_of start v) (count_of v k) ≡ false
   idle_none k l late = idle_is_no_receive (world_of start v) h.plan (count_of v k) (count_idle k l late)
 
-  pub idle : (k : ℕ) (trace : List Event) (st : List ℕ) → k < v.setup.nodes → v.setup.rounds < round_of v k → trace ≡ v.trace ++ Step k ∷ [] → st ≡ set counts k (get_or counts k 0 + 1) → Holds start nodes (record v { trace = trace }) st marks waiting handed answers
+  pub idle : (k : ℕ) (trace : List Event) (st : List ℕ) → k < v.setup.nodes → v.setup.rounds < round_of v k → trace ≡ v.trace ++ Step k ∷ [] → st ≡ set counts k (get_or counts k 0 + 1) → Holds start nodes (record v { trace = trace }) st tables waiting handed answers
   idle k trace st l b e f =
       let w = world_of start v in
       let high = h.book.bounded k (one_of start v k l) in
       let n : round_of v k ≡ v.setup.rounds + 1 = omega arith in
       let none = idle_is_no_receive w h.plan (count_of v k) (count_idle k l b) in
-      noted (Step k) trace st marks waiting handed answers e
-      (rw f (keeps_idle w h.plan (history v) counts v.rows marks k _ (one_of start v k l) (next_count k l) n h.book))
+      noted (Step k) trace st tables waiting handed answers e
+      (rw f (keeps_idle w h.plan (history v) counts v.rows tables k _ (one_of start v k l) (next_count k l) n h.book))
       (waits_step w (history v) waiting k none h.waits)
       (accounts_step w (history v) handed answers k none h.accounts)
 
@@ -154,15 +196,15 @@ module _ {start : ℕ → ℕ} {nodes : ℕ} {v : Log} {counts : List ℕ} {mark
           let low = leb-true (start (round_of v k) + nodes_of w) (count_of v k) (sym is ∙ fit.1) in
           (within, omega arith, soon)
 
-  pub received : (k : ℕ) (trace : List Event) (st : List ℕ) (wt : List (List Name)) (hd : List (List (List Name))) (b : List Name) → k < v.setup.nodes → IsReceiveFit start v k → b ≡ get_or waiting k [] → trace ≡ v.trace ++ Step k ∷ [] → st ≡ set counts k (get_or counts k 0 + 1) → wt ≡ set waiting k [] → hd ≡ set handed k (get_or handed k [] ++ b ∷ []) → Holds start nodes (record v { trace = trace }) st marks wt hd answers
+  pub received : (k : ℕ) (trace : List Event) (st : List ℕ) (wt : List (List Name)) (hd : List (List (List Name))) (b : List Name) → k < v.setup.nodes → IsReceiveFit start v k → b ≡ get_or waiting k [] → trace ≡ v.trace ++ Step k ∷ [] → st ≡ set counts k (get_or counts k 0 + 1) → wt ≡ set waiting k [] → hd ≡ set handed k (get_or handed k [] ++ b ∷ []) → Holds start nodes (record v { trace = trace }) st tables wt hd answers
   received k trace st wt hd b l fit x e f g i =
       let w = world_of start v in
       let m = one_of start v k l in
       let at = receive_place k l fit in
       let n = nodes_are start v in
       let low : start (round_of v k) + nodes_of w ≤ count_of v k = let a = at.1 in omega arith in
-      noted (Step k) trace st marks wt hd answers e
-      (rw f (keeps_receive w h.plan (history v) counts v.rows marks k _ m (next_count k l) at.0 low at.2 h.book))
+      noted (Step k) trace st tables wt hd answers e
+      (rw f (keeps_receive w h.plan (history v) counts v.rows tables k _ m (next_count k l) at.0 low at.2 h.book))
       (rw g (waits_receive w (history v) waiting k m fit.1 h.waits))
       (rw i (accounts_receive w (history v) handed answers k b m fit.1 (x ∙ h.waits.held k m) h.accounts))
 
@@ -203,72 +245,113 @@ module _ {start : ℕ → ℕ} {nodes : ℕ} {v : Log} {counts : List ℕ} {mark
       is_receive_at w h.plan n.round (count_of v n.from) a.first a.last (omega arith) (omega arith) ∙ lt-leb (start n.round + nodes_of w) (count_of v n.from) (omega arith)
 
   -- what is sent is the message of the run in rounds
-  pub message_is : (p : Ready) → IsName v.setup p.name → IsPrepared (algorithm_of v.program v.setup) p → IsSendFit start v p → p.message ≡ message (world_of start v) (history v) (p.name.round - 1) p.name.from p.name.to
+  pub message_is : (p : Ready) → IsName v.setup p.name → IsPrepared (algorithm_of v.program v.setup) p → IsSendFit start v p → p.message ≡ message (world_of start v) (history v) p.name
   message_is p a work fit =
       let w = world_of start v in
       let n = p.name in
       let first = a.first in
-      let e : n.round ≡ suc (n.round - 1) = omega arith in
       let round_is = send_round n a fit.0 fit.1 in
       let own : p.state ≡ state w (history v) (n.round - 1) n.from =
       sym fit.2 ∙ h.book.stated n.from (n.round - 1) (one_of start v n.from a.from) (omega arith) in
-      sym work.says ∙ ap (λ r. w.algorithm.send r p.state n.from n.to) e ∙ ap (λ x. w.algorithm.send (suc (n.round - 1)) x n.from n.to) own
+      sym work.says ∙ ap (λ x. w.algorithm.send n.round x n.from n.to) own
 
-  pub sent : (p : Ready) (trace : List Event) (st : List ℕ) (mk : List Mark) (place : ℕ) (x : Mark) → IsName v.setup p.name → IsPrepared (algorithm_of v.program v.setup) p → IsSendFit start v p → place ≡ ((p.name.round - 1) * v.setup.nodes + p.name.from) * v.setup.nodes + p.name.to → x ≡ spoken p.message → trace ≡ v.trace ++ Step p.name.from ∷ [] → st ≡ set counts p.name.from (get_or counts p.name.from 0 + 1) → Puts marks mk place x → Holds start nodes (record v { trace = trace }) st mk waiting handed answers
-  sent p trace st mk place x a work fit at is e f g =
+  pub sent : (p : Ready) (trace : List Event) (st : List ℕ) (mk : List (List Mark)) (place : ℕ) (x : Mark) → IsName v.setup p.name → p.name.copy ≡ 0 → IsPrepared (algorithm_of v.program v.setup) p → IsSendFit start v p → place ≡ ((p.name.round - 1) * v.setup.nodes + p.name.from) * v.setup.nodes + p.name.to → x ≡ spoken p.message → trace ≡ v.trace ++ Step p.name.from ∷ [] → st ≡ set counts p.name.from (get_or counts p.name.from 0 + 1) → Puts Unsent tables mk 0 place x → Holds start nodes (record v { trace = trace }) st mk waiting handed answers
+  sent p trace st mk place x a c work fit at is e f g =
       let w = world_of start v in
       let n = p.name in
-      let first = a.first in
-      let last = a.last in
-      let r : n.round ≡ suc (n.round - 1) = omega arith in
-      let there : place ≡ place_of w n.from n.to (n.round - 1) = at ∙ ap (λ m. ((n.round - 1) * m + n.from) * m + n.to) (sym (nodes_are start v)) in
-      let slot : count_of v n.from ≡ start (suc (n.round - 1)) + n.to = fit.1 ∙ ap (λ y. start y + n.to) r in
+      let there : place ≡ place_of w n = at ∙ ap (λ m. ((n.round - 1) * m + n.from) * m + n.to) (sym (nodes_are start v)) in
       let none = slot_no_receive n a fit.1 in
+      let puts : Puts Unsent tables mk n.copy (place_of w n) x = subst (λ (z : ℕ). Puts Unsent tables mk z (place_of w n) x) (sym c) (subst (λ (z : ℕ). Puts Unsent tables mk 0 z x) there g) in
       noted (Step n.from) trace st mk waiting handed answers e
-      (rw f (keeps_send w h.plan (history v) counts v.rows marks mk n.from n.to (n.round - 1) _ x (one_of start v n.from a.from) (one_of start v n.to a.to) (omega arith)
-      (next_count n.from a.from) (send_round n a fit.0 fit.1 ∙ r) slot (is ∙ ap spoken (message_is p a work fit))
-      (subst (λ (z : ℕ). Puts marks mk z x) there g) h.book))
+      (rw f (keeps_send w h.plan (history v) counts v.rows tables mk n _ x (named start v n a) c
+      (next_count n.from a.from) (send_round n a fit.0 fit.1) fit.1 (is ∙ ap spoken (message_is p a work fit)) puts h.book))
       (waits_step w (history v) waiting n.from none h.waits)
       (accounts_step w (history v) handed answers n.from none h.accounts)
 
-  -- ---- a release
+  -- ---- an event of the network
 
-  -- a message in flight goes to those that wait
-  pub moved : (n : Name) (trace : List Event) (mk : List Mark) (place : ℕ) (wt : List (List Name)) (hd : List (List (List Name))) (tl : List Bool) → IsName v.setup n → IsFlying start v n → place ≡ ((n.round - 1) * v.setup.nodes + n.from) * v.setup.nodes + n.to → trace ≡ v.trace ++ Release n ∷ [] → Puts marks mk place (Released (count_of v n.to)) → wt ≡ set waiting n.to (get_or waiting n.to [] ++ n ∷ []) → hd ≡ handed → tl ≡ answers ++ true ∷ [] → Holds start nodes (record v { trace = trace }) counts mk wt hd tl
+  -- a place of the table, by the setup's nodes
+  place_in : (n : Name) (place : ℕ) → place ≡ ((n.round - 1) * v.setup.nodes + n.from) * v.setup.nodes + n.to → place ≡ place_of (world_of start v) n
+  place_in n place at = at ∙ ap (λ m. ((n.round - 1) * m + n.from) * m + n.to) (sym (nodes_are start v))
+
+  -- the mark in the table
+  read : (n : Name) → IsName v.setup n → read_at Unsent tables n.copy (place_of (world_of start v) n) ≡ mark_in start v n
+  read n a = h.book.mark n (named start v n a)
+
+  -- a copy in flight goes to those that wait
+  pub moved : (n : Name) (trace : List Event) (mk : List (List Mark)) (place : ℕ) (wt : List (List Name)) (hd : List (List (List Name))) (tl : List Bool) → IsName v.setup n → IsFlying start v n → place ≡ ((n.round - 1) * v.setup.nodes + n.from) * v.setup.nodes + n.to → trace ≡ v.trace ++ Release n ∷ [] → Puts Unsent tables mk n.copy place (Released (count_of v n.to)) → wt ≡ set waiting n.to (get_or waiting n.to [] ++ n ∷ []) → hd ≡ handed → tl ≡ answers ++ true ∷ [] → Holds start nodes (record v { trace = trace }) counts mk wt hd tl
   moved n trace mk place wt hd tl a fly at e f g d i =
       let w = world_of start v in
-      let first = a.first in
-      let last = a.last in
-      let r : n.round ≡ suc (n.round - 1) = omega arith in
-      let from = one_of start v n.from a.from in
-      let to = one_of start v n.to a.to in
-      let there : place ≡ place_of w n.from n.to (n.round - 1) = at ∙ ap (λ m. ((n.round - 1) * m + n.from) * m + n.to) (sym (nodes_are start v)) in
-      let read : get_or marks (place_of w n.from n.to (n.round - 1)) Unsent ≡ Flying = h.book.mark n.from n.to (n.round - 1) from to (omega arith) ∙ fly in
       let arrives : arrival n (mark_in start v n) ≡ n ∷ [] = ap (arrival n) fly in
       noted (Release n) trace counts mk wt hd tl e
-      (keeps_release w h.plan (history v) counts v.rows marks mk n n.from n.to (n.round - 1) (Released (count_of v n.to)) from to (omega arith) refl refl r
-      (ap Released (sym (h.book.count n.to to)) ∙ sym (ap (let_go (get_or counts n.to 0)) read))
-      (subst (λ (z : ℕ). Puts marks mk z (Released (count_of v n.to))) there f) h.book)
-      (rw g (subst (λ (x : List Name). Waits w (Release n ∷ history v) (set waiting n.to (get_or waiting n.to [] ++ x))) arrives (waits_release w (history v) waiting n to h.waits)))
-      (rw d (accounts_release w (history v) handed answers tl n true (sym (ap is_flying fly)) i h.accounts))
+      (keeps_network w h.plan (Release n) (history v) counts v.rows tables mk n (Released (count_of v n.to)) (named start v n a) (λ i. refl)
+      (sym (mark_release w h.plan (history v) n a.first a.last ∙ ap (let_go (count_of v n.to)) fly))
+      (λ m b apart. released_other w h.plan (history v) n m b.first b.last apart)
+      (subst (λ (z : ℕ). Puts Unsent tables mk n.copy z (Released (count_of v n.to))) (place_in n place at) f) h.book)
+      (rw g (subst (λ (x : List Name). Waits w (Release n ∷ history v) (set waiting n.to (get_or waiting n.to [] ++ x))) arrives (waits_release w (history v) waiting n (one_of start v n.to a.to) h.waits)))
+      (rw d (accounts_answer w (history v) handed answers tl (Release n) true (λ i. refl) (ap (λ (m : Mark). is_flying m ∷ []) fly) i h.accounts))
 
   -- what isn't in flight doesn't move
-  pub let_be : (n : Name) (trace : List Event) (tl : List Bool) → IsName v.setup n → (IsFlying start v n → ⊥) → trace ≡ v.trace ++ Release n ∷ [] → tl ≡ answers ++ false ∷ [] → Holds start nodes (record v { trace = trace }) counts marks waiting handed tl
+  pub let_be : (n : Name) (trace : List Event) (tl : List Bool) → IsName v.setup n → (IsFlying start v n → ⊥) → trace ≡ v.trace ++ Release n ∷ [] → tl ≡ answers ++ false ∷ [] → Holds start nodes (record v { trace = trace }) counts tables waiting handed tl
   let_be n trace tl a off e i =
       let w = world_of start v in
-      let first = a.first in
-      let last = a.last in
-      let r : n.round ≡ suc (n.round - 1) = omega arith in
-      let from = one_of start v n.from a.from in
-      let to = one_of start v n.to a.to in
-      let place = place_of w n.from n.to (n.round - 1) in
-      let read : get_or marks place Unsent ≡ mark_in start v n = h.book.mark n.from n.to (n.round - 1) from to (omega arith) in
-      noted (Release n) trace counts marks waiting handed tl e
-      (keeps_release w h.plan (history v) counts v.rows marks marks n n.from n.to (n.round - 1) (mark_in start v n) from to (omega arith) refl refl r
-      (sym (ap (let_go (get_or counts n.to 0)) read ∙ let_go_idle (get_or counts n.to 0) (mark_in start v n) off))
-      (puts_same marks place (mark_in start v n) read) h.book)
+      noted (Release n) trace counts tables waiting handed tl e
+      (keeps_network w h.plan (Release n) (history v) counts v.rows tables tables n (mark_in start v n) (named start v n a) (λ i. refl)
+      (sym (mark_release w h.plan (history v) n a.first a.last ∙ let_go_idle (count_of v n.to) (mark_in start v n) off))
+      (λ m b apart. released_other w h.plan (history v) n m b.first b.last apart)
+      (puts_same Unsent tables n.copy (place_of w n) (mark_in start v n) (read n a)) h.book)
       (waits_late w (history v) waiting n (arrival_idle n (mark_in start v n) off) h.waits)
-      (accounts_release w (history v) handed answers tl n false (sym (idle_flag (mark_in start v n) off)) i h.accounts)
+      (accounts_answer w (history v) handed answers tl (Release n) false (λ i. refl) (ap (λ (b : Bool). b ∷ []) (idle_flag (mark_in start v n) off)) i h.accounts)
+
+  -- a copy in flight is lost
+  pub lost : (n : Name) (trace : List Event) (mk : List (List Mark)) (place : ℕ) (tl : List Bool) → IsName v.setup n → IsFlying start v n → place ≡ ((n.round - 1) * v.setup.nodes + n.from) * v.setup.nodes + n.to → trace ≡ v.trace ++ Drop n ∷ [] → Puts Unsent tables mk n.copy place Lost → tl ≡ answers ++ true ∷ [] → Holds start nodes (record v { trace = trace }) counts mk waiting handed tl
+  lost n trace mk place tl a fly at e f i =
+      let w = world_of start v in
+      noted (Drop n) trace counts mk waiting handed tl e
+      (keeps_network w h.plan (Drop n) (history v) counts v.rows tables mk n Lost (named start v n a) (λ i. refl)
+      (sym (mark_drop w h.plan (history v) n a.first a.last ∙ ap dropped fly))
+      (λ m b apart. dropped_other w h.plan (history v) n m b.first b.last apart)
+      (subst (λ (z : ℕ). Puts Unsent tables mk n.copy z Lost) (place_in n place at) f) h.book)
+      (waits_quiet w (history v) (Drop n) waiting (λ i. refl) (λ i. refl) h.waits)
+      (accounts_answer w (history v) handed answers tl (Drop n) true (λ i. refl) (ap (λ (m : Mark). is_flying m ∷ []) fly) i h.accounts)
+
+  -- what isn't in flight isn't lost
+  pub not_lost : (n : Name) (trace : List Event) (tl : List Bool) → IsName v.setup n → (IsFlying start v n → ⊥) → trace ≡ v.trace ++ Drop n ∷ [] → tl ≡ answers ++ false ∷ [] → Holds start nodes (record v { trace = trace }) counts tables waiting handed tl
+  not_lost n trace tl a off e i =
+      let w = world_of start v in
+      noted (Drop n) trace counts tables waiting handed tl e
+      (keeps_network w h.plan (Drop n) (history v) counts v.rows tables tables n (mark_in start v n) (named start v n a) (λ i. refl)
+      (sym (mark_drop w h.plan (history v) n a.first a.last ∙ dropped_idle (mark_in start v n) off))
+      (λ m b apart. dropped_other w h.plan (history v) n m b.first b.last apart)
+      (puts_same Unsent tables n.copy (place_of w n) (mark_in start v n) (read n a)) h.book)
+      (waits_quiet w (history v) (Drop n) waiting (λ i. refl) (λ i. refl) h.waits)
+      (accounts_answer w (history v) handed answers tl (Drop n) false (λ i. refl) (ap (λ (b : Bool). b ∷ []) (idle_flag (mark_in start v n) off)) i h.accounts)
+
+  -- a copy is made
+  pub made : (n : Name) (trace : List Event) (mk : List (List Mark)) (place : ℕ) (tl : List Bool) → IsName v.setup n → 0 < n.copy → CanCopy start v n → place ≡ ((n.round - 1) * v.setup.nodes + n.from) * v.setup.nodes + n.to → trace ≡ v.trace ++ Copy n ∷ [] → Puts Unsent tables mk n.copy place Flying → tl ≡ answers ++ true ∷ [] → Holds start nodes (record v { trace = trace }) counts mk waiting handed tl
+  made n trace mk place tl a other fit at e f i =
+      let w = world_of start v in
+      let now = copied_now (mark_in start v (original n)) (mark_in start v n) fit.0 fit.1 in
+      let flies : copied (mark_in start v (original n)) (mark_in start v n) ≡ Flying = ap (λ (b : Bool). if b then Flying else mark_in start v n) now in
+      noted (Copy n) trace counts mk waiting handed tl e
+      (keeps_network w h.plan (Copy n) (history v) counts v.rows tables mk n Flying (named start v n a) (λ i. refl)
+      (sym (mark_copy w h.plan (history v) n a.first a.last other ∙ flies))
+      (λ m b apart. copied_other w h.plan (history v) n m b.first b.last apart)
+      (subst (λ (z : ℕ). Puts Unsent tables mk n.copy z Flying) (place_in n place at) f) h.book)
+      (waits_quiet w (history v) (Copy n) waiting (λ i. refl) (λ i. refl) h.waits)
+      (accounts_answer w (history v) handed answers tl (Copy n) true (λ i. refl) (ap (λ (b : Bool). b ∷ []) now) i h.accounts)
+
+  -- a copy isn't made
+  pub not_made : (n : Name) (trace : List Event) (tl : List Bool) → IsName v.setup n → 0 < n.copy → (CanCopy start v n → ⊥) → trace ≡ v.trace ++ Copy n ∷ [] → tl ≡ answers ++ false ∷ [] → Holds start nodes (record v { trace = trace }) counts tables waiting handed tl
+  not_made n trace tl a other off e i =
+      let w = world_of start v in
+      noted (Copy n) trace counts tables waiting handed tl e
+      (keeps_network w h.plan (Copy n) (history v) counts v.rows tables tables n (mark_in start v n) (named start v n a) (λ i. refl)
+      (sym (mark_copy w h.plan (history v) n a.first a.last other ∙ copied_idle (mark_in start v (original n)) (mark_in start v n) off))
+      (λ m b apart. copied_other w h.plan (history v) n m b.first b.last apart)
+      (puts_same Unsent tables n.copy (place_of w n) (mark_in start v n) (read n a)) h.book)
+      (waits_quiet w (history v) (Copy n) waiting (λ i. refl) (λ i. refl) h.waits)
+      (accounts_answer w (history v) handed answers tl (Copy n) false (λ i. refl) (ap (λ (b : Bool). b ∷ []) (copied_off (mark_in start v (original n)) (mark_in start v n) off)) i h.accounts)
 
   -- ---- what the tests say
 

@@ -6,18 +6,18 @@ use Rattle.std.proofs.lemmas.List.{get_or-map, get_or_past, length-map}
 use Rattle.std.proofs.lemmas.List.Elements.{All-nil, All-push, All-append, All-same}
 use Rattle.round_meaning.specs.Rounds.{Algorithm, algorithm_of}
 use Rattle.step_machine.specs.declared.event.Event.{Event}
-use Rattle.step_machine.specs.declared.event.Event.TheVariants.{Step, Release}
+use Rattle.step_machine.specs.declared.event.Event.TheVariants.{Step, Release, Drop, Copy}
 use Rattle.step_machine.specs.declared.event.Name.{Name}
 use Rattle.step_machine.specs.Frames.{Frame, sent_under}
 use Rattle.step_journal.specs.declared.mark.Mark.{Mark}
-use Rattle.step_journal.specs.declared.mark.Mark.TheVariants.{Unsent, Silent, Flying, Released}
+use Rattle.step_journal.specs.declared.mark.Mark.TheVariants.{Unsent, Silent, Flying, Released, Lost}
 use Rattle.step_journal.specs.Agreed.{IsSaid}
 use Rattle.step_journal.specs.Agreement.{Row, row}
 use Rattle.step_journal.specs.History.{arrival, arrived, buffer_of}
 use Rattle.step_journal.specs.Log.{IsFaithful, Log, Recorded, history, world_of}
 use Rattle.step_journal.specs.Stock.{Fits, IsGenuine, IsMail, Stock, names_in, stock_at}
-use Rattle.step_journal.specs.Trace.{is_step, steps}
-use Rattle.step_journal.specs.World.{World, is_receive}
+use Rattle.step_journal.specs.Fates.{is_take}
+use Rattle.step_journal.specs.World.{World}
 use Rattle.step_journal.proofs.Stocks.{stock_read}
 
 abbrev pub IsTo : ℕ → Name → Type 0
@@ -32,6 +32,7 @@ to_arrival i n Flying e = All-push (IsTo i) [] n (All-nil (IsTo i)) e
 to_arrival i n Unsent e = All-nil (IsTo i)
 to_arrival i n Silent e = All-nil (IsTo i)
 to_arrival i n (Released s) e = All-nil (IsTo i)
+to_arrival i n Lost e = All-nil (IsTo i)
 
 to_released : (w : World) (i : ℕ) (n : Name) (past : List Event) → (n.to ≡ i) ⊎ (n.to ≡ i → ⊥) → All (IsTo i) (arrived w i (Release n) past)
 to_released w i n past (inl same) = chosen i (n.to == i) _ [] (to_arrival i n _ same) (All-nil (IsTo i))
@@ -40,12 +41,14 @@ to_released w i n past (inr apart) = rw (ne_eqb n.to i apart) (All-nil (IsTo i))
 to_arrived : (w : World) (i : ℕ) (e : Event) (past : List Event) → All (IsTo i) (arrived w i e past)
 to_arrived w i (Step k) past = All-nil (IsTo i)
 to_arrived w i (Release n) past = to_released w i n past (cases_eq n.to i)
+to_arrived w i (Drop n) past = All-nil (IsTo i)
+to_arrived w i (Copy n) past = All-nil (IsTo i)
 
 -- the names that wait for a node are of messages to it
 to_waiting : (w : World) (i : ℕ) (t : List Event) → All (IsTo i) (buffer_of w i t)
 unfolding buffer_of
 to_waiting w i [] = All-nil (IsTo i)
-to_waiting w i (e ∷ past) = chosen i (is_step i e && is_receive w (steps i past)) [] _ (All-nil (IsTo i)) (All-append (IsTo i) _ _ (to_waiting w i past) (to_arrived w i e past))
+to_waiting w i (e ∷ past) = chosen i (is_take w i e past) [] _ (All-nil (IsTo i)) (All-append (IsTo i) _ _ (to_waiting w i past) (to_arrived w i e past))
 
 frame_to : (i : ℕ) (frames : List Frame) → All (IsTo i) (names_in frames) → (k : ℕ) (d : Frame) → k < length frames → (get_or frames k d).name.to ≡ i
 frame_to i frames h k d l =
@@ -63,6 +66,7 @@ mail_of w t a rows n i frames long names genuine = λ k d l.
     let one = genuine k d l in
     record {
       from = subst (λ z. (get_or frames k d).name.from < z) long (from_in rows _ _ one.first one.past (cases_lt _ _));
+      copy = one.copy;
       to = frame_to i frames (All-same (IsTo i) _ _ names (to_waiting w i t)) k d l;
       spells = one.spells;
     }

@@ -1,26 +1,29 @@
 -- Each event keeps the agreement.
-use Rattle.std.proofs.Common.{◌≡◌, ◌≢◌, ℕ, suc, ◌+◌, ◌*◌, ◌/◌, ◌%◌, ◌==◌, ◌<◌, ◌≤◌, true, false, ◌&&◌, List, [], ◌∷◌, ◌++◌, length, get_or, set, replicate, sym, refl, ap, ◌∙◌, arith, ◌⊎◌, inl, inr}
-use Rattle.std.proofs.lemmas.Bool.{and_left, and_right, and_from, and_parts, eqb-true, cases_lt, cases_eq, eq-eqb, ne_eqb, false_from_ne_true}
+use Rattle.std.proofs.Common.{◌≡◌, ◌≢◌, ℕ, suc, ◌+◌, ◌-◌, ◌*◌, ◌/◌, ◌%◌, ◌==◌, ◌<◌, ◌≤◌, true, false, ◌&&◌, List, [], ◌∷◌, ◌++◌, length, get_or, set, replicate, sym, refl, ap, ◌∙◌, arith, ◌⊎◌, inl, inr}
+use Rattle.std.proofs.lemmas.Bool.{and_left, and_right, cases_lt, cases_eq, eq-eqb, ne_eqb}
 use Rattle.std.proofs.lemmas.List.{get_or-set_same, get_or-set_other, length-set, get_or_append_left, get_or_push, length_push, length-replicate, get_or-replicate}
 use Rattle.std.proofs.lemmas.List.FromFn.{get_or-map-range_with_len, length-map-range_with_len}
-use Rattle.std.proofs.lemmas.Nat.{div-mul-add, mod-mul-add, mul-add-lt}
+use Rattle.std.proofs.lemmas.Nat.{div-mul-add, mod-mul-add}
 use Rattle.step_machine.specs.declared.event.Name.{Name}
 use Rattle.step_machine.specs.declared.event.Event.{Event}
-use Rattle.step_machine.specs.declared.event.Event.TheVariants.{Step, Release}
+use Rattle.step_machine.specs.declared.event.Event.TheVariants.{Step, Release, Drop, Copy}
 use Rattle.step_journal.specs.declared.mark.Mark.{Mark}
 use Rattle.step_journal.specs.declared.mark.Mark.TheVariants.{Unsent}
 use Rattle.round_lang.specs.declared.value.Value.{Value}
 use Rattle.round_meaning.specs.Rounds.{rounds}
+use Rattle.step_journal.specs.Agreement.{Row, row, first_rows, place_of, Agrees}
+use Rattle.step_journal.specs.Fates.{is_slot}
+use Rattle.step_journal.specs.History.{spoken, message, state, mark_of}
+use Rattle.step_journal.specs.Names.{IsNameOf}
+use Rattle.step_journal.specs.Tables.{Puts, read_at}
+use Rattle.step_journal.specs.Trace.{is_step, steps}
 use Rattle.step_journal.specs.World.{World, nodes_of, IsPlan}
-use Rattle.step_journal.specs.Trace.{is_release, steps}
-use Rattle.step_journal.specs.History.{spoken, let_go, message, state, mark_of}
-use Rattle.step_journal.specs.Agreement.{Row, row, first_rows, place_of, Agrees, Puts}
-use Rattle.step_journal.proofs.Plans.{start_le}
+use Rattle.step_journal.proofs.Kept.{state_kept, mark_kept, mark_before, mark_now}
+use Rattle.step_journal.proofs.Names.{name_cases, name_same, other_name}
 use Rattle.step_journal.proofs.Places.{steps_at, steps_other, steps_grow}
-use Rattle.step_journal.proofs.Carried.{sends}
-use Rattle.step_journal.proofs.Kept.{state_kept, mark_kept, mark_before, mark_now, mark_release}
+use Rattle.step_journal.proofs.Plans.{start_le}
 
--- ---- places in the table
+-- ---- places in the tables
 
 -- a number has one quotient and one rest
 pub row_same : (n a b c d : ℕ) → b < n → d < n → a * n + b ≡ c * n + d → (a ≡ c) × (b ≡ d)
@@ -29,18 +32,14 @@ row_same n a b c d l k e = (
   sym (mod-mul-add a n b l) ∙ ap (λ z. z % n) e ∙ mod-mul-add c n d k,
 )
 
-pub place_same : (w : World) (j i q j' i' q' : ℕ) → j < nodes_of w → i < nodes_of w → j' < nodes_of w → i' < nodes_of w → place_of w j i q ≡ place_of w j' i' q' → (j ≡ j') × (i ≡ i') × (q ≡ q')
-place_same w j i q j' i' q' a b c d e =
-    let outer = row_same (nodes_of w) (q * nodes_of w + j) i (q' * nodes_of w + j') i' b d e in
-    let inner = row_same (nodes_of w) q j q' j' a c outer.0 in
-    (inner.1, outer.1, inner.0)
-
-pub place_within : (w : World) (j i q : ℕ) → j < nodes_of w → i < nodes_of w → q < w.rounds → place_of w j i q < w.rounds * nodes_of w * nodes_of w
-place_within w j i q a b c =
-    let outer = mul-add-lt q (nodes_of w) j w.rounds c a in
-    let e : nodes_of w * (w.rounds * nodes_of w) ≡ w.rounds * nodes_of w * nodes_of w = omega arith in
-    let f : nodes_of w * w.rounds ≡ w.rounds * nodes_of w = omega arith in
-    omega (arith, mul-add-lt (q * nodes_of w + j) (nodes_of w) i (w.rounds * nodes_of w) (omega arith) b)
+-- a message has a place of its own among those of its copy number
+pub place_same : (w : World) (n m : Name) → IsNameOf (nodes_of w) w.rounds n → IsNameOf (nodes_of w) w.rounds m → n.copy ≡ m.copy → place_of w n ≡ place_of w m → n ≡ m
+place_same w n m a b c e =
+    let outer = row_same (nodes_of w) ((n.round - 1) * nodes_of w + n.from) n.to ((m.round - 1) * nodes_of w + m.from) m.to a.to b.to e in
+    let inner = row_same (nodes_of w) (n.round - 1) n.from (m.round - 1) m.from a.from b.from outer.0 in
+    let first = a.first in
+    let other = b.first in
+    name_same n m inner.1 outer.1 (let q = inner.0 in omega arith) c
 
 -- ---- a step
 
@@ -79,12 +78,12 @@ stated_at w p e t n r i v l b h s =
     let up = start_le w p (r + 1) n (omega arith) (omega arith) in
     s ∙ sym (state_kept w p e t r i (omega arith) (omega arith))
 
--- the table after this step is the history's
-pub Tabled : World → List Event → List Mark → Type 0
-Tabled w t marks = (j i q : ℕ) → j < nodes_of w → i < nodes_of w → q < w.rounds → get_or marks (place_of w j i q) Unsent ≡ mark_of w t j i q
+-- the tables after this step are the history's
+abbrev pub Tabled : World → List Event → List (List Mark) → Type 0
+Tabled w t tables = (n : Name) → IsNameOf (nodes_of w) w.rounds n → read_at Unsent tables n.copy (place_of w n) ≡ mark_of w t n
 
-pub keeps_step : (w : World) → IsPlan w → (t : List Event) (counts : List ℕ) (rows : List Row) (marks : List Mark) (k y : ℕ) (next : List Mark) → k < nodes_of w → y ≡ steps k t + 1 → (length (row rows k) ≤ w.rounds → steps k t < w.start (length (row rows k) + 1)) → ((j i q : ℕ) → j < nodes_of w → i < nodes_of w → q < w.rounds → get_or next (place_of w j i q) Unsent ≡ mark_of w (Step k ∷ t) j i q) → Agrees w t counts rows marks → Agrees w (Step k ∷ t) (set counts k y) rows next
-keeps_step w p t counts rows marks k y next l e d h a = record {
+pub keeps_step : (w : World) → IsPlan w → (t : List Event) (counts : List ℕ) (rows : List Row) (tables : List (List Mark)) (k y : ℕ) (next : List (List Mark)) → k < nodes_of w → y ≡ steps k t + 1 → (length (row rows k) ≤ w.rounds → steps k t < w.start (length (row rows k) + 1)) → Tabled w (Step k ∷ t) next → Agrees w t counts rows tables → Agrees w (Step k ∷ t) (set counts k y) rows next
+keeps_step w p t counts rows tables k y next l e d h a = record {
   counted = length-set counts k y ∙ a.counted;
   count = λ i b. count_at t counts k y i (let c = a.counted in omega arith) e (a.count i b) (step_of k i t);
   rowed = a.rowed;
@@ -110,13 +109,13 @@ round_same_by w p r q i x z b l h e (inr low) (inr high) = omega arith
 pub round_same : (w : World) → IsPlan w → (r q i x : ℕ) → 0 < r → i < nodes_of w → w.start r ≤ x → x < w.start (r + 1) → x ≡ w.start (suc q) + i → r ≡ suc q
 round_same w p r q i x z b l h e = round_same_by w p r q i x z b l h e (cases_lt _ _) (cases_lt _ _)
 
--- a step that is no slot to i of round q + 1
-no_send : (w : World) (t : List Event) (k j i q : ℕ) → (j ≡ k → steps j t ≡ w.start (suc q) + i → ⊥) → StepOf k j t → sends w j i (suc q) (Step k) t ≡ false
-no_send w t k j i q h (Own same n) = and_right _ _ (ne_eqb _ _ (h same))
-no_send w t k j i q h (Other apart n) = and_left _ _ (ne_eqb k j (λ e. apart (sym e)))
+-- a step that isn't the message's slot
+no_send : (w : World) (t : List Event) (k : ℕ) (n : Name) → (n.from ≡ k → steps n.from t ≡ w.start n.round + n.to → ⊥) → StepOf k n.from t → is_slot w n (Step k) t ≡ false
+no_send w t k n h (Own same x) = and_right _ _ (ne_eqb _ _ (h same))
+no_send w t k n h (Other apart x) = and_left _ _ (ne_eqb k n.from (λ e. apart (sym e)))
 
-pub mark_passed : (w : World) → IsPlan w → (t : List Event) (k j i q : ℕ) → suc q ≤ w.rounds → (j ≡ k → steps j t ≡ w.start (suc q) + i → ⊥) → mark_of w (Step k ∷ t) j i q ≡ mark_of w t j i q
-mark_passed w p t k j i q l h = mark_kept w p (Step k) t j i q l (no_send w t k j i q h (step_of k j t)) refl
+pub mark_passed : (w : World) → IsPlan w → (t : List Event) (k : ℕ) (n : Name) → 0 < n.round → n.round ≤ w.rounds → (n.copy ≡ 0 → n.from ≡ k → steps n.from t ≡ w.start n.round + n.to → ⊥) → mark_of w (Step k ∷ t) n ≡ mark_of w t n
+mark_passed w p t k n z l h = mark_kept w p (Step k) t n z l (λ c. no_send w t k n (h c) (step_of k n.from t)) refl refl refl
 
 -- a receive is no slot
 pub receive_no_slot : (w : World) → IsPlan w → (r q i x : ℕ) → 0 < r → i < nodes_of w → w.start r + nodes_of w ≤ x → x < w.start (r + 1) → x ≡ w.start (suc q) + i → ⊥
@@ -132,108 +131,97 @@ idle_no_slot w p q i x l b h e =
     let long = p.next (suc q) (omega arith) in
     omega arith
 
-pub keeps_receive : (w : World) → IsPlan w → (t : List Event) (counts : List ℕ) (rows : List Row) (marks : List Mark) (k y : ℕ) → k < nodes_of w → y ≡ steps k t + 1 → length (row rows k) ≤ w.rounds → w.start (length (row rows k)) + nodes_of w ≤ steps k t → steps k t < w.start (length (row rows k) + 1) → Agrees w t counts rows marks → Agrees w (Step k ∷ t) (set counts k y) rows marks
-keeps_receive w p t counts rows marks k y l e b low high a =
-    keeps_step w p t counts rows marks k y marks l e (λ h. high)
-    (λ j i q x z c. a.mark j i q x z c ∙ sym (mark_passed w p t k j i q (omega arith)
-    (λ same at. receive_no_slot w p (length (row rows k)) q i (steps k t) (a.began k l) z low high (sym (ap (λ m. steps m t) same) ∙ at)))) a
+pub keeps_receive : (w : World) → IsPlan w → (t : List Event) (counts : List ℕ) (rows : List Row) (tables : List (List Mark)) (k y : ℕ) → k < nodes_of w → y ≡ steps k t + 1 → length (row rows k) ≤ w.rounds → w.start (length (row rows k)) + nodes_of w ≤ steps k t → steps k t < w.start (length (row rows k) + 1) → Agrees w t counts rows tables → Agrees w (Step k ∷ t) (set counts k y) rows tables
+keeps_receive w p t counts rows tables k y l e b low high a =
+    keeps_step w p t counts rows tables k y tables l e (λ h. high)
+    (λ n x. a.mark n x ∙ sym (mark_passed w p t k n x.first x.last
+    (λ c same at.
+    let first = x.first in
+    let q : n.round ≡ suc (n.round - 1) = omega arith in
+    receive_no_slot w p (length (row rows k)) (n.round - 1) n.to (steps k t) (a.began k l) x.to low high (sym (ap (λ m. steps m t) same) ∙ at ∙ ap (λ r. w.start r + n.to) q)))) a
 
-pub keeps_idle : (w : World) → IsPlan w → (t : List Event) (counts : List ℕ) (rows : List Row) (marks : List Mark) (k y : ℕ) → k < nodes_of w → y ≡ steps k t + 1 → length (row rows k) ≡ w.rounds + 1 → Agrees w t counts rows marks → Agrees w (Step k ∷ t) (set counts k y) rows marks
-keeps_idle w p t counts rows marks k y l e b a =
+pub keeps_idle : (w : World) → IsPlan w → (t : List Event) (counts : List ℕ) (rows : List Row) (tables : List (List Mark)) (k y : ℕ) → k < nodes_of w → y ≡ steps k t + 1 → length (row rows k) ≡ w.rounds + 1 → Agrees w t counts rows tables → Agrees w (Step k ∷ t) (set counts k y) rows tables
+keeps_idle w p t counts rows tables k y l e b a =
     let at : w.start (length (row rows k)) ≡ w.start (w.rounds + 1) = ap w.start b in
     let h : w.start (length (row rows k)) ≤ steps k t = a.past k l in
-    let after : w.start (w.rounds + 1) ≤ steps k t = omega (arith, at, h) in
-    keeps_step w p t counts rows marks k y marks l e (λ h. absurd (omega arith))
-    (λ j i q x z c. a.mark j i q x z c ∙ sym (mark_passed w p t k j i q (omega arith)
-    (λ same at. idle_no_slot w p q i (steps k t) (omega arith) z after (sym (ap (λ m. steps m t) same) ∙ at)))) a
+    let late : w.start (w.rounds + 1) ≤ steps k t = omega (arith, at, h) in
+    keeps_step w p t counts rows tables k y tables l e (λ h. absurd (omega arith))
+    (λ n x. a.mark n x ∙ sym (mark_passed w p t k n x.first x.last
+    (λ c same at.
+    let first = x.first in
+    let last = x.last in
+    let q : n.round ≡ suc (n.round - 1) = omega arith in
+    idle_no_slot w p (n.round - 1) n.to (steps k t) (omega arith) x.to late (sym (ap (λ m. steps m t) same) ∙ at ∙ ap (λ r. w.start r + n.to) q)))) a
 
--- ---- one place of the table is written
+-- ---- one place of a table is written
 
-set_at : (w : World) (marks next : List Mark) (j i q j' i' q' : ℕ) (v : Mark) → Puts marks next (place_of w j i q) v → j' ≡ j → i' ≡ i → q' ≡ q → get_or next (place_of w j' i' q') Unsent ≡ v
-set_at w marks next j i q j' i' q' v p e f g = rw (e, f, g) p.there
+put_here : (w : World) (tables next : List (List Mark)) (n m : Name) (v : Mark) → Puts Unsent tables next n.copy (place_of w n) v → m ≡ n → read_at Unsent next m.copy (place_of w m) ≡ v
+put_here w tables next n m v p e = ap (λ (x : Name). read_at Unsent next x.copy (place_of w x)) e ∙ p.there
 
-set_off : (w : World) (marks next : List Mark) (j i q j' i' q' : ℕ) (v : Mark) → Puts marks next (place_of w j i q) v → j < nodes_of w → i < nodes_of w → j' < nodes_of w → i' < nodes_of w → ((j' ≡ j) × (i' ≡ i) × (q' ≡ q) → ⊥) → get_or next (place_of w j' i' q') Unsent ≡ get_or marks (place_of w j' i' q') Unsent
-set_off w marks next j i q j' i' q' v p x y x' y' apart =
-    p.others (place_of w j' i' q') (λ e. apart (place_same w j' i' q' j i q x' y' x y e))
-
--- these are one name, or two
-pub data OneName (j i q j' i' q' : ℕ) : Type 0 where
-  Same : j' ≡ j → i' ≡ i → q' ≡ q → OneName j i q j' i' q'
-  Apart : ((j' ≡ j) × (i' ≡ i) × (q' ≡ q) → ⊥) → OneName j i q j' i' q'
-
-one_name_by : (j i q j' i' q' : ℕ) → (j' ≡ j) ⊎ (j' ≡ j → ⊥) → (i' ≡ i) ⊎ (i' ≡ i → ⊥) → (q' ≡ q) ⊎ (q' ≡ q → ⊥) → OneName j i q j' i' q'
-one_name_by j i q j' i' q' (inl a) (inl b) (inl c) = Same a b c
-one_name_by j i q j' i' q' (inl a) (inl b) (inr c) = Apart (λ h. c h.2)
-one_name_by j i q j' i' q' (inl a) (inr b) c = Apart (λ h. b h.1)
-one_name_by j i q j' i' q' (inr a) b c = Apart (λ h. a h.0)
-
-pub one_name : (j i q j' i' q' : ℕ) → OneName j i q j' i' q'
-one_name j i q j' i' q' = one_name_by j i q j' i' q' (cases_eq _ _) (cases_eq _ _) (cases_eq _ _)
+put_off : (w : World) (tables next : List (List Mark)) (n m : Name) (v : Mark) → Puts Unsent tables next n.copy (place_of w n) v → IsNameOf (nodes_of w) w.rounds n → IsNameOf (nodes_of w) w.rounds m → (m ≡ n → ⊥) → read_at Unsent next m.copy (place_of w m) ≡ read_at Unsent tables m.copy (place_of w m)
+put_off w tables next n m v p a b apart = p.others m.copy (place_of w m) (λ e. apart (place_same w m n b a e.0 e.1))
 
 -- ---- a send
 
-send_mark : (w : World) → IsPlan w → (t : List Event) (marks next : List Mark) (k d q : ℕ) (v : Mark) → k < nodes_of w → d < nodes_of w → q < w.rounds → Puts marks next (place_of w k d q) v → steps k t ≡ w.start (suc q) + d → v ≡ spoken (message w t q k d) → (j i q' : ℕ) → j < nodes_of w → i < nodes_of w → q' < w.rounds → get_or marks (place_of w j i q') Unsent ≡ mark_of w t j i q' → OneName k d q j i q' → get_or next (place_of w j i q') Unsent ≡ mark_of w (Step k ∷ t) j i q'
-send_mark w p t marks next k d q v x y z n e f j i q' x' y' z' h (Same a b c) =
-    let here = mark_now w p (Step k) t k d q (omega arith) (eq-eqb k k refl) e in
-    set_at w marks next k d q j i q' v n a b c ∙ f ∙ sym here ∙ (let P = λ (u m o : ℕ). mark_of w (Step k ∷ t) u m o in ap (λ u. P u d q) (sym a) ∙ ap (λ m. P j m q) (sym b) ∙ ap (λ o. P j i o) (sym c))
-send_mark w p t marks next k d q v x y z n e f j i q' x' y' z' h (Apart apart) =
-    set_off w marks next k d q j i q' v n x y x' y' apart ∙ h
-    ∙ sym (mark_passed w p t k j i q' (omega arith) (λ same at.
-    let s : steps k t ≡ w.start (suc q') + i = sym (ap (λ m. steps m t) same) ∙ at in
-    let long = p.next (suc q) (omega arith) in
-    let r : suc q ≡ suc q' = round_same w p (suc q) q' i (steps k t) (omega arith) y' (omega arith) (omega arith) s in
-    let again = ap w.start r in
-    apart (same, omega arith, omega arith)))
+-- two slots that are one step are of one message
+slots_same : (w : World) → IsPlan w → (n m : Name) (x : ℕ) → IsNameOf (nodes_of w) w.rounds n → IsNameOf (nodes_of w) w.rounds m → x ≡ w.start n.round + n.to → x ≡ w.start m.round + m.to → (n.round ≡ m.round) × (n.to ≡ m.to)
+slots_same w p n m x a b e f =
+    let first = a.first in
+    let other = b.first in
+    let to = a.to in
+    let long = p.next n.round a.first in
+    let q : m.round ≡ suc (m.round - 1) = omega arith in
+    let same : n.round ≡ suc (m.round - 1) = round_same w p n.round (m.round - 1) m.to x a.first b.to (omega arith) (omega arith) (f ∙ ap (λ r. w.start r + m.to) q) in
+    let round : n.round ≡ m.round = same ∙ sym q in
+    let at = ap w.start round in
+    (round, omega arith)
 
-pub keeps_send : (w : World) → IsPlan w → (t : List Event) (counts : List ℕ) (rows : List Row) (marks next : List Mark) (k d q y : ℕ) (v : Mark) → k < nodes_of w → d < nodes_of w → q < w.rounds → y ≡ steps k t + 1 → length (row rows k) ≡ suc q → steps k t ≡ w.start (suc q) + d → v ≡ spoken (message w t q k d) → Puts marks next (place_of w k d q) v → Agrees w t counts rows marks → Agrees w (Step k ∷ t) (set counts k y) rows next
-keeps_send w p t counts rows marks next k d q y v x z b e n h f g a =
-    let size : w.start (length (row rows k) + 1) ≡ w.start (suc q + 1) = ap (λ m. w.start (m + 1)) n in
-    let long : w.start (suc q) + nodes_of w < w.start (suc q + 1) = p.next (suc q) (omega arith) in
-    keeps_step w p t counts rows marks k y next x e (λ u. omega (arith, size, long, h, z))
-    (λ j i q' x' y' z'. send_mark w p t marks next k d q v x z b g h f j i q' x' y' z' (a.mark j i q' x' y' z') (one_name k d q j i q')) a
+send_mark : (w : World) → IsPlan w → (t : List Event) (tables next : List (List Mark)) (n : Name) (v : Mark) → IsNameOf (nodes_of w) w.rounds n → n.copy ≡ 0 → Puts Unsent tables next n.copy (place_of w n) v → steps n.from t ≡ w.start n.round + n.to → v ≡ spoken (message w t n) → (m : Name) → IsNameOf (nodes_of w) w.rounds m → read_at Unsent tables m.copy (place_of w m) ≡ mark_of w t m → (m ≡ n) ⊎ (m ≡ n → ⊥) → read_at Unsent next m.copy (place_of w m) ≡ mark_of w (Step n.from ∷ t) m
+send_mark w p t tables next n v a c puts at e m b h (inl same) =
+    put_here w tables next n m v puts same ∙ e ∙ sym (mark_now w p (Step n.from) t n a.first a.last c (eq-eqb n.from n.from refl) at) ∙ ap (mark_of w (Step n.from ∷ t)) (sym same)
+send_mark w p t tables next n v a c puts at e m b h (inr apart) =
+    put_off w tables next n m v puts a b apart ∙ h
+    ∙ sym (mark_passed w p t n.from m b.first b.last (λ first same other.
+    let one = slots_same w p n m (steps n.from t) a b at (ap (λ x. steps x t) (sym same) ∙ other) in
+    apart (name_same m n same (sym one.1) (sym one.0) (first ∙ sym c))))
 
--- ---- a release
+pub keeps_send : (w : World) → IsPlan w → (t : List Event) (counts : List ℕ) (rows : List Row) (tables next : List (List Mark)) (n : Name) (y : ℕ) (v : Mark) → IsNameOf (nodes_of w) w.rounds n → n.copy ≡ 0 → y ≡ steps n.from t + 1 → length (row rows n.from) ≡ n.round → steps n.from t ≡ w.start n.round + n.to → v ≡ spoken (message w t n) → Puts Unsent tables next n.copy (place_of w n) v → Agrees w t counts rows tables → Agrees w (Step n.from ∷ t) (set counts n.from y) rows next
+keeps_send w p t counts rows tables next n y v b c e round h f g a =
+    let size : w.start (length (row rows n.from) + 1) ≡ w.start (n.round + 1) = ap (λ m. w.start (m + 1)) round in
+    let long = p.next n.round b.first in
+    let to = b.to in
+    keeps_step w p t counts rows tables n.from y next b.from e (λ u. omega (arith, size, long, h, to))
+    (λ m x. send_mark w p t tables next n v b c g h f m x (a.mark m x) (name_cases m n)) a
 
--- a release of its name
-pub is_it : (n : Name) (j i r : ℕ) → n.from ≡ j → n.to ≡ i → n.round ≡ r → is_release j i r (Release n) ≡ true
-is_it n j i r a b c = and_from _ _ (and_from _ _ (eq-eqb _ _ a) (eq-eqb _ _ b)) (eq-eqb _ _ c)
+-- ---- an event of the network
 
--- a release of another name
-pub is_not_it : (n : Name) (j i q j' i' q' : ℕ) → n.from ≡ j → n.to ≡ i → n.round ≡ suc q → ((j' ≡ j) × (i' ≡ i) × (q' ≡ q) → ⊥) → is_release j' i' (suc q') (Release n) ≡ false
-is_not_it n j i q j' i' q' a b c apart =
-    false_from_ne_true _ (λ h.
-    let outer : ((n.from == j' && n.to == i') ≡ true) × ((n.round == suc q') ≡ true) = and_parts _ _ h in
-    let inner : ((n.from == j') ≡ true) × ((n.to == i') ≡ true) = and_parts _ _ outer.0 in
-    let x : n.from ≡ j' = eqb-true _ _ inner.0 in
-    let y : n.to ≡ i' = eqb-true _ _ inner.1 in
-    let z : n.round ≡ suc q' = eqb-true _ _ outer.1 in
-    apart (omega arith, omega arith, omega arith))
+network_mark : (w : World) (e : Event) (t : List Event) (tables next : List (List Mark)) (n : Name) (v : Mark) → IsNameOf (nodes_of w) w.rounds n → Puts Unsent tables next n.copy (place_of w n) v → v ≡ mark_of w (e ∷ t) n → ((m : Name) → IsNameOf (nodes_of w) w.rounds m → (m ≡ n → ⊥) → mark_of w (e ∷ t) m ≡ mark_of w t m) → (m : Name) → IsNameOf (nodes_of w) w.rounds m → read_at Unsent tables m.copy (place_of w m) ≡ mark_of w t m → (m ≡ n) ⊎ (m ≡ n → ⊥) → read_at Unsent next m.copy (place_of w m) ≡ mark_of w (e ∷ t) m
+network_mark w e t tables next n v a puts is others m b h (inl same) = put_here w tables next n m v puts same ∙ is ∙ ap (mark_of w (e ∷ t)) (sym same)
+network_mark w e t tables next n v a puts is others m b h (inr apart) = put_off w tables next n m v puts a b apart ∙ h ∙ sym (others m b apart)
 
-release_mark : (w : World) → IsPlan w → (t : List Event) (marks next : List Mark) (n : Name) (k d q : ℕ) (v : Mark) → k < nodes_of w → d < nodes_of w → q < w.rounds → Puts marks next (place_of w k d q) v → n.from ≡ k → n.to ≡ d → n.round ≡ suc q → v ≡ let_go (steps d t) (mark_of w t k d q) → (j i q' : ℕ) → j < nodes_of w → i < nodes_of w → q' < w.rounds → get_or marks (place_of w j i q') Unsent ≡ mark_of w t j i q' → OneName k d q j i q' → get_or next (place_of w j i q') Unsent ≡ mark_of w (Release n ∷ t) j i q'
-release_mark w p t marks next n k d q v x y z m e f g u j i q' x' y' z' h (Same a b c) =
-    let here = mark_release w p (Release n) t k d q (omega arith) (is_it n k d (suc q) e f g) refl in
-    set_at w marks next k d q j i q' v m a b c ∙ u ∙ sym here ∙ (let P = λ (u m o : ℕ). mark_of w (Release n ∷ t) u m o in ap (λ u. P u d q) (sym a) ∙ ap (λ m. P j m q) (sym b) ∙ ap (λ o. P j i o) (sym c))
-release_mark w p t marks next n k d q v x y z m e f g u j i q' x' y' z' h (Apart apart) =
-    set_off w marks next k d q j i q' v m x y x' y' apart ∙ h
-    ∙ sym (mark_kept w p (Release n) t j i q' (omega arith) refl (is_not_it n k d q j i q' e f g apart))
-
-release_no_count : (i : ℕ) (n : Name) (t : List Event) → steps i (Release n ∷ t) ≡ steps i t
-release_no_count i n t = steps_other i (Release n) t refl
-
-pub keeps_release : (w : World) → IsPlan w → (t : List Event) (counts : List ℕ) (rows : List Row) (marks next : List Mark) (n : Name) (k d q : ℕ) (v : Mark) → k < nodes_of w → d < nodes_of w → q < w.rounds → n.from ≡ k → n.to ≡ d → n.round ≡ suc q → v ≡ let_go (get_or counts d 0) (get_or marks (place_of w k d q) Unsent) → Puts marks next (place_of w k d q) v → Agrees w t counts rows marks → Agrees w (Release n ∷ t) counts rows next
-keeps_release w p t counts rows marks next n k d q v x y z e f g u m a = record {
+-- it's about one copy, and is no step
+pub keeps_network : (w : World) → IsPlan w → (e : Event) (t : List Event) (counts : List ℕ) (rows : List Row) (tables next : List (List Mark)) (n : Name) (v : Mark) → IsNameOf (nodes_of w) w.rounds n → ((i : ℕ) → is_step i e ≡ false) → v ≡ mark_of w (e ∷ t) n → ((m : Name) → IsNameOf (nodes_of w) w.rounds m → (m ≡ n → ⊥) → mark_of w (e ∷ t) m ≡ mark_of w t m) → Puts Unsent tables next n.copy (place_of w n) v → Agrees w t counts rows tables → Agrees w (e ∷ t) counts rows next
+keeps_network w p e t counts rows tables next n v b quiet is others puts a = record {
   counted = a.counted;
-  count = λ i b. a.count i b ∙ sym (release_no_count i n t);
+  count = λ i l. a.count i l ∙ sym (steps_other i e t (quiet i));
   rowed = a.rowed;
   began = a.began;
   bounded = a.bounded;
-  past = λ i b. (let c = release_no_count i n t in omega (arith, a.past i b));
-  near = λ i b l. (let c = release_no_count i n t in omega (arith, a.near i b l));
-  stated = λ i r b c. stated_at w p (Release n) t (length (row rows i)) r i _ c (a.bounded i b) (a.past i b) (a.stated i r b c);
-  mark = λ j i q' x' y' z'. release_mark w p t marks next n k d q v x y z m e f g
-      (u ∙ ap (λ o. let_go o (get_or marks (place_of w k d q) Unsent)) (a.count d y) ∙ ap (let_go (steps d t)) (a.mark k d q x y z))
-      j i q' x' y' z' (a.mark j i q' x' y' z') (one_name k d q j i q');
+  past = λ i l. (let c = steps_other i e t (quiet i) in omega (arith, a.past i l));
+  near = λ i l m. (let c = steps_other i e t (quiet i) in omega (arith, a.near i l m));
+  stated = λ i r l c. stated_at w p e t (length (row rows i)) r i _ c (a.bounded i l) (a.past i l) (a.stated i r l c);
+  mark = λ m x. network_mark w e t tables next n v b puts is others m x (a.mark m x) (name_cases m n);
 }
+
+-- an event of the network leaves what isn't named
+pub released_other : (w : World) → IsPlan w → (t : List Event) (n m : Name) → 0 < m.round → m.round ≤ w.rounds → (m ≡ n → ⊥) → mark_of w (Release n ∷ t) m ≡ mark_of w t m
+released_other w p t n m z l apart = mark_kept w p (Release n) t m z l (λ c. refl) (other_name m n (λ e. apart (sym e))) refl refl
+
+pub dropped_other : (w : World) → IsPlan w → (t : List Event) (n m : Name) → 0 < m.round → m.round ≤ w.rounds → (m ≡ n → ⊥) → mark_of w (Drop n ∷ t) m ≡ mark_of w t m
+dropped_other w p t n m z l apart = mark_kept w p (Drop n) t m z l (λ c. refl) refl (other_name m n (λ e. apart (sym e))) refl
+
+pub copied_other : (w : World) → IsPlan w → (t : List Event) (n m : Name) → 0 < m.round → m.round ≤ w.rounds → (m ≡ n → ⊥) → mark_of w (Copy n ∷ t) m ≡ mark_of w t m
+copied_other w p t n m z l apart = mark_kept w p (Copy n) t m z l (λ c. refl) refl refl (other_name m n (λ e. apart (sym e)))
 
 -- ---- a round is closed
 
@@ -289,8 +277,8 @@ close_bounded : (rows next : List Row) (k : ℕ) (v : List Value) (i n : ℕ) �
 close_bounded rows next k v i n d h (Stays e) = rw e h
 close_bounded rows next k v i n d h (Grown same e) = let size : length (row next i) ≡ length (row rows k) + 1 = ap length e ∙ length_push (row rows k) v in omega arith
 
-pub keeps_close : (w : World) → IsPlan w → (t : List Event) (counts : List ℕ) (rows : List Row) (marks : List Mark) (k : ℕ) (v : List Value) → k < nodes_of w → length (row rows k) ≤ w.rounds → w.start (length (row rows k) + 1) ≤ steps k t → v ≡ state w t (length (row rows k)) k → Agrees w t counts rows marks → Agrees w t counts (set rows k (row rows k ++ v ∷ [])) marks
-keeps_close w p t counts rows marks k v x d e f a =
+pub keeps_close : (w : World) → IsPlan w → (t : List Event) (counts : List ℕ) (rows : List Row) (tables : List (List Mark)) (k : ℕ) (v : List Value) → k < nodes_of w → length (row rows k) ≤ w.rounds → w.start (length (row rows k) + 1) ≤ steps k t → v ≡ state w t (length (row rows k)) k → Agrees w t counts rows tables → Agrees w t counts (set rows k (row rows k ++ v ∷ [])) tables
+keeps_close w p t counts rows tables k v x d e f a =
     let of : (i : ℕ) → RowOf rows k v i (set rows k (row rows k ++ v ∷ [])) = λ i. row_of_by rows k v i (let n = a.rowed in omega arith) (cases_eq i k) in
     let next = set rows k (row rows k ++ v ∷ []) in
     record {
@@ -327,5 +315,5 @@ agrees_empty w p counts rows a b = record {
       let size = ap length row_is in
       let zero_is : r ≡ 0 = omega arith in
       ap (λ z. get_or z r []) row_is ∙ rw zero_is refl;
-  mark = λ j i q x y z. sym (mark_before w [] j i q (omega arith));
+  mark = λ n x. sym (mark_before w [] n (omega arith));
 }

@@ -1,18 +1,25 @@
--- What a later event leaves of the run in rounds and of the record.
-use Rattle.std.proofs.Common.{◌≡◌, ℕ, zero, suc, ◌+◌, ◌≤◌, Bool, true, false, not, List, ◌∷◌, Option, Some, None, sym, refl, ap, if◌then◌else◌, ◌∙◌, arith, add-one}
-use Rattle.std.proofs.lemmas.Bool.{and_left, and_from, eq-eqb}
-use Rattle.step_machine.specs.declared.event.Event.{Event}
-use Rattle.step_journal.specs.declared.mark.Mark.TheVariants.{Unsent, Released}
+-- What a later event leaves of the run in rounds and of each message.
+use Rattle.std.proofs.Common.{◌≡◌, ℕ, zero, suc, ◌+◌, ◌-◌, ◌<◌, ◌≤◌, ◌==◌, Bool, true, false, not, ◌&&◌, List, [], ◌∷◌, Option, Some, None, sym, refl, ap, if◌then◌else◌, ◌∙◌, arith, add-one, ◌⊎◌, inl, inr}
+use Rattle.std.proofs.lemmas.Bool.{and_right, and_from, eq-eqb, eqb-true, ne_eqb}
 use Rattle.round_lang.specs.declared.value.Value.{Value}
 use Rattle.round_meaning.specs.declared.received.Received.{Received}
 use Rattle.round_meaning.specs.Rounds.{rounds, inbox, received}
 use Rattle.round_meaning.proofs.RoundLaws.{filter_map_same}
+use Rattle.step_machine.specs.declared.event.Event.{Event}
+use Rattle.step_machine.specs.declared.event.Event.TheVariants.{Step, Release, Drop, Copy}
+use Rattle.step_machine.specs.declared.event.Name.{Name}
+use Rattle.step_machine.specs.Frames.{original}
+use Rattle.step_journal.specs.declared.mark.Mark.{Mark}
+use Rattle.step_journal.specs.declared.mark.Mark.TheVariants as mark
+use Rattle.step_journal.specs.Fates.{Fate, Unmade, Moving, Waiting, Taken, Lost, after, carried, fate, is_moving, is_slot, is_take, makes}
+use Rattle.step_journal.specs.History.{copied, dropped, hushed, is_copied, is_flying, is_unsent, let_go, mark_of, marked, message, spoken, state}
+use Rattle.step_journal.specs.Names.{IsNameOf}
+use Rattle.step_journal.specs.Trace.{is_copy, is_drop, is_release, is_step, steps}
 use Rattle.step_journal.specs.World.{World, nodes_of, IsPlan}
-use Rattle.step_journal.specs.Trace.{is_step, is_release, steps, sent, released, carried}
-use Rattle.step_journal.specs.History.{spoken, let_go, message, state, mark_by, mark_of}
+use Rattle.step_journal.proofs.Fates.{carried_kept, carried_sent, fate_next, made_sent, unmade_before}
+use Rattle.step_journal.proofs.Names.{own_name}
+use Rattle.step_journal.proofs.Places.{steps_grow, steps_more}
 use Rattle.step_journal.proofs.Plans.{start_le}
-use Rattle.step_journal.proofs.Places.{first_new, first_skip}
-use Rattle.step_journal.proofs.Carried.{sends, SentBy, NotYet, Once, sent_by, ReleasedBy, Before, Now, TooEarly, NotIt, released_by, carried_sent, carried_kept}
 
 -- an entry of an inbox is the same where it's omitted in both, or the messages are the same
 heard_same : (c d : Bool) (j : ℕ) (m k : Option (List Value)) → d ≡ c → (c ≡ true → m ≡ k) → ◌≡◌ {A = Option Received} (if not d then None else received j m) (if not c then None else received j k)
@@ -35,94 +42,185 @@ state_kept w p e t (suc r) i l n =
     (λ j. if not (carried w t i (suc r) j) then None else received j (w.algorithm.send (suc r) (state w t r j) j i))
     0 (nodes_of w)
     (λ j a b. heard_same (carried w t i (suc r) j) (carried w (e ∷ t) i (suc r) j) j _ _
-    (carried_kept w p i (suc r) j e t (omega arith) l n)
+    (carried_kept w i (suc r) j e t n)
     (λ c.
     let past = carried_sent w t i (suc r) j c in
     let again = ap w.start (add-one r) in
     ap (λ z. w.algorithm.send (suc r) z j i) (state_kept w p e t r j (omega arith) (omega arith)))) in
     end_same w (suc r) i _ _ _ _ same me
 
--- ---- the record of a message
-
-mark_by_same : (i : ℕ) (a c : Option (List Event)) (m k : Option (List Value)) (b d : Option (List Event)) → a ≡ c → m ≡ k → b ≡ d → mark_by i a m b ≡ mark_by i c k d
-mark_by_same i a c m k b d p q r = rw (p, q, r) refl
-
-mark_by_none : (i : ℕ) (a : Option (List Event)) (m : Option (List Value)) (b : Option (List Event)) → a ≡ None → mark_by i a m b ≡ Unsent
-mark_by_none i a m b p = rw p refl
-
 -- what was sent stays
-pub message_kept : (w : World) → IsPlan w → (e : Event) (t : List Event) (j i q : ℕ) → suc q ≤ w.rounds → w.start (suc q) ≤ steps j t → message w (e ∷ t) q j i ≡ message w t q j i
-message_kept w p e t j i q l n =
-    let again = ap w.start (add-one q) in
-    ap (λ z. w.algorithm.send (suc q) z j i) (state_kept w p e t q j (omega arith) (omega arith))
+pub message_kept : (w : World) → IsPlan w → (e : Event) (t : List Event) (n : Name) → 0 < n.round → n.round ≤ w.rounds → w.start n.round ≤ steps n.from t → message w (e ∷ t) n ≡ message w t n
+message_kept w p e t n z l k =
+    let again : (n.round - 1) + 1 ≡ n.round = omega arith in
+    let at = ap w.start again in
+    ap (λ s. w.algorithm.send n.round s n.from n.to) (state_kept w p e t (n.round - 1) n.from (omega arith) (omega arith))
 
-mark_kept_at : (w : World) → IsPlan w → (e : Event) (t : List Event) (j i q : ℕ) → suc q ≤ w.rounds → SentBy w j i (suc q) t → sent w (e ∷ t) j i (suc q) ≡ sent w t j i (suc q) → released w (e ∷ t) j i (suc q) ≡ released w t j i (suc q) → mark_of w (e ∷ t) j i q ≡ mark_of w t j i q
+-- ---- the mark of a message
+
+pub mark_is : (w : World) (t : List Event) (n : Name) → mark_of w t n ≡ marked n.copy (message w t n) (fate w t n)
 unfolding mark_of
-mark_kept_at w p e t j i q l (NotYet n h) s r = mark_by_none i _ _ _ (s ∙ n) ∙ sym (mark_by_none i _ _ _ n)
-mark_kept_at w p e t j i q l (Once a n h) s r = mark_by_same i _ _ _ _ _ _ s (message_kept w p e t j i q l (omega arith)) r
+mark_is w t n = refl
 
-released_same : (w : World) (j i r : ℕ) (e : Event) (t : List Event) → is_release j i r e ≡ false → ReleasedBy w j i r e t → released w (e ∷ t) j i r ≡ released w t j i r
-released_same w j i r e t h (Before b x y) = y ∙ sym x
-released_same w j i r e t h (Now a s x k y) = cc
-released_same w j i r e t h (TooEarly s x y) = y ∙ sym x
-released_same w j i r e t h (NotIt a s k x y) = y ∙ sym x
+marked_same : (k : ℕ) (m q : Option (List Value)) (f : Fate) → ((f ≡ Unmade → ⊥) → m ≡ q) → marked k m f ≡ marked k q f
+marked_same k m q Unmade h = refl
+marked_same k m q Moving h = ap (λ x. marked k x Moving) (h (λ u. cc))
+marked_same k m q (Waiting x) h = ap (λ y. marked k y (Waiting x)) (h (λ u. cc))
+marked_same k m q (Taken x c) h = ap (λ y. marked k y (Taken x c)) (h (λ u. cc))
+marked_same k m q Lost h = ap (λ y. marked k y Lost) (h (λ u. cc))
 
--- an event that is neither its slot nor a release of it changes nothing
-pub mark_kept : (w : World) → IsPlan w → (e : Event) (t : List Event) (j i q : ℕ) → suc q ≤ w.rounds → sends w j i (suc q) e t ≡ false → is_release j i (suc q) e ≡ false → mark_of w (e ∷ t) j i q ≡ mark_of w t j i q
-mark_kept w p e t j i q l s r =
-    mark_kept_at w p e t j i q l (sent_by w j i (suc q) t) (first_skip (sends w j i (suc q)) e t s)
-    (released_same w j i (suc q) e t r (released_by w j i (suc q) e t))
+module _ (w : World) (p : IsPlan w) (e : Event) (t : List Event) (n : Name) (z : 0 < n.round) (l : n.round ≤ w.rounds) where
+  -- the message of what is made is what it was
+  pub made_same : (fate w (e ∷ t) n ≡ Unmade → ⊥) → message w (e ∷ t) n ≡ message w t n
+  made_same h = message_kept w p e t n z l (begun (step_cases (is_step n.from e) refl))
+    where
+      step_cases : (b : Bool) → is_step n.from e ≡ b → (steps n.from (e ∷ t) ≤ steps n.from t + 1)
+      step_cases b k = steps_more n.from e t b k
+
+      begun : steps n.from (e ∷ t) ≤ steps n.from t + 1 → w.start n.round ≤ steps n.from t
+      begun up = let made = made_sent w (e ∷ t) n h in omega arith
+
+  pub mark_after : mark_of w (e ∷ t) n ≡ marked n.copy (message w t n) (after w n e t (fate w t (original n)) (fate w t n))
+  mark_after =
+      mark_is w (e ∷ t) n ∙ marked_same n.copy (message w (e ∷ t) n) (message w t n) (fate w (e ∷ t) n) made_same
+      ∙ ap (marked n.copy (message w t n)) (fate_next w e t n)
+
+quiet_made : (k : ℕ) (m : Option (List Value)) (b : Bool) → b ≡ false → marked k m (if b then Moving else Unmade) ≡ mark.Unsent
+quiet_made k m b h = rw h refl
+
+quiet_left : (k x : ℕ) (m : Option (List Value)) (a b : Bool) → a ≡ false → b ≡ false → marked k m (if a then Waiting x else if b then Lost else Moving) ≡ marked k m Moving
+quiet_left k x m a b g h = rw (g, h) refl
+
+quiet_taken : (k x c : ℕ) (m : Option (List Value)) (b : Bool) → marked k m (if b then Taken x c else Waiting x) ≡ marked k m (Waiting x)
+quiet_taken k x c None true = refl
+quiet_taken k x c (Some m) true = refl
+quiet_taken k x c m false = refl
+
+quiet_marked : (w : World) (n : Name) (e : Event) (t : List Event) (first f : Fate) (m : Option (List Value)) → makes w n e t first ≡ false → is_release n e ≡ false → is_drop n e ≡ false → marked n.copy m (after w n e t first f) ≡ marked n.copy m f
+quiet_marked w n e t first Unmade m a b c = quiet_made n.copy m (makes w n e t first) a
+quiet_marked w n e t first Moving m a b c = quiet_left n.copy (steps n.to t) m (is_release n e) (is_drop n e) b c
+quiet_marked w n e t first (Waiting x) m a b c = quiet_taken n.copy x (steps n.to t) m (is_take w n.to e t)
+quiet_marked w n e t first (Taken x y) m a b c = refl
+quiet_marked w n e t first Lost m a b c = refl
+
+makes_off : (w : World) (n : Name) (e : Event) (t : List Event) (first : Fate) (b : Bool) → (n.copy == 0) ≡ b → (n.copy ≡ 0 → is_slot w n e t ≡ false) → is_copy n e ≡ false → makes w n e t first ≡ false
+makes_off w n e t first true q h k = rw q (h (eqb-true n.copy 0 q))
+makes_off w n e t first false q h k = rw (q, k) refl
+
+-- an event that is neither its slot, nor a release, a drop or a copy of it, changes nothing
+pub mark_kept : (w : World) → IsPlan w → (e : Event) (t : List Event) (n : Name) → 0 < n.round → n.round ≤ w.rounds → (n.copy ≡ 0 → is_slot w n e t ≡ false) → is_release n e ≡ false → is_drop n e ≡ false → is_copy n e ≡ false → mark_of w (e ∷ t) n ≡ mark_of w t n
+mark_kept w p e t n z l a b c d =
+    mark_after w p e t n z l
+    ∙ quiet_marked w n e t (fate w t (original n)) (fate w t n) (message w t n) (makes_off w n e t (fate w t (original n)) (n.copy == 0) refl a d) b c
+    ∙ sym (mark_is w t n)
 
 -- before its slot
-mark_before_at : (w : World) (t : List Event) (j i q : ℕ) → SentBy w j i (suc q) t → steps j t ≤ w.start (suc q) + i → mark_of w t j i q ≡ Unsent
-unfolding mark_of
-mark_before_at w t j i q (NotYet n h) l = mark_by_none i _ _ _ n
-mark_before_at w t j i q (Once a n h) l = absurd (omega arith)
+pub mark_before : (w : World) (t : List Event) (n : Name) → steps n.from t ≤ w.start n.round + n.to → mark_of w t n ≡ mark.Unsent
+mark_before w t n l = mark_is w t n ∙ ap (marked n.copy (message w t n)) (unmade_before w t n l)
 
-pub mark_before : (w : World) (t : List Event) (j i q : ℕ) → steps j t ≤ w.start (suc q) + i → mark_of w t j i q ≡ Unsent
-mark_before w t j i q l = mark_before_at w t j i q (sent_by w j i (suc q) t) l
+marked_moving : (m : Option (List Value)) → marked 0 m Moving ≡ spoken m
+marked_moving None = refl
+marked_moving (Some m) = refl
 
-mark_by_now : (i : ℕ) (a : Option (List Event)) (m : Option (List Value)) (b : Option (List Event)) (x : List Event) → a ≡ Some x → b ≡ None → mark_by i a m b ≡ spoken m
-mark_by_now i a None b x p q = rw p refl
-mark_by_now i a (Some m) b x p q = rw (p, q) refl
-
-mark_now_at : (w : World) → IsPlan w → (e : Event) (t : List Event) (j i q : ℕ) → suc q ≤ w.rounds → is_step j e ≡ true → steps j t ≡ w.start (suc q) + i → SentBy w j i (suc q) t → ReleasedBy w j i (suc q) e t → mark_of w (e ∷ t) j i q ≡ spoken (message w t q j i)
-unfolding mark_of
-mark_now_at w p e t j i q l h n (Once a s k) r = absurd (omega arith)
-mark_now_at w p e t j i q l h n (NotYet s k) (TooEarly s2 x y) =
-    mark_by_now i _ _ _ t (first_new (sends w j i (suc q)) e t s (and_from _ _ h (eq-eqb _ _ n))) y
-    ∙ ap spoken (message_kept w p e t j i q l (omega arith))
-mark_now_at w p e t j i q l h n (NotYet s k) (Before b x y) = let none : released w t j i (suc q) ≡ None = rw s refl in cc
-mark_now_at w p e t j i q l h n (NotYet s k) (Now a s2 x c y) = cc
-mark_now_at w p e t j i q l h n (NotYet s k) (NotIt a s2 c x y) = cc
+slot_made : (w : World) (n : Name) (e : Event) (t : List Event) (first : Fate) → n.copy ≡ 0 → is_slot w n e t ≡ true → after w n e t first Unmade ≡ Moving
+slot_made w n e t first h k = rw (eq-eqb n.copy 0 h, k) refl
 
 -- at its slot the state of its round sends
-pub mark_now : (w : World) → IsPlan w → (e : Event) (t : List Event) (j i q : ℕ) → suc q ≤ w.rounds → is_step j e ≡ true → steps j t ≡ w.start (suc q) + i → mark_of w (e ∷ t) j i q ≡ spoken (message w t q j i)
-mark_now w p e t j i q l h n = mark_now_at w p e t j i q l h n (sent_by w j i (suc q) t) (released_by w j i (suc q) e t)
+pub mark_now : (w : World) → IsPlan w → (e : Event) (t : List Event) (n : Name) → 0 < n.round → n.round ≤ w.rounds → n.copy ≡ 0 → is_step n.from e ≡ true → steps n.from t ≡ w.start n.round + n.to → mark_of w (e ∷ t) n ≡ spoken (message w t n)
+mark_now w p e t n z l k h at =
+    mark_after w p e t n z l
+    ∙ ap (λ f. marked n.copy (message w t n) (after w n e t (fate w t (original n)) f)) (unmade_before w t n (omega arith))
+    ∙ ap (marked n.copy (message w t n)) (slot_made w n e t (fate w t (original n)) k (and_from _ _ h (eq-eqb _ _ at)))
+    ∙ ap (λ c. marked c (message w t n) Moving) k ∙ marked_moving (message w t n)
 
-let_go_of : (x i : ℕ) (m : Option (List Value)) (a b : List Event) → steps i b ≡ x → mark_by i (Some a) m (Some b) ≡ let_go x (mark_by i (Some a) m None)
-let_go_of x i None a b h = refl
-let_go_of x i (Some m) a b h = ap Released h
+hushed_let_go : (x k : ℕ) → hushed k ≡ let_go x (hushed k)
+hushed_let_go x zero = refl
+hushed_let_go x (suc k) = refl
 
-let_go_again : (x i : ℕ) (m : Option (List Value)) (a b : List Event) → mark_by i (Some a) m (Some b) ≡ let_go x (mark_by i (Some a) m (Some b))
-let_go_again x i None a b = refl
-let_go_again x i (Some m) a b = refl
+release_marked : (w : World) (n : Name) (t : List Event) (first f : Fate) (m : Option (List Value)) (x : ℕ) → steps n.to t ≡ x → is_release n (Release n) ≡ true → makes w n (Release n) t first ≡ false → marked n.copy m (after w n (Release n) t first f) ≡ let_go x (marked n.copy m f)
+release_marked w n t first Unmade m x e h k = quiet_made n.copy m _ k
+release_marked w n t first Moving None x e h k = rw h (hushed_let_go x n.copy)
+release_marked w n t first Moving (Some m) x e h k = rw h (ap mark.Released e)
+release_marked w n t first (Waiting y) None x e h k = hushed_let_go x n.copy
+release_marked w n t first (Waiting y) (Some m) x e h k = refl
+release_marked w n t first (Taken y c) None x e h k = hushed_let_go x n.copy
+release_marked w n t first (Taken y c) (Some m) x e h k = refl
+release_marked w n t first Lost None x e h k = hushed_let_go x n.copy
+release_marked w n t first Lost (Some m) x e h k = refl
 
 -- at a release of it
-mark_release_at : (w : World) → IsPlan w → (e : Event) (t : List Event) (j i q : ℕ) → suc q ≤ w.rounds → is_release j i (suc q) e ≡ true → sends w j i (suc q) e t ≡ false → SentBy w j i (suc q) t → ReleasedBy w j i (suc q) e t → mark_of w (e ∷ t) j i q ≡ let_go (steps i t) (mark_of w t j i q)
-unfolding mark_of
-mark_release_at w p e t j i q l h k (NotYet s n) r =
-    mark_by_none i _ _ _ (first_skip (sends w j i (suc q)) e t k ∙ s) ∙ ap (let_go (steps i t)) (sym (mark_by_none i _ _ _ s))
-mark_release_at w p e t j i q l h k (Once a s n) (TooEarly s2 x y) = cc
-mark_release_at w p e t j i q l h k (Once a s n) (NotIt a2 s2 c x y) = cc
-mark_release_at w p e t j i q l h k (Once a s n) (Before b x y) =
-    mark_by_same i _ _ _ _ _ _ (first_skip (sends w j i (suc q)) e t k ∙ s) (message_kept w p e t j i q l (omega arith)) y
-    ∙ let_go_again (steps i t) i (message w t q j i) a b
-    ∙ ap (let_go (steps i t)) (sym (mark_by_same i _ _ _ _ _ _ s refl x))
-mark_release_at w p e t j i q l h k (Once a s n) (Now a2 s2 x c y) =
-    mark_by_same i _ _ _ _ _ _ (first_skip (sends w j i (suc q)) e t k ∙ s) (message_kept w p e t j i q l (omega arith)) y
-    ∙ let_go_of (steps i t) i (message w t q j i) a t refl
-    ∙ ap (let_go (steps i t)) (sym (mark_by_same i _ _ _ _ _ _ s refl x))
+pub mark_release : (w : World) → IsPlan w → (t : List Event) (n : Name) → 0 < n.round → n.round ≤ w.rounds → mark_of w (Release n ∷ t) n ≡ let_go (steps n.to t) (mark_of w t n)
+mark_release w p t n z l =
+    mark_after w p (Release n) t n z l
+    ∙ release_marked w n t (fate w t (original n)) (fate w t n) (message w t n) (steps n.to t) refl (own_name n) (makes_off w n (Release n) t (fate w t (original n)) (n.copy == 0) refl (λ k. refl) refl)
+    ∙ ap (let_go (steps n.to t)) (sym (mark_is w t n))
 
-pub mark_release : (w : World) → IsPlan w → (e : Event) (t : List Event) (j i q : ℕ) → suc q ≤ w.rounds → is_release j i (suc q) e ≡ true → is_step j e ≡ false → mark_of w (e ∷ t) j i q ≡ let_go (steps i t) (mark_of w t j i q)
-mark_release w p e t j i q l h k = mark_release_at w p e t j i q l h (and_left _ _ k) (sent_by w j i (suc q) t) (released_by w j i (suc q) e t)
+hushed_dropped : (k : ℕ) → hushed k ≡ dropped (hushed k)
+hushed_dropped zero = refl
+hushed_dropped (suc k) = refl
+
+drop_marked : (w : World) (n : Name) (t : List Event) (first f : Fate) (m : Option (List Value)) → is_drop n (Drop n) ≡ true → makes w n (Drop n) t first ≡ false → marked n.copy m (after w n (Drop n) t first f) ≡ dropped (marked n.copy m f)
+drop_marked w n t first Unmade m h k = quiet_made n.copy m _ k
+drop_marked w n t first Moving None h k = rw h (hushed_dropped n.copy)
+drop_marked w n t first Moving (Some m) h k = rw h refl
+drop_marked w n t first (Waiting y) None h k = hushed_dropped n.copy
+drop_marked w n t first (Waiting y) (Some m) h k = refl
+drop_marked w n t first (Taken y c) None h k = hushed_dropped n.copy
+drop_marked w n t first (Taken y c) (Some m) h k = refl
+drop_marked w n t first Lost None h k = hushed_dropped n.copy
+drop_marked w n t first Lost (Some m) h k = refl
+
+-- at a drop of it
+pub mark_drop : (w : World) → IsPlan w → (t : List Event) (n : Name) → 0 < n.round → n.round ≤ w.rounds → mark_of w (Drop n ∷ t) n ≡ dropped (mark_of w t n)
+mark_drop w p t n z l =
+    mark_after w p (Drop n) t n z l
+    ∙ drop_marked w n t (fate w t (original n)) (fate w t n) (message w t n) (own_name n) (makes_off w n (Drop n) t (fate w t (original n)) (n.copy == 0) refl (λ k. refl) refl)
+    ∙ ap dropped (sym (mark_is w t n))
+
+copied_off : (first m : Mark) → is_unsent m ≡ false → m ≡ copied first m
+copied_off first m h = rw (h, and_right (is_flying first) false refl) refl
+
+copied_unsent : (first : Mark) → is_flying first ≡ false → mark.Unsent ≡ copied first mark.Unsent
+copied_unsent first h = rw h refl
+
+-- a copy of what isn't made
+copy_made : (k : ℕ) (m : Option (List Value)) (first : Fate) → marked (suc k) m (if is_moving first then Moving else Unmade) ≡ copied (marked 0 m first) mark.Unsent
+copy_made k m Unmade = refl
+copy_made k None Moving = refl
+copy_made k (Some m) Moving = refl
+copy_made k None (Waiting x) = refl
+copy_made k (Some m) (Waiting x) = refl
+copy_made k None (Taken x c) = refl
+copy_made k (Some m) (Taken x c) = refl
+copy_made k None Lost = refl
+copy_made k (Some m) Lost = refl
+
+-- silence doesn't fly
+hushed_idle : (first : Fate) → is_flying (marked 0 None first) ≡ false
+hushed_idle Unmade = refl
+hushed_idle Moving = refl
+hushed_idle (Waiting x) = refl
+hushed_idle (Taken x c) = refl
+hushed_idle Lost = refl
+
+copy_marked : (w : World) (n : Name) (t : List Event) (k : ℕ) (first f : Fate) (m : Option (List Value)) → n.copy ≡ suc k → is_copy n (Copy n) ≡ true → marked (suc k) m (after w n (Copy n) t first f) ≡ copied (marked 0 m first) (marked (suc k) m f)
+copy_marked w n t k first Unmade m e h = rw (ne_eqb n.copy 0 (λ z. omega arith), h) (copy_made k m first)
+copy_marked w n t k first Moving None e h = copied_unsent (marked 0 None first) (hushed_idle first)
+copy_marked w n t k first Moving (Some m) e h = copied_off (marked 0 (Some m) first) mark.Flying refl
+copy_marked w n t k first (Waiting x) None e h = copied_unsent (marked 0 None first) (hushed_idle first)
+copy_marked w n t k first (Waiting x) (Some m) e h = copied_off (marked 0 (Some m) first) (mark.Released x) refl
+copy_marked w n t k first (Taken x c) None e h = copied_unsent (marked 0 None first) (hushed_idle first)
+copy_marked w n t k first (Taken x c) (Some m) e h = copied_off (marked 0 (Some m) first) (mark.Released x) refl
+copy_marked w n t k first Lost None e h = copied_unsent (marked 0 None first) (hushed_idle first)
+copy_marked w n t k first Lost (Some m) e h = copied_off (marked 0 (Some m) first) mark.Lost refl
+
+-- at a copy of it
+pub mark_copy : (w : World) → IsPlan w → (t : List Event) (n : Name) → 0 < n.round → n.round ≤ w.rounds → 0 < n.copy → mark_of w (Copy n ∷ t) n ≡ copied (mark_of w t (original n)) (mark_of w t n)
+mark_copy w p t n z l k =
+    let e : n.copy ≡ suc (n.copy - 1) = omega arith in
+    mark_after w p (Copy n) t n z l
+    ∙ ap (λ c. marked c (message w t n) (after w n (Copy n) t (fate w t (original n)) (fate w t n))) e
+    ∙ copy_marked w n t (n.copy - 1) (fate w t (original n)) (fate w t n) (message w t n) e (own_name n)
+    ∙ ap (λ c. copied (marked 0 (message w t n) (fate w t (original n))) (marked c (message w t n) (fate w t n))) (sym e)
+    ∙ ap (copied (marked 0 (message w t n) (fate w t (original n)))) (sym (mark_is w t n))
+    ∙ ap (λ x. copied x (mark_of w t n)) (sym (mark_is w t (original n)))

@@ -10,8 +10,8 @@ use Rattle.step_journal.specs.Agreed.{KeepsClosed}
 use Rattle.step_journal.specs.Agreement.{Row, row}
 use Rattle.step_journal.specs.History.{state}
 use Rattle.step_journal.specs.Log.{Holds, Log, closed, count_of, ended, happened, history, round_of, world_of}
-use Rattle.step_journal.specs.Trace.{carried}
-use Rattle.step_journal.proofs.Carried.{carried_kept}
+use Rattle.step_journal.specs.Fates.{carried}
+use Rattle.step_journal.proofs.Fates.{carried_kept}
 use Rattle.step_journal.proofs.Keeps.{RowOf, Grown, Stays, row_of}
 use Rattle.step_journal.proofs.Kept.{state_kept}
 use Rattle.step_journal.proofs.Leaves.{happened_first}
@@ -32,7 +32,7 @@ length_grown rows next k i x (Grown same e) =
     let s = ap length e ∙ length_push (row rows k) x in
     omega arith
 
-module _ {start : ℕ → ℕ} {nodes : ℕ} {v : Log} {counts : List ℕ} {marks : List Mark} {waiting : List (List Name)} {handed : List (List (List Name))} {answers : List Bool} (h : Holds start nodes v counts marks waiting handed answers) where
+module _ {start : ℕ → ℕ} {nodes : ℕ} {v : Log} {counts : List ℕ} {tables : List (List Mark)} {waiting : List (List Name)} {handed : List (List (List Name))} {answers : List Bool} (h : Holds start nodes v counts tables waiting handed answers) where
   -- a closed round is past
   over : (i r : ℕ) → i < v.setup.nodes → r < round_of v i → start (r + 1) ≤ count_of v i
   over i r l low =
@@ -48,8 +48,7 @@ module _ {start : ℕ → ℕ} {nodes : ℕ} {v : Log} {counts : List ℕ} {mark
         let bound = (faithful h).bounded i l in
         ap (λ t. state (world_of start v) t r i) (happened_first v e) ∙ state_kept (world_of start v) h.plan e (history v) r i (omega arith) (over i r l low);
     carries = λ i r j l first low.
-        let bound = (faithful h).bounded i l in
-        ap (λ t. carried (world_of start v) t i r j) (happened_first v e) ∙ carried_kept (world_of start v) h.plan i r j e (history v) first (omega arith) (over i r l low);
+        ap (λ t. carried (world_of start v) t i r j) (happened_first v e) ∙ carried_kept (world_of start v) i r j e (history v) (over i r l low);
   }
 
   pub kept_closed : (n : NodeView) → n.me < v.setup.nodes → KeepsClosed start v (closed v n)

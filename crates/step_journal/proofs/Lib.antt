@@ -1,7 +1,9 @@
 pub mod Plans
 pub mod Mails
 pub mod Places
-pub mod Carried
+pub mod Names
+pub mod Tables
+pub mod Fates
 pub mod Kept
 pub mod WaitsKept
 pub mod AccountsKept
@@ -10,7 +12,6 @@ pub mod Keeps
 pub mod Heard
 pub mod Hearing
 pub mod Reading
-pub mod Tables
 pub mod Events
 pub mod Leaves
 pub mod Closing

@@ -1,5 +1,5 @@
 -- Moments of a history, and places in the list of events that it is the reverse of.
-use Rattle.std.proofs.Common.{◌≡◌, ℕ, ◌+◌, ◌<◌, ◌≤◌, Bool, true, false, List, [], ◌∷◌, ◌++◌, length, take, Option, Some, None, sym, subst, refl, ap, ◌∙◌, arith, ◌⊎◌, inl, inr, if◌then◌else◌}
+use Rattle.std.proofs.Common.{◌≡◌, ℕ, ◌+◌, ◌<◌, ◌≤◌, Bool, true, false, List, [], ◌∷◌, ◌++◌, length, take, Some, sym, subst, refl, ap, ◌∙◌, arith, ◌⊎◌, inl, inr, if◌then◌else◌}
 use Rattle.std.specs.Prelude.{reverse}
 use Rattle.std.specs.List.{count_by, slice_get}
 use Rattle.std.proofs.lemmas.Bool.{cases_lt, eq-eqb}
@@ -10,7 +10,7 @@ use Rattle.std.proofs.lemmas.Grind.{common_steps}
 use Rattle.step_machine.specs.declared.event.Event.{Event}
 use Rattle.step_machine.specs.declared.event.Event.TheVariants.{Step}
 use Rattle.step_journal.specs.Places.{steps_before}
-use Rattle.step_journal.specs.Trace.{is_step, steps, or_else, first}
+use Rattle.step_journal.specs.Trace.{is_step, steps}
 use Rattle.step_journal.proofs.Places.{steps_at, steps_grow}
 
 -- the history has this event, and the moment m is what went before it
@@ -34,10 +34,10 @@ read_left xs e k l =
 read_last : (xs : List Event) (e : Event) → slice_get (xs ++ e ∷ []) (length xs) ≡ Some e
 read_last xs e = slice_get-get_or (xs ++ e ∷ []) (length xs) e (grind (arith, common_steps)) ∙ ap Some (get_or-append_seam xs e [] e)
 
-read_older : (d : Event) (t : List Event) (k : ℕ) → k < length t → slice_get (reverse (d ∷ t)) k ≡ slice_get (reverse t) k
+pub read_older : (d : Event) (t : List Event) (k : ℕ) → k < length t → slice_get (reverse (d ∷ t)) k ≡ slice_get (reverse t) k
 read_older d t k l = ap (λ z. slice_get z k) (last_event d t) ∙ read_left (reverse t) d k (let n = length-reverse t in omega arith)
 
-read_newest : (d : Event) (t : List Event) → slice_get (reverse (d ∷ t)) (length t) ≡ Some d
+pub read_newest : (d : Event) (t : List Event) → slice_get (reverse (d ∷ t)) (length t) ≡ Some d
 read_newest d t =
     ap (λ z. slice_get z (length t)) (last_event d t) ∙ ap (slice_get (reverse t ++ d ∷ [])) (sym (length-reverse t)) ∙ read_last (reverse t) d
 
@@ -74,7 +74,7 @@ unfolding steps
 count_steps i [] = refl
 count_steps i (e ∷ t) = ap (count_by (is_step i)) (last_event e t) ∙ count_more i e (reverse t) (steps i t) (count_steps i t)
 
-take_older : (d : Event) (t : List Event) (k : ℕ) → k ≤ length t → take k (reverse (d ∷ t)) ≡ take k (reverse t)
+pub take_older : (d : Event) (t : List Event) (k : ℕ) → k ≤ length t → take k (reverse (d ∷ t)) ≡ take k (reverse t)
 take_older d t k l = ap (take k) (last_event d t) ∙ take-append-le k (reverse t) (d ∷ []) (let n = length-reverse t in omega arith)
 
 pub at_before : (m : List Event) (e : Event) (t : List Event) → At m e t → take (length m) (reverse t) ≡ reverse m
@@ -106,57 +106,3 @@ pub step_rises : (i : ℕ) (m t : List Event) → At m (Step i) t → steps i m 
 step_rises i m [] h = elim h [ ]
 step_rises i m (d ∷ t) Newest = let up = steps_at i (Step i) m (eq-eqb i i refl) in omega arith
 step_rises i m (d ∷ t) (Older d' t' h) = let up = steps_grow i d t in omega (arith, step_rises i m t h)
-
--- ---- the first moment that passes a test
-
--- the test holds first at this moment
-pub record IsFirst (test : Event → List Event → Bool) (m t : List Event) : Type 0 where
-  pub event : Event
-  pub there : At m event t
-  pub passes : test event m ≡ true
-  pub none : (d : Event) (n : List Event) → At n d t → length n < length m → test d n ≡ false
-
-found_by : (test : Event → List Event → Bool) (m : List Event) (e : Event) (t : List Event) (o : Option (List Event)) (b : Bool) → first test t ≡ o → test e t ≡ b → or_else o (if b then Some t else None) ≡ Some m → (first test t ≡ Some m → IsFirst test m t) → (first test t ≡ None → (d : Event) (n : List Event) → At n d t → test d n ≡ false) → IsFirst test m (e ∷ t)
-found_by test m e t (Some x) b f h k old none =
-    let was = old (f ∙ k) in
-    record {
-      event = was.event;
-      there = Older e t was.there;
-      passes = was.passes;
-      none = λ d n at l. later d n at l;
-    }
-  where
-    later : (d : Event) (n : List Event) → At n d (e ∷ t) → length n < length m → test d n ≡ false
-    later d n Newest l = absurd (let z = at_longer m (old (f ∙ k)).event t (old (f ∙ k)).there in omega arith)
-    later d n (Older y u at) l = (old (f ∙ k)).none d n at l
-found_by test m e t None true f h k old none =
-    let same : t ≡ m = (let both : Some t ≡ Some m = k in cc) in
-    subst (λ (z : List Event). IsFirst test z (e ∷ t)) same
-    (record {
-      event = e;
-      there = Newest;
-      passes = h;
-      none = λ d n at l. earlier d n at l;
-    })
-  where
-    earlier : (d : Event) (n : List Event) → At n d (e ∷ t) → length n < length t → test d n ≡ false
-    earlier d n Newest l = absurd (omega arith)
-    earlier d n (Older y u at) l = none f d n at
-found_by test m e t None false f h k old none = cc
-
-none_by : (test : Event → List Event → Bool) (e : Event) (t : List Event) (o : Option (List Event)) (b : Bool) → first test t ≡ o → test e t ≡ b → ◌≡◌ {A = Option (List Event)} (or_else o (if b then Some t else None)) None → (first test t ≡ None → (d : Event) (n : List Event) → At n d t → test d n ≡ false) → (d : Event) (n : List Event) → At n d (e ∷ t) → test d n ≡ false
-none_by test e t (Some x) b f h k none d n at = cc
-none_by test e t None true f h k none d n at = cc
-none_by test e t None false f h k none d n Newest = h
-none_by test e t None false f h k none d n (Older y u at) = none f d n at
-
--- nothing was found: no moment passes
-pub none_passes : (test : Event → List Event → Bool) (t : List Event) → first test t ≡ None → (d : Event) (n : List Event) → At n d t → test d n ≡ false
-unfolding first
-none_passes test [] h d n at = elim at [ ]
-none_passes test (e ∷ t) h d n at = none_by test e t (first test t) (test e t) refl refl h (λ g. none_passes test t g) d n at
-
-pub is_first : (test : Event → List Event → Bool) (m t : List Event) → first test t ≡ Some m → IsFirst test m t
-unfolding first
-is_first test m [] h = cc
-is_first test m (e ∷ t) h = found_by test m e t (first test t) (test e t) refl refl h (is_first test m t) (none_passes test t)

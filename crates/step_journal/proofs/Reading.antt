@@ -1,7 +1,7 @@
 -- What the reading calls of a record answer.
-use Rattle.std.proofs.Common.{◌≡◌, ℕ, ◌+◌, ◌-◌, ◌*◌, ◌<◌, ◌≤◌, List, [], ◌∷◌, ◌++◌, length, get_or, sym, subst, refl, ap, ◌∙◌, arith, ◌⊎◌, inl, inr, Bool}
-use Rattle.std.proofs.lemmas.List.{get_or-map, length-map, get_or_default, get_or_past}
-use Rattle.std.proofs.lemmas.Bool.{cases_lt}
+use Rattle.std.proofs.Common.{◌≡◌, ℕ, ◌+◌, ◌-◌, ◌*◌, ◌<◌, ◌≤◌, List, [], ◌∷◌, ◌++◌, length, get_or, sym, subst, refl, ap, ◌∙◌, arith, Bool}
+use Rattle.std.proofs.lemmas.List.{get_or-map, length-map, get_or_default}
+use Rattle.std.specs.List.{count_by}
 use Rattle.std.specs.Prelude.{Vec}
 use Rattle.std.specs.Arc.{arc_value}
 use Rattle.std.specs.declared.sync.Arc.{Arc}
@@ -14,14 +14,18 @@ use Rattle.step_journal.specs.declared.mark.Mark.TheVariants.{Unsent}
 use Rattle.step_journal.specs.World.{nodes_of}
 use Rattle.step_journal.specs.History.{handed_of}
 use Rattle.step_journal.specs.Agreement.{Row, row, place_of, IsBuffer}
-use Rattle.step_journal.specs.Log.{Log, Recorded, Holds, IsFaithful, IsFlying, IsName, happened, world_of, history, round_of, count_of, mark_in, waiting_in, states_of, rows_of, handed_in, waits_in}
+use Rattle.step_journal.specs.Names.{IsName, IsNameOf}
+use Rattle.step_journal.specs.Tables.{HasPlace, read_at}
+use Rattle.step_journal.specs.Trace.{is_name}
+use Rattle.step_journal.specs.Log.{Log, Recorded, Holds, IsFaithful, IsFlying, happened, world_of, history, round_of, count_of, mark_in, waiting_in, states_of, rows_of, handed_in, waits_in}
 use Rattle.step_journal.specs.Mailing.{Mailed}
 use Rattle.step_journal.proofs.Buffers.{buffer_counts}
+use Rattle.step_journal.proofs.Tables.{has_place}
 
 -- what holds of the fields holds of the view
-pub of_view : {P : Type 0} {s v : Recorded P} {counts : List ℕ} {marks : List Mark} {waiting : List (List Name)} {handed : List (List (List Name))} {answers : List Bool} (start : P → ℕ → ℕ) (nodes : P → ℕ) → s ≡ v → Holds (start s.plan) (nodes s.plan) s.log counts marks waiting handed answers → Holds (start v.plan) (nodes v.plan) v.log counts marks waiting handed answers
-of_view {P} {s} {v} {counts} {marks} {waiting} {handed} {answers} start nodes e h =
-    subst (λ (z : Recorded P). Holds (start z.plan) (nodes z.plan) z.log counts marks waiting handed answers) e h
+pub of_view : {P : Type 0} {s v : Recorded P} {counts : List ℕ} {tables : List (List Mark)} {waiting : List (List Name)} {handed : List (List (List Name))} {answers : List Bool} (start : P → ℕ → ℕ) (nodes : P → ℕ) → s ≡ v → Holds (start s.plan) (nodes s.plan) s.log counts tables waiting handed answers → Holds (start v.plan) (nodes v.plan) v.log counts tables waiting handed answers
+of_view {P} {s} {v} {counts} {tables} {waiting} {handed} {answers} start nodes e h =
+    subst (λ (z : Recorded P). Holds (start z.plan) (nodes z.plan) z.log counts tables waiting handed answers) e h
 
 -- the nodes of a run are its setup's
 pub nodes_are : (start : ℕ → ℕ) (v : Log) → nodes_of (world_of start v) ≡ v.setup.nodes
@@ -31,7 +35,11 @@ nodes_are start v = refl
 pub one_of : (start : ℕ → ℕ) (v : Log) (k : ℕ) → k < v.setup.nodes → k < nodes_of (world_of start v)
 one_of start v k l = let n = nodes_are start v in omega (arith, n)
 
-module _ {start : ℕ → ℕ} {nodes : ℕ} {v : Log} {counts : List ℕ} {marks : List Mark} {waiting : List (List Name)} {handed : List (List (List Name))} {answers : List Bool} (h : Holds start nodes v counts marks waiting handed answers) where
+-- a name of the run is one of its world's
+pub named : (start : ℕ → ℕ) (v : Log) (n : Name) → IsName v.setup n → IsNameOf (nodes_of (world_of start v)) v.setup.rounds n
+named start v n a = subst (λ (z : ℕ). IsNameOf z v.setup.rounds n) (sym (nodes_are start v)) a
+
+module _ {start : ℕ → ℕ} {nodes : ℕ} {v : Log} {counts : List ℕ} {tables : List (List Mark)} {waiting : List (List Name)} {handed : List (List (List Name))} {answers : List Bool} (h : Holds start nodes v counts tables waiting handed answers) where
   pub counts_len : length counts ≡ v.setup.nodes
   counts_len = h.book.counted ∙ nodes_are start v
 
@@ -65,7 +73,7 @@ module _ {start : ℕ → ℕ} {nodes : ℕ} {v : Log} {counts : List ℕ} {mark
 
   -- the buffer by events is the buffer by places
   pub buffer_once : (k : ℕ) → IsBuffer (world_of start v) (history v) k (waiting_in start v k)
-  buffer_once k = λ j q b. buffer_counts (world_of start v) h.plan (history v) j k q (omega arith)
+  buffer_once k = λ n to z l. ap (λ i. count_by (is_name n) (waiting_in start v i)) (sym to) ∙ buffer_counts (world_of start v) h.plan (history v) n z l
 
   pub round_low : (k : ℕ) → k < v.setup.nodes → 0 < round_of v k
   round_low k l = h.book.began k (one_of start v k l)
@@ -77,31 +85,15 @@ module _ {start : ℕ → ℕ} {nodes : ℕ} {v : Log} {counts : List ℕ} {mark
   pub rounds_few : v.setup.rounds ≤ 4096
   rounds_few = h.lawful.sized.few_rounds
 
-  -- a mark in the table
-  pub mark_some : (n : Name) (p : ℕ) (x : Mark) → IsName v.setup n → p ≡ ((n.round - 1) * v.setup.nodes + n.from) * v.setup.nodes + n.to → p < length marks → x ≡ get_or marks p x → x ≡ mark_in start v n
-  mark_some n p x a e l y =
-      let same : p ≡ place_of (world_of start v) n.from n.to (n.round - 1) = e ∙ ap (λ m. ((n.round - 1) * m + n.from) * m + n.to) (sym (nodes_are start v)) in
-      let first = a.first in
-      let last = a.last in
-      y ∙ sym (get_or_default marks p Unsent x l) ∙ ap (λ m. get_or marks m Unsent) same
-      ∙ h.book.mark n.from n.to (n.round - 1) (one_of start v n.from a.from) (one_of start v n.to a.to) (omega arith)
+  -- a mark in the tables
+  pub mark_read : (n : Name) (p : ℕ) → IsName v.setup n → p ≡ ((n.round - 1) * v.setup.nodes + n.from) * v.setup.nodes + n.to → read_at Unsent tables n.copy p ≡ mark_in start v n
+  mark_read n p a e =
+      let same : p ≡ place_of (world_of start v) n = e ∙ ap (λ m. ((n.round - 1) * m + n.from) * m + n.to) (sym (nodes_are start v)) in
+      ap (read_at Unsent tables n.copy) same ∙ h.book.mark n (named start v n a)
 
-  -- a mark that the table doesn't have yet
-  pub mark_none : (n : Name) (p : ℕ) → IsName v.setup n → p ≡ ((n.round - 1) * v.setup.nodes + n.from) * v.setup.nodes + n.to → length marks ≤ p → Unsent ≡ mark_in start v n
-  mark_none n p a e l =
-      let same : p ≡ place_of (world_of start v) n.from n.to (n.round - 1) = e ∙ ap (λ m. ((n.round - 1) * m + n.from) * m + n.to) (sym (nodes_are start v)) in
-      let first = a.first in
-      let last = a.last in
-      sym (get_or_past marks p Unsent l) ∙ ap (λ m. get_or marks m Unsent) same
-      ∙ h.book.mark n.from n.to (n.round - 1) (one_of start v n.from a.from) (one_of start v n.to a.to) (omega arith)
-
-  -- a message in flight has its mark in the table
-  pub flying_in : (n : Name) (p : ℕ) → IsName v.setup n → IsFlying start v n → p ≡ ((n.round - 1) * v.setup.nodes + n.from) * v.setup.nodes + n.to → p < length marks
-  flying_in n p a fly e = by (cases_lt _ _)
-    where
-      by : (p < length marks) ⊎ (length marks ≤ p) → p < length marks
-      by (inl low) = low
-      by (inr high) = let unsent = mark_none n p a e high in absurd cc
+  -- what is in flight has its mark in the tables
+  pub flying_in : (n : Name) (p : ℕ) → IsName v.setup n → IsFlying start v n → p ≡ ((n.round - 1) * v.setup.nodes + n.from) * v.setup.nodes + n.to → HasPlace tables n.copy p
+  flying_in n p a fly e = has_place Unsent tables n.copy p (λ none. let is = mark_read n p a e in cc)
 
 -- the rows of a view are those of its fields
 pub rows_view : {P : Type 0} {s v : Recorded P} → s ≡ v → s.log.rows ≡ v.log.rows

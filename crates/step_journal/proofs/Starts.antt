@@ -57,8 +57,8 @@ pub none_handed : (n : ℕ) (mails : List Mailed) → mails ≡ replicate n (mai
 none_handed n mails e = ap handed_in e ∙ map_all (λ (m : Mailed). m.handed) n (mailed [] [] 0)
 
 -- a run that begins holds with nothing beside it
-pub begins : (start receives : ℕ → ℕ) (nodes : ℕ) (v : Log) (p : ProgramTree) (s : Setup) (counts : List ℕ) (marks : List Mark) (waiting : List (List Name)) (handed : List (List (List Name))) (answers : List Bool) → PlanLaws nodes receives start → IsLawful p.values s → nodes ≡ s.nodes → v ≡ opened p s → counts ≡ replicate s.nodes 0 → marks ≡ [] → waiting ≡ replicate s.nodes [] → handed ≡ replicate s.nodes [] → answers ≡ [] → Holds start nodes v counts marks waiting handed answers
-begins start receives nodes v p s counts marks waiting handed answers laws lawful n is a b c d e =
+pub begins : (start receives : ℕ → ℕ) (nodes : ℕ) (v : Log) (p : ProgramTree) (s : Setup) (counts : List ℕ) (tables : List (List Mark)) (waiting : List (List Name)) (handed : List (List (List Name))) (answers : List Bool) → PlanLaws nodes receives start → IsLawful p.values s → nodes ≡ s.nodes → v ≡ opened p s → counts ≡ replicate s.nodes 0 → tables ≡ [] → waiting ≡ replicate s.nodes [] → handed ≡ replicate s.nodes [] → answers ≡ [] → Holds start nodes v counts tables waiting handed answers
+begins start receives nodes v p s counts tables waiting handed answers laws lawful n is a b c d e =
     let o = opened p s in
     let w = world_of start o in
     let m = nodes_are start o in

@@ -1,5 +1,5 @@
 -- What each event leaves of the frames.
-use Rattle.std.proofs.Common.{◌≡◌, ◌≢◌, ℕ, ◌+◌, ◌-◌, ◌<◌, ◌≤◌, All, List, [], ◌∷◌, ◌++◌, length, get_or, set, Option, Some, None, sym, subst, refl, ap, ◌∙◌, arith, ◌⊎◌, inl, inr}
+use Rattle.std.proofs.Common.{◌≡◌, ◌≢◌, ℕ, ◌+◌, ◌-◌, ◌<◌, ◌≤◌, All, List, [], ◌∷◌, ◌++◌, length, get_or, set, Option, Some, None, sym, subst, refl, ap, if◌then◌else◌, ◌∙◌, arith, Bool, ◌⊎◌, inl, inr}
 use Rattle.std.specs.Prelude.{IsSomeAnd, option_map, option_to_list}
 use Rattle.std.proofs.lemmas.Bool.{cases_eq, cases_lt}
 use Rattle.std.proofs.lemmas.List.{get_or-set_same, get_or-set_other, length-set, map-append, append-nil, get_or_append_left, get_or_default, get_or_past, length_push}
@@ -9,22 +9,25 @@ use Rattle.round_lang.specs.Syntax.{ProgramTree}
 use Rattle.round_meaning.specs.declared.setup.Setup.{Setup}
 use Rattle.round_meaning.specs.Rounds.{Algorithm, algorithm_of}
 use Rattle.step_machine.specs.declared.event.Event.{Event}
-use Rattle.step_machine.specs.declared.event.Event.TheVariants.{Step, Release}
+use Rattle.step_machine.specs.declared.event.Event.TheVariants.{Step, Release, Drop, Copy}
 use Rattle.step_machine.specs.declared.event.Name.{Name}
-use Rattle.step_machine.specs.Frames.{Frame, Ready, IsPrepared, frame_of}
+use Rattle.step_machine.specs.Frames.{Frame, Ready, IsPrepared, copied_as, frame_of, original}
 use Rattle.step_machine.specs.Nodes.{NodeView}
 use Rattle.step_journal.specs.declared.mark.Mark.{Mark}
-use Rattle.step_journal.specs.declared.mark.Mark.TheVariants.{Unsent, Silent, Flying, Released}
+use Rattle.step_journal.specs.declared.mark.Mark.TheVariants.{Unsent, Silent, Flying, Released, Lost}
 use Rattle.step_journal.specs.Agreement.{Row, row}
 use Rattle.step_journal.specs.Trace.{steps}
-use Rattle.step_journal.specs.History.{buffer_of, arrival, let_go, spoken}
-use Rattle.step_journal.specs.Log.{Log, Recorded, IsName, IsFlying, SameMarks, SameMarksBut, SameWaiting, SameWaitingBut, closed, count_of, ended, happened, mark_in, opened, round_of, waiting_in, world_of}
+use Rattle.step_journal.specs.History.{arrival, buffer_of, copied, dropped, let_go, spoken}
+use Rattle.step_journal.specs.Log.{CanCopy, Log, Recorded, IsFlying, SameMarks, SameMarksBut, SameWaiting, SameWaitingBut, closed, count_of, ended, happened, mark_in, opened, round_of, waiting_in, world_of}
+use Rattle.step_journal.specs.Names.{IsName}
 use Rattle.step_journal.specs.Causes.{IsSendFit}
+use Rattle.step_journal.specs.Tables.{HasPlace, Puts, SameTables, read_at}
 use Rattle.step_journal.proofs.Keeps.{RowOf, Grown, Stays, row_of, row_same}
-use Rattle.step_journal.proofs.Events.{let_go_idle, arrival_idle}
+use Rattle.step_journal.proofs.Events.{arrival_idle, copied_idle, copied_now, dropped_idle, let_go_idle}
 use Rattle.step_journal.proofs.Kept.{mark_before}
-use Rattle.step_journal.proofs.Leaves.{name_same}
-use Rattle.step_journal.specs.Stock.{Stock, AreEmpty, Fits, Flies, IsGenuine, SameFlying, flying_at, names_in, no_stock, place_among, stock_at}
+use Rattle.step_journal.proofs.Names.{name_cases, name_same, original_named}
+use Rattle.step_journal.proofs.Tables.{has_place}
+use Rattle.step_journal.specs.Stock.{Stock, AreEmpty, Fits, Flies, IsGenuine, flying_at, names_in, no_stock, place_among, stock_at}
 
 -- what holds of the view holds of the fields
 pub fits_view : {P : Type 0} {s v : Recorded P} {bs : List Stock} (start : P → ℕ → ℕ) → s ≡ v → Fits (start v.plan) v.log bs → Fits (start s.plan) s.log bs
@@ -46,31 +49,23 @@ flies_same : (a : Algorithm) (rows : List Row) (n : Name) (m x : Mark) (o p : Op
 flies_same a rows n m x o p e d f = subst (λ (z : Mark). Flies a rows n z p) (sym e) (subst (λ (z : Option Frame). Flies a rows n m z) (sym d) f)
 
 -- places among the messages to one node are apart
-place_apart : (nodes : ℕ) (n m : Name) → n.from < nodes → m.from < nodes → n.to ≡ m.to → 0 < n.round → 0 < m.round → (n ≡ m → ⊥) → place_among nodes n ≢ place_among nodes m
+place_apart : (nodes : ℕ) (n m : Name) → n.from < nodes → m.from < nodes → n.to ≡ m.to → 0 < n.round → 0 < m.round → (n ≡ m → ⊥) → (n.copy ≡ m.copy) × (place_among nodes n ≡ place_among nodes m) → ⊥
 place_apart nodes n m a b to x y apart e =
-    let both = row_same nodes (n.round - 1) n.from (m.round - 1) m.from a b e in
-    apart (name_same n m both.1 to (let r = both.0 in omega arith))
-
-name_cases_by : (n m : Name) → (n.from ≡ m.from) ⊎ (n.from ≡ m.from → ⊥) → (n.to ≡ m.to) ⊎ (n.to ≡ m.to → ⊥) → (n.round ≡ m.round) ⊎ (n.round ≡ m.round → ⊥) → (n ≡ m) ⊎ (n ≡ m → ⊥)
-name_cases_by n m (inl a) (inl b) (inl c) = inl (name_same n m a b c)
-name_cases_by n m (inr a) b c = inr (λ e. a (ap (λ (x : Name). x.from) e))
-name_cases_by n m (inl a) (inr b) c = inr (λ e. b (ap (λ (x : Name). x.to) e))
-name_cases_by n m (inl a) (inl b) (inr c) = inr (λ e. c (ap (λ (x : Name). x.round) e))
-
--- names are one or two
-pub name_cases : (n m : Name) → (n ≡ m) ⊎ (n ≡ m → ⊥)
-name_cases n m = name_cases_by n m (cases_eq _ _) (cases_eq _ _) (cases_eq _ _)
+    let both = row_same nodes (n.round - 1) n.from (m.round - 1) m.from a b e.1 in
+    apart (name_same n m both.1 to (let r = both.0 in omega arith) e.0)
 
 -- a frame is as genuine where a row grew
 grown_frame : (a : Algorithm) (rows next : List Row) (k : ℕ) (x : List Value) (g : Frame) → RowOf rows k x g.name.from next → IsGenuine a rows g → IsGenuine a next g
 grown_frame a rows next k x g (Stays e) h = record {
   spells = h.spells;
+  copy = h.copy;
   first = h.first;
   past = (let p = h.past in let s = ap length e in omega arith);
   own = ap (λ r. get_or r (g.name.round - 1) []) e ∙ h.own;
 }
 grown_frame a rows next k x g (Grown same e) h = record {
   spells = h.spells;
+  copy = h.copy;
   first = h.first;
   past = (let p = h.past in let s = ap length e ∙ length_push (row rows k) x in let t = ap (λ z. length (row rows z)) same in omega arith);
   own = ap (λ r. get_or r (g.name.round - 1) []) e
@@ -82,16 +77,21 @@ grown_flies : (a : Algorithm) (rows : List Row) (k : ℕ) (x : List Value) (n : 
 grown_flies a rows k x n Unsent o l h = h
 grown_flies a rows k x n Silent o l h = h
 grown_flies a rows k x n (Released y) o l h = h
+grown_flies a rows k x n Lost o l h = h
 grown_flies a rows k x n Flying None l h = h
 grown_flies a rows k x n Flying (Some g) l h = (h.0, grown_frame a rows _ k x g (row_of rows k x g.name.from l) h.1)
 
--- a frame in flight has its place in the table
-pub there_in : (a : Algorithm) (rows : List Row) (n : Name) (b : Stock) (k : ℕ) → IsSomeAnd (flying_at b k) (λ x. (x.name ≡ n) × IsGenuine a rows x) → k < length b.flying
-there_in a rows n b k h = by (cases_lt _ _)
-  where
-    by : (k < length b.flying) ⊎ (length b.flying ≤ k) → k < length b.flying
-    by (inl low) = low
-    by (inr high) = absurd (subst (λ (y : Option Frame). IsSomeAnd y (λ x. (x.name ≡ n) × IsGenuine a rows x)) (get_or_past b.flying k None high) h)
+-- a frame in flight has its place in its table
+there_in : (a : Algorithm) (rows : List Row) (n : Name) (b : Stock) (c k : ℕ) → IsSomeAnd (flying_at b c k) (λ x. (x.name ≡ n) × IsGenuine a rows x) → HasPlace b.flying c k
+there_in a rows n b c k h = has_place None b.flying c k (λ none. subst (λ (y : Option Frame). IsSomeAnd y (λ x. (x.name ≡ n) × IsGenuine a rows x)) none h)
+
+-- only what is in flight has a frame there
+flies_some : (a : Algorithm) (rows : List Row) (n : Name) (m : Mark) (frame : Frame) → Flies a rows n m (Some frame) → (frame.name ≡ n) × IsGenuine a rows frame
+flies_some a rows n Unsent frame h = cc
+flies_some a rows n Silent frame h = cc
+flies_some a rows n (Released x) frame h = cc
+flies_some a rows n Lost frame h = cc
+flies_some a rows n Flying frame h = h
 
 -- the frame of a name that goes to those that wait
 arrives : (a : Algorithm) (rows : List Row) (n : Name) (fs : List Frame) (o : Option Frame) → IsSomeAnd o (λ x. (x.name ≡ n) × IsGenuine a rows x) → (names_in (fs ++ option_to_list o) ≡ names_in fs ++ n ∷ []) × (All (IsGenuine a rows) fs → All (IsGenuine a rows) (fs ++ option_to_list o))
@@ -131,14 +131,14 @@ fits_open start p s bs h = record {
   sized = h.sized;
   waiting = λ i l. ap names_in (stock i l).1;
   genuine = λ i l. All-same (IsGenuine (algorithm_of p s) (opened p s).rows) _ [] (stock i l).1 (λ x y z. absurd (omega arith));
-  flying = λ n a. flies_same (algorithm_of p s) (opened p s).rows n Unsent _ None _ (before n) (ap (λ (x : List (Option Frame)). get_or x (place_among s.nodes n) None) (stock n.to a.to).0) refl;
+  flying = λ n a. flies_same (algorithm_of p s) (opened p s).rows n Unsent _ None _ (before n) (ap (λ (x : List (List (Option Frame))). read_at None x n.copy (place_among s.nodes n)) (stock n.to a.to).0) refl;
 }
   where
     stock : (i : ℕ) → i < s.nodes → ((stock_at bs i).flying ≡ []) × ((stock_at bs i).waiting ≡ [])
     stock i l = h.each i no_stock (let z = h.sized in omega arith)
 
     before : (n : Name) → mark_in start (opened p s) n ≡ Unsent
-    before n = mark_before (world_of start (opened p s)) [] n.from n.to (n.round - 1) (omega arith)
+    before n = mark_before (world_of start (opened p s)) [] n (omega arith)
 
 -- one empty stock more
 pub empty_push : (n : ℕ) (xs ys : List Stock) (b : Stock) → ys ≡ xs ++ b ∷ [] → b.flying ≡ [] → b.waiting ≡ [] → AreEmpty n xs → AreEmpty (n + 1) ys
@@ -168,13 +168,13 @@ module _ {start : ℕ → ℕ} {v : Log} {bs : List Stock} (f : Fits start v bs)
       each i m (inl same) = All-same (IsGenuine (algorithm_of v.program v.setup) v.rows) _ [] (ap (λ x. (stock_at (set bs k new) x).waiting) same ∙ ap (λ (b : Stock). b.waiting) (written_at bs k new in_list) ∙ d) (λ x y z. absurd (omega arith))
       each i m (inr apart) = All-same (IsGenuine (algorithm_of v.program v.setup) v.rows) _ _ (ap (λ (b : Stock). b.waiting) (written_off bs k i new apart)) (f.genuine i m)
 
-      flies : (n : Name) → IsName v.setup n → (n.to ≡ k) ⊎ (n.to ≡ k → ⊥) → flying_at (stock_at (set bs k new) n.to) (place_among v.setup.nodes n) ≡ flying_at (stock_at bs n.to) (place_among v.setup.nodes n)
+      flies : (n : Name) → IsName v.setup n → (n.to ≡ k) ⊎ (n.to ≡ k → ⊥) → flying_at (stock_at (set bs k new) n.to) n.copy (place_among v.setup.nodes n) ≡ flying_at (stock_at bs n.to) n.copy (place_among v.setup.nodes n)
       flies n a (inl same) =
           let there : stock_at (set bs k new) n.to ≡ new = ap (stock_at (set bs k new)) same ∙ written_at bs k new in_list in
           let here : stock_at bs n.to ≡ old = ap (stock_at bs) same ∙ stock_read bs k old in_list h in
-          ap (λ (b : Stock). flying_at b (place_among v.setup.nodes n)) there ∙ ap (λ (x : List (Option Frame)). get_or x (place_among v.setup.nodes n) None) e
-          ∙ ap (λ (b : Stock). flying_at b (place_among v.setup.nodes n)) (sym here)
-      flies n a (inr apart) = ap (λ (b : Stock). flying_at b (place_among v.setup.nodes n)) (written_off bs k n.to new apart)
+          ap (λ (b : Stock). flying_at b n.copy (place_among v.setup.nodes n)) there ∙ ap (λ (x : List (List (Option Frame))). read_at None x n.copy (place_among v.setup.nodes n)) e
+          ∙ ap (λ (b : Stock). flying_at b n.copy (place_among v.setup.nodes n)) (sym here)
+      flies n a (inr apart) = ap (λ (b : Stock). flying_at b n.copy (place_among v.setup.nodes n)) (written_off bs k n.to new apart)
 
   -- an event that changes no message and no buffer
   pub fits_same : (e : Event) → SameMarks start v (happened v e) → SameWaiting start v (happened v e) → Fits start (happened v e) bs
@@ -186,7 +186,7 @@ module _ {start : ℕ → ℕ} {v : Log} {bs : List Stock} (f : Fits start v bs)
   }
 
   -- one stock that reads the same
-  pub fits_kept : (k : ℕ) (old new : Stock) → k < v.setup.nodes → old ≡ get_or bs k old → SameFlying old new → new.waiting ≡ old.waiting → Fits start v (set bs k new)
+  pub fits_kept : (k : ℕ) (old new : Stock) → k < v.setup.nodes → old ≡ get_or bs k old → SameTables None old.flying new.flying → new.waiting ≡ old.waiting → Fits start v (set bs k new)
   fits_kept k old new l h e d = record {
     sized = length-set bs k new ∙ f.sized;
     waiting = λ i m. ap names_in (waits i (cases_eq i k)) ∙ f.waiting i m;
@@ -203,18 +203,18 @@ module _ {start : ℕ → ℕ} {v : Log} {bs : List Stock} (f : Fits start v bs)
           ∙ ap (λ (b : Stock). b.waiting) (sym (stock_read bs k old in_list h)) ∙ ap (λ x. (stock_at bs x).waiting) (sym same)
       waits i (inr apart) = ap (λ (b : Stock). b.waiting) (written_off bs k i new apart)
 
-      flies : (n : Name) → (n.to ≡ k) ⊎ (n.to ≡ k → ⊥) → flying_at (stock_at (set bs k new) n.to) (place_among v.setup.nodes n) ≡ flying_at (stock_at bs n.to) (place_among v.setup.nodes n)
+      flies : (n : Name) → (n.to ≡ k) ⊎ (n.to ≡ k → ⊥) → flying_at (stock_at (set bs k new) n.to) n.copy (place_among v.setup.nodes n) ≡ flying_at (stock_at bs n.to) n.copy (place_among v.setup.nodes n)
       flies n (inl same) =
           let there : stock_at (set bs k new) n.to ≡ new = ap (stock_at (set bs k new)) same ∙ written_at bs k new in_list in
           let here : stock_at bs n.to ≡ old = ap (stock_at bs) same ∙ stock_read bs k old in_list h in
-          ap (λ (b : Stock). flying_at b (place_among v.setup.nodes n)) there ∙ e (place_among v.setup.nodes n)
-          ∙ ap (λ (b : Stock). flying_at b (place_among v.setup.nodes n)) (sym here)
-      flies n (inr apart) = ap (λ (b : Stock). flying_at b (place_among v.setup.nodes n)) (written_off bs k n.to new apart)
+          ap (λ (b : Stock). flying_at b n.copy (place_among v.setup.nodes n)) there ∙ e n.copy (place_among v.setup.nodes n)
+          ∙ ap (λ (b : Stock). flying_at b n.copy (place_among v.setup.nodes n)) (sym here)
+      flies n (inr apart) = ap (λ (b : Stock). flying_at b n.copy (place_among v.setup.nodes n)) (written_off bs k n.to new apart)
 
   -- one frame's place in flight is written, as the mark of its message is
-  pub fits_mark : (e : Event) (n : Name) (old new : Stock) (o : Option Frame) → IsName v.setup n → old ≡ get_or bs n.to old → flying_at new (place_among v.setup.nodes n) ≡ o → ((p : ℕ) → p ≢ place_among v.setup.nodes n → flying_at new p ≡ flying_at old p) → SameMarksBut start n v (happened v e) → Flies (algorithm_of v.program v.setup) v.rows n (mark_in start (happened v e) n) o →
+  pub fits_mark : (e : Event) (n : Name) (old new : Stock) (o : Option Frame) → IsName v.setup n → old ≡ get_or bs n.to old → Puts None old.flying new.flying n.copy (place_among v.setup.nodes n) o → SameMarksBut start n v (happened v e) → Flies (algorithm_of v.program v.setup) v.rows n (mark_in start (happened v e) n) o →
       names_in new.waiting ≡ waiting_in start (happened v e) n.to → All (IsGenuine (algorithm_of v.program v.setup) v.rows) new.waiting → SameWaitingBut start n.to v (happened v e) → Fits start (happened v e) (set bs n.to new)
-  fits_mark e n old new o a h there others marks own names genuine waits = record {
+  fits_mark e n old new o a h puts marks own names genuine waits = record {
     sized = length-set bs n.to new ∙ f.sized;
     waiting = λ i m. wait i m (cases_eq i n.to);
     genuine = λ i m. each i m (cases_eq i n.to);
@@ -232,19 +232,19 @@ module _ {start : ℕ → ℕ} {v : Log} {bs : List Stock} (f : Fits start v bs)
       each i m (inl same) = All-same (IsGenuine (algorithm_of v.program v.setup) v.rows) _ _ (ap (λ x. (stock_at (set bs n.to new) x).waiting) same ∙ ap (λ (b : Stock). b.waiting) (written_at bs n.to new in_list)) genuine
       each i m (inr apart) = All-same (IsGenuine (algorithm_of v.program v.setup) v.rows) _ _ (ap (λ (b : Stock). b.waiting) (written_off bs n.to i new apart)) (f.genuine i m)
 
-      off : (m : Name) → IsName v.setup m → (m ≡ n → ⊥) → (m.to ≡ n.to) ⊎ (m.to ≡ n.to → ⊥) → flying_at (stock_at (set bs n.to new) m.to) (place_among v.setup.nodes m) ≡ flying_at (stock_at bs m.to) (place_among v.setup.nodes m)
+      off : (m : Name) → IsName v.setup m → (m ≡ n → ⊥) → (m.to ≡ n.to) ⊎ (m.to ≡ n.to → ⊥) → flying_at (stock_at (set bs n.to new) m.to) m.copy (place_among v.setup.nodes m) ≡ flying_at (stock_at bs m.to) m.copy (place_among v.setup.nodes m)
       off m b apart (inl same) =
           let new_is : stock_at (set bs n.to new) m.to ≡ new = ap (stock_at (set bs n.to new)) same ∙ written_at bs n.to new in_list in
           let old_is : stock_at bs m.to ≡ old = ap (stock_at bs) same ∙ stock_read bs n.to old in_list h in
-          ap (λ (x : Stock). flying_at x (place_among v.setup.nodes m)) new_is
-          ∙ others (place_among v.setup.nodes m) (place_apart v.setup.nodes m n b.from a.from same b.first a.first apart)
-          ∙ ap (λ (x : Stock). flying_at x (place_among v.setup.nodes m)) (sym old_is)
-      off m b apart (inr other) = ap (λ (x : Stock). flying_at x (place_among v.setup.nodes m)) (written_off bs n.to m.to new other)
+          ap (λ (x : Stock). flying_at x m.copy (place_among v.setup.nodes m)) new_is
+          ∙ puts.others m.copy (place_among v.setup.nodes m) (place_apart v.setup.nodes m n b.from a.from same b.first a.first apart)
+          ∙ ap (λ (x : Stock). flying_at x m.copy (place_among v.setup.nodes m)) (sym old_is)
+      off m b apart (inr other) = ap (λ (x : Stock). flying_at x m.copy (place_among v.setup.nodes m)) (written_off bs n.to m.to new other)
 
-      flies : (m : Name) → IsName v.setup m → (m ≡ n) ⊎ (m ≡ n → ⊥) → Flies (algorithm_of v.program v.setup) v.rows m (mark_in start (happened v e) m) (flying_at (stock_at (set bs n.to new) m.to) (place_among v.setup.nodes m))
+      flies : (m : Name) → IsName v.setup m → (m ≡ n) ⊎ (m ≡ n → ⊥) → Flies (algorithm_of v.program v.setup) v.rows m (mark_in start (happened v e) m) (flying_at (stock_at (set bs n.to new) m.to) m.copy (place_among v.setup.nodes m))
       flies m b (inl same) =
-          let P : Name → Type 0 = λ x. Flies (algorithm_of v.program v.setup) v.rows x (mark_in start (happened v e) x) (flying_at (stock_at (set bs n.to new) x.to) (place_among v.setup.nodes x)) in
-          subst P (sym same) (flies_same _ _ n _ _ _ _ refl (ap (λ (x : Stock). flying_at x (place_among v.setup.nodes n)) (written_at bs n.to new in_list) ∙ there) own)
+          let P : Name → Type 0 = λ x. Flies (algorithm_of v.program v.setup) v.rows x (mark_in start (happened v e) x) (flying_at (stock_at (set bs n.to new) x.to) x.copy (place_among v.setup.nodes x)) in
+          subst P (sym same) (flies_same _ _ n _ _ _ _ refl (ap (λ (x : Stock). flying_at x n.copy (place_among v.setup.nodes n)) (written_at bs n.to new in_list) ∙ puts.there) own)
       flies m b (inr apart) = flies_same _ _ m _ _ _ _ (marks m b apart) (off m b apart (cases_eq m.to n.to)) (f.flying m b)
 
   -- silence flies nowhere
@@ -256,71 +256,84 @@ module _ {start : ℕ → ℕ} {v : Log} {bs : List Stock} (f : Fits start v bs)
     flying = λ m b. flies m b (name_cases m n);
   }
     where
-      flies : (m : Name) → IsName v.setup m → (m ≡ n) ⊎ (m ≡ n → ⊥) → Flies (algorithm_of v.program v.setup) v.rows m (mark_in start (happened v (Step n.from)) m) (flying_at (stock_at bs m.to) (place_among v.setup.nodes m))
+      flies : (m : Name) → IsName v.setup m → (m ≡ n) ⊎ (m ≡ n → ⊥) → Flies (algorithm_of v.program v.setup) v.rows m (mark_in start (happened v (Step n.from)) m) (flying_at (stock_at bs m.to) m.copy (place_among v.setup.nodes m))
       flies m b (inl same) =
-          let slot = flying_at (stock_at bs m.to) (place_among v.setup.nodes m) in
+          let slot = flying_at (stock_at bs m.to) m.copy (place_among v.setup.nodes m) in
           let was : mark_in start v m ≡ Unsent = ap (mark_in start v) same ∙ before in
           let is : mark_in start (happened v (Step n.from)) m ≡ Silent = ap (mark_in start (happened v (Step n.from))) same ∙ after in
           let none : slot ≡ None = flies_same (algorithm_of v.program v.setup) v.rows m _ Unsent _ slot (sym was) refl (f.flying m b) in
           flies_same (algorithm_of v.program v.setup) v.rows m Silent _ slot slot is refl none
       flies m b (inr apart) = flies_same _ _ m _ _ _ _ (marks m b apart) refl (f.flying m b)
 
-  -- a message that is sent flies
-  pub fits_put : (p : Ready) (m : List Value) (old new : Stock) → IsName v.setup p.name → IsPrepared (algorithm_of v.program v.setup) p → IsSendFit start v p → round_of v p.name.from ≡ p.name.round → p.message ≡ Some m → old ≡ get_or bs p.name.to old → place_among v.setup.nodes p.name < length old.flying → new.flying ≡ set old.flying (place_among v.setup.nodes p.name) (Some (record { name = p.name; state = p.state; message = m })) → new.waiting ≡ old.waiting → mark_in start (happened v (Step p.name.from)) p.name ≡ spoken p.message → SameMarksBut start p.name v (happened v (Step p.name.from)) → SameWaiting start v (happened v (Step p.name.from)) → Fits start (happened v (Step p.name.from)) (set bs p.name.to new)
-  fits_put p m old new a work fit round is h l e d mark marks waits =
-      let n = p.name in
+  -- what is sent, or copied, flies
+  pub fits_put : (e : Event) (n : Name) (frame : Frame) (old new : Stock) → IsName v.setup n → frame.name ≡ n → IsGenuine (algorithm_of v.program v.setup) v.rows frame → old ≡ get_or bs n.to old → Puts None old.flying new.flying n.copy (place_among v.setup.nodes n) (Some frame) → new.waiting ≡ old.waiting → mark_in start (happened v e) n ≡ Flying → SameMarksBut start n v (happened v e) → SameWaiting start v (happened v e) → Fits start (happened v e) (set bs n.to new)
+  fits_put e n frame old new a named genuine h puts d flying marks waits =
       let a0 = algorithm_of v.program v.setup in
-      let place = place_among v.setup.nodes n in
-      let frame : Frame = record { name = n; state = p.state; message = m } in
-      let flying : mark_in start (happened v (Step n.from)) n ≡ Flying = mark ∙ ap spoken is in
-      let genuine : IsGenuine a0 v.rows frame = record { spells = record { says = work.says ∙ is }; first = a.first; past = omega arith; own = fit.2 } in
       let was : stock_at bs n.to ≡ old = stock_read bs n.to old (let s = f.sized in let t = a.to in omega arith) h in
-      fits_mark (Step n.from) n old new (Some frame) a h
-      (ap (λ (x : List (Option Frame)). get_or x place None) e ∙ get_or-set_same old.flying place (Some frame) None l)
-      (λ q ne. ap (λ (x : List (Option Frame)). get_or x q None) e ∙ get_or-set_other old.flying place q (Some frame) None ne)
-      marks
-      (flies_same a0 v.rows n Flying _ (Some frame) (Some frame) flying refl (refl, genuine))
+      fits_mark e n old new (Some frame) a h puts marks
+      (flies_same a0 v.rows n Flying _ (Some frame) (Some frame) flying refl (named, genuine))
       (ap names_in d ∙ ap (λ (b : Stock). names_in b.waiting) (sym was) ∙ f.waiting n.to a.to ∙ sym (waits n.to))
       (All-same (IsGenuine a0 v.rows) _ _ (d ∙ ap (λ (b : Stock). b.waiting) (sym was)) (f.genuine n.to a.to))
       (λ i apart. waits i)
 
-  -- the frame of a message in flight
-  pub frame_there : (n : Name) (old : Stock) → IsName v.setup n → IsFlying start v n → old ≡ get_or bs n.to old → IsSomeAnd (flying_at old (place_among v.setup.nodes n)) (λ x. (x.name ≡ n) × IsGenuine (algorithm_of v.program v.setup) v.rows x)
+  -- the frame of a copy in flight
+  pub frame_there : (n : Name) (old : Stock) → IsName v.setup n → IsFlying start v n → old ≡ get_or bs n.to old → IsSomeAnd (flying_at old n.copy (place_among v.setup.nodes n)) (λ x. (x.name ≡ n) × IsGenuine (algorithm_of v.program v.setup) v.rows x)
   frame_there n old a fly h =
       let was : stock_at bs n.to ≡ old = stock_read bs n.to old (let s = f.sized in let t = a.to in omega arith) h in
-      flies_same (algorithm_of v.program v.setup) v.rows n _ Flying _ _ (sym fly) (ap (λ (b : Stock). flying_at b (place_among v.setup.nodes n)) (sym was)) (f.flying n a)
+      flies_same (algorithm_of v.program v.setup) v.rows n _ Flying _ _ (sym fly) (ap (λ (b : Stock). flying_at b n.copy (place_among v.setup.nodes n)) (sym was)) (f.flying n a)
 
-  -- a message in flight goes to those that wait
-  pub fits_move : (n : Name) (old new : Stock) → IsName v.setup n → IsFlying start v n → old ≡ get_or bs n.to old → new.flying ≡ set old.flying (place_among v.setup.nodes n) None → new.waiting ≡ old.waiting ++ option_to_list (flying_at old (place_among v.setup.nodes n)) → mark_in start (happened v (Release n)) n ≡ let_go (count_of v n.to) (mark_in start v n) → SameMarksBut start n v (happened v (Release n)) → waiting_in start (happened v (Release n)) n.to ≡ waiting_in start v n.to ++ arrival n (mark_in start v n) → SameWaitingBut start n.to v (happened v (Release n)) → Fits start (happened v (Release n)) (set bs n.to new)
-  fits_move n old new a fly h e d mark marks names waits =
+  -- a copy in flight goes to those that wait
+  pub fits_move : (n : Name) (old new : Stock) → IsName v.setup n → IsFlying start v n → old ≡ get_or bs n.to old → Puts None old.flying new.flying n.copy (place_among v.setup.nodes n) None → new.waiting ≡ old.waiting ++ option_to_list (flying_at old n.copy (place_among v.setup.nodes n)) → mark_in start (happened v (Release n)) n ≡ let_go (count_of v n.to) (mark_in start v n) → SameMarksBut start n v (happened v (Release n)) → waiting_in start (happened v (Release n)) n.to ≡ waiting_in start v n.to ++ arrival n (mark_in start v n) → SameWaitingBut start n.to v (happened v (Release n)) → Fits start (happened v (Release n)) (set bs n.to new)
+  fits_move n old new a fly h puts d mark marks names waits =
       let a0 = algorithm_of v.program v.setup in
-      let place = place_among v.setup.nodes n in
       let was : stock_at bs n.to ≡ old = stock_read bs n.to old (let s = f.sized in let t = a.to in omega arith) h in
       let there = frame_there n old a fly h in
       let released : mark_in start (happened v (Release n)) n ≡ Released (count_of v n.to) = mark ∙ ap (let_go (count_of v n.to)) fly in
-      let arrived = arrives a0 v.rows n old.waiting (flying_at old place) there in
-      fits_mark (Release n) n old new None a h
-      (ap (λ (x : List (Option Frame)). get_or x place None) e ∙ get_or-set_same old.flying place None None (there_in a0 v.rows n old place there))
-      (λ q ne. ap (λ (x : List (Option Frame)). get_or x q None) e ∙ get_or-set_other old.flying place q None None ne)
-      marks
+      let arrived = arrives a0 v.rows n old.waiting (flying_at old n.copy (place_among v.setup.nodes n)) there in
+      fits_mark (Release n) n old new None a h puts marks
       (flies_same a0 v.rows n (Released (count_of v n.to)) _ None None released refl refl)
       (ap names_in d ∙ arrived.0 ∙ ap (λ x. x ++ n ∷ []) (ap (λ (b : Stock). names_in b.waiting) (sym was) ∙ f.waiting n.to a.to) ∙ ap (λ x. waiting_in start v n.to ++ arrival n x) (sym fly) ∙ sym names)
       (All-same (IsGenuine a0 v.rows) _ _ d (arrived.1 (All-same (IsGenuine a0 v.rows) _ _ (ap (λ (b : Stock). b.waiting) (sym was)) (f.genuine n.to a.to))))
       waits
 
-  -- what isn't in flight doesn't move
-  pub fits_let_be : (n : Name) → (IsFlying start v n → ⊥) → mark_in start (happened v (Release n)) n ≡ let_go (count_of v n.to) (mark_in start v n) → SameMarksBut start n v (happened v (Release n)) → waiting_in start (happened v (Release n)) n.to ≡ waiting_in start v n.to ++ arrival n (mark_in start v n) → SameWaitingBut start n.to v (happened v (Release n)) → Fits start (happened v (Release n)) bs
-  fits_let_be n off mark marks names waits = fits_same (Release n) (λ m b. same m b (name_cases m n)) (λ i. wait i (cases_eq i n.to))
+  -- a copy in flight is lost
+  pub fits_lost : (n : Name) (old new : Stock) → IsName v.setup n → IsFlying start v n → old ≡ get_or bs n.to old → Puts None old.flying new.flying n.copy (place_among v.setup.nodes n) None → new.waiting ≡ old.waiting → mark_in start (happened v (Drop n)) n ≡ dropped (mark_in start v n) → SameMarksBut start n v (happened v (Drop n)) → SameWaiting start v (happened v (Drop n)) → Fits start (happened v (Drop n)) (set bs n.to new)
+  fits_lost n old new a fly h puts d mark marks waits =
+      let a0 = algorithm_of v.program v.setup in
+      let was : stock_at bs n.to ≡ old = stock_read bs n.to old (let s = f.sized in let t = a.to in omega arith) h in
+      let gone : mark_in start (happened v (Drop n)) n ≡ Lost = mark ∙ ap dropped fly in
+      fits_mark (Drop n) n old new None a h puts marks
+      (flies_same a0 v.rows n Lost _ None None gone refl refl)
+      (ap names_in d ∙ ap (λ (b : Stock). names_in b.waiting) (sym was) ∙ f.waiting n.to a.to ∙ sym (waits n.to))
+      (All-same (IsGenuine a0 v.rows) _ _ (d ∙ ap (λ (b : Stock). b.waiting) (sym was)) (f.genuine n.to a.to))
+      (λ i apart. waits i)
+
+  -- an event that leaves its copy's mark, and each other
+  fits_idle : (e : Event) (n : Name) → mark_in start (happened v e) n ≡ mark_in start v n → SameMarksBut start n v (happened v e) → SameWaiting start v (happened v e) → Fits start (happened v e) bs
+  fits_idle e n mark marks waits = fits_same e (λ m b. same m b (name_cases m n)) waits
     where
-      same : (m : Name) → IsName v.setup m → (m ≡ n) ⊎ (m ≡ n → ⊥) → mark_in start (happened v (Release n)) m ≡ mark_in start v m
-      same m b (inl is) = ap (mark_in start (happened v (Release n))) is ∙ mark ∙ let_go_idle (count_of v n.to) (mark_in start v n) off ∙ ap (mark_in start v) (sym is)
+      same : (m : Name) → IsName v.setup m → (m ≡ n) ⊎ (m ≡ n → ⊥) → mark_in start (happened v e) m ≡ mark_in start v m
+      same m b (inl is) = ap (mark_in start (happened v e)) is ∙ mark ∙ ap (mark_in start v) (sym is)
       same m b (inr apart) = marks m b apart
 
+  -- what isn't in flight doesn't move
+  pub fits_let_be : (n : Name) → (IsFlying start v n → ⊥) → mark_in start (happened v (Release n)) n ≡ let_go (count_of v n.to) (mark_in start v n) → SameMarksBut start n v (happened v (Release n)) → waiting_in start (happened v (Release n)) n.to ≡ waiting_in start v n.to ++ arrival n (mark_in start v n) → SameWaitingBut start n.to v (happened v (Release n)) → Fits start (happened v (Release n)) bs
+  fits_let_be n off mark marks names waits =
+      fits_idle (Release n) n (mark ∙ let_go_idle (count_of v n.to) (mark_in start v n) off) marks (λ i. wait i (cases_eq i n.to))
+    where
       wait : (i : ℕ) → (i ≡ n.to) ⊎ (i ≡ n.to → ⊥) → waiting_in start (happened v (Release n)) i ≡ waiting_in start v i
       wait i (inl is) =
           ap (waiting_in start (happened v (Release n))) is ∙ names ∙ ap (λ x. waiting_in start v n.to ++ x) (arrival_idle n (mark_in start v n) off)
           ∙ append-nil (waiting_in start v n.to) ∙ ap (waiting_in start v) (sym is)
       wait i (inr apart) = waits i apart
+
+  -- nor is it lost
+  pub fits_not_lost : (n : Name) → (IsFlying start v n → ⊥) → mark_in start (happened v (Drop n)) n ≡ dropped (mark_in start v n) → SameMarksBut start n v (happened v (Drop n)) → SameWaiting start v (happened v (Drop n)) → Fits start (happened v (Drop n)) bs
+  fits_not_lost n off mark marks waits = fits_idle (Drop n) n (mark ∙ dropped_idle (mark_in start v n) off) marks waits
+
+  -- what can't be copied isn't
+  pub fits_not_made : (n : Name) → (CanCopy start v n → ⊥) → mark_in start (happened v (Copy n)) n ≡ copied (mark_in start v (original n)) (mark_in start v n) → SameMarksBut start n v (happened v (Copy n)) → SameWaiting start v (happened v (Copy n)) → Fits start (happened v (Copy n)) bs
+  fits_not_made n off mark marks waits = fits_idle (Copy n) n (mark ∙ copied_idle (mark_in start v (original n)) (mark_in start v n) off) marks waits
 
   -- a closed round changes no frame
   pub fits_close : (n : NodeView) → n.me < v.setup.nodes → length v.rows ≡ v.setup.nodes → Fits start (closed v n) bs
@@ -333,34 +346,63 @@ module _ {start : ℕ → ℕ} {v : Log} {bs : List Stock} (f : Fits start v bs)
 
 module _ {start : ℕ → ℕ} {v : Log} {bs : List Stock} (f : Fits start v bs) where
   -- a send with its frame, from the room that was made for it
-  pub fits_sent : (p : Ready) (n : Name) (o : Option Frame) (frame : Frame) (place : ℕ) (b0 b1 b2 b3 : Stock) → n ≡ p.name → IsName v.setup p.name → IsPrepared (algorithm_of v.program v.setup) p → IsSendFit start v p → round_of v p.name.from ≡ p.name.round → place ≡ place_among v.setup.nodes n → b0 ≡ get_or bs n.to b0 → SameFlying b0 b1 → b1.waiting ≡ b0.waiting → place < length b1.flying → o ≡ frame_of p → o ≡ Some frame → b2 ≡ get_or (set bs n.to b1) n.to b2 → b3.flying ≡ set b2.flying place (Some frame) → b3.waiting ≡ b2.waiting → mark_in start (happened v (Step p.name.from)) p.name ≡ spoken p.message → SameMarksBut start p.name v (happened v (Step p.name.from)) → SameWaiting start v (happened v (Step p.name.from)) → Fits start (happened v (Step p.name.from)) (set (set bs n.to b1) n.to b3)
-  fits_sent p n o frame place b0 b1 b2 b3 en a work fit round at h0 same wait room is some h2 e d mark marks waits =
+  pub fits_sent : (p : Ready) (n : Name) (o : Option Frame) (frame : Frame) (place : ℕ) (b0 b1 b2 b3 : Stock) → n ≡ p.name → n.copy ≡ 0 → IsName v.setup p.name → IsPrepared (algorithm_of v.program v.setup) p → IsSendFit start v p → round_of v p.name.from ≡ p.name.round → place ≡ place_among v.setup.nodes n → b0 ≡ get_or bs n.to b0 → SameTables None b0.flying b1.flying → b1.waiting ≡ b0.waiting → o ≡ frame_of p → o ≡ Some frame → b2 ≡ get_or (set bs n.to b1) n.to b2 → Puts None b2.flying b3.flying 0 place (Some frame) → b3.waiting ≡ b2.waiting → mark_in start (happened v (Step p.name.from)) p.name ≡ spoken p.message → SameMarksBut start p.name v (happened v (Step p.name.from)) → SameWaiting start v (happened v (Step p.name.from)) → Fits start (happened v (Step p.name.from)) (set (set bs n.to b1) n.to b3)
+  fits_sent p n o frame place b0 b1 b2 b3 en c a work fit round at h0 same wait is some h2 puts d mark marks waits =
+      let a0 = algorithm_of v.program v.setup in
       let to : n.to ≡ p.name.to = ap (λ (x : Name). x.to) en in
-      let in_list : n.to < length bs = let s = f.sized in let t = a.to in omega arith in
-      let b2_is : b2 ≡ b1 = h2 ∙ get_or-set_same bs n.to b1 b2 in_list in
-      let long = ap (λ (b : Stock). length b.flying) b2_is in
       let made = frame_made p frame (sym is ∙ some) in
-      let there : place ≡ place_among v.setup.nodes p.name = at ∙ ap (place_among v.setup.nodes) en in
-      let done = fits_put (fits_kept f n.to b0 b1 (let t = a.to in omega arith) h0 same wait) p made.0 b2 b3 a work fit round made.1
-      (h2 ∙ ap (λ k. get_or (set bs n.to b1) k b2) to) (omega arith)
-      (e ∙ ap (λ k. set b2.flying k (Some frame)) there ∙ ap (λ x. set b2.flying (place_among v.setup.nodes p.name) (Some x)) made.2) d mark marks waits in
+      let named : frame.name ≡ p.name = ap (λ (x : Frame). x.name) made.2 in
+      let first = a.first in
+      let genuine : IsGenuine a0 v.rows frame = subst (λ (x : Frame). IsGenuine a0 v.rows x) (sym made.2) (record { spells = record { says = work.says ∙ made.1 }; copy = a.copy; first = a.first; past = omega arith; own = fit.2 }) in
+      let there : Puts None b2.flying b3.flying p.name.copy (place_among v.setup.nodes p.name) (Some frame) =
+      subst (λ (x : Name). Puts None b2.flying b3.flying x.copy (place_among v.setup.nodes x) (Some frame)) en
+      (subst (λ (z : ℕ). Puts None b2.flying b3.flying z (place_among v.setup.nodes n) (Some frame)) (sym c) (subst (λ (z : ℕ). Puts None b2.flying b3.flying 0 z (Some frame)) at puts)) in
+      let done = fits_put (fits_kept f n.to b0 b1 (let t = a.to in omega arith) h0 same wait) (Step p.name.from) p.name frame b2 b3 a named genuine
+      (h2 ∙ ap (λ k. get_or (set bs n.to b1) k b2) to) there d (mark ∙ ap spoken made.1) marks waits in
       subst (λ (k : ℕ). Fits start (happened v (Step p.name.from)) (set (set bs n.to b1) k b3)) (sym to) done
 
   -- a send with silence, from the room that was made
-  pub fits_hushed : (p : Ready) (n : Name) (o : Option Frame) (b0 b1 : Stock) → n ≡ p.name → IsName v.setup p.name → b0 ≡ get_or bs n.to b0 → SameFlying b0 b1 → b1.waiting ≡ b0.waiting → o ≡ frame_of p → o ≡ None → mark_in start v p.name ≡ Unsent → mark_in start (happened v (Step p.name.from)) p.name ≡ spoken p.message → SameMarksBut start p.name v (happened v (Step p.name.from)) → SameWaiting start v (happened v (Step p.name.from)) → Fits start (happened v (Step p.name.from)) (set bs n.to b1)
+  pub fits_hushed : (p : Ready) (n : Name) (o : Option Frame) (b0 b1 : Stock) → n ≡ p.name → IsName v.setup p.name → b0 ≡ get_or bs n.to b0 → SameTables None b0.flying b1.flying → b1.waiting ≡ b0.waiting → o ≡ frame_of p → o ≡ None → mark_in start v p.name ≡ Unsent → mark_in start (happened v (Step p.name.from)) p.name ≡ spoken p.message → SameMarksBut start p.name v (happened v (Step p.name.from)) → SameWaiting start v (happened v (Step p.name.from)) → Fits start (happened v (Step p.name.from)) (set bs n.to b1)
   fits_hushed p n o b0 b1 en a h0 same wait is none before mark marks waits =
       let to : n.to ≡ p.name.to = ap (λ (x : Name). x.to) en in
       fits_silent (fits_kept f n.to b0 b1 (let t = a.to in omega arith) h0 same wait) p.name before (mark ∙ ap spoken (silence p (sym is ∙ none))) marks waits
 
   -- a release of what is in flight, from the room that was made
-  pub fits_moved : (n : Name) (place : ℕ) (b0 b1 b2 b3 : Stock) → IsName v.setup n → IsFlying start v n → place ≡ place_among v.setup.nodes n → b0 ≡ get_or bs n.to b0 → b1.flying ≡ b0.flying → b1.waiting ≡ b0.waiting → b2 ≡ get_or (set bs n.to b1) n.to b2 → b3.flying ≡ set b2.flying place None → b3.waiting ≡ b2.waiting ++ option_to_list (flying_at b2 place) → mark_in start (happened v (Release n)) n ≡ let_go (count_of v n.to) (mark_in start v n) → SameMarksBut start n v (happened v (Release n)) → waiting_in start (happened v (Release n)) n.to ≡ waiting_in start v n.to ++ arrival n (mark_in start v n) → SameWaitingBut start n.to v (happened v (Release n)) → Fits start (happened v (Release n)) (set (set bs n.to b1) n.to b3)
+  pub fits_moved : (n : Name) (place : ℕ) (b0 b1 b2 b3 : Stock) → IsName v.setup n → IsFlying start v n → place ≡ place_among v.setup.nodes n → b0 ≡ get_or bs n.to b0 → b1.flying ≡ b0.flying → b1.waiting ≡ b0.waiting → b2 ≡ get_or (set bs n.to b1) n.to b2 → Puts None b2.flying b3.flying n.copy place None → b3.waiting ≡ b2.waiting ++ option_to_list (flying_at b2 n.copy place) → mark_in start (happened v (Release n)) n ≡ let_go (count_of v n.to) (mark_in start v n) → SameMarksBut start n v (happened v (Release n)) → waiting_in start (happened v (Release n)) n.to ≡ waiting_in start v n.to ++ arrival n (mark_in start v n) → SameWaitingBut start n.to v (happened v (Release n)) → Fits start (happened v (Release n)) (set (set bs n.to b1) n.to b3)
   fits_moved n place b0 b1 b2 b3 a fly at h0 same wait h2 e d mark marks names waits =
-      let kept = fits_kept f n.to b0 b1 a.to h0 (λ k. ap (λ (x : List (Option Frame)). get_or x k None) same) wait in
-      fits_move kept n b2 b3 a fly h2 (e ∙ ap (λ k. set b2.flying k None) at) (d ∙ ap (λ k. b2.waiting ++ option_to_list (flying_at b2 k)) at) mark marks names waits
+      let kept = fits_kept f n.to b0 b1 a.to h0 (λ c k. ap (λ (x : List (List (Option Frame))). read_at None x c k) same) wait in
+      fits_move kept n b2 b3 a fly h2 (subst (λ (z : ℕ). Puts None b2.flying b3.flying n.copy z None) at e) (d ∙ ap (λ k. b2.waiting ++ option_to_list (flying_at b2 n.copy k)) at) mark marks names waits
 
-  -- the place of what is in flight is in the table
-  pub room_there : (n : Name) (place : ℕ) (b0 b1 b2 : Stock) → IsName v.setup n → IsFlying start v n → place ≡ place_among v.setup.nodes n → b0 ≡ get_or bs n.to b0 → b1.flying ≡ b0.flying → b1.waiting ≡ b0.waiting → b2 ≡ get_or (set bs n.to b1) n.to b2 → place < length b2.flying
+  -- the place of what is in flight is in its table
+  pub room_there : (n : Name) (place : ℕ) (b0 b1 b2 : Stock) → IsName v.setup n → IsFlying start v n → place ≡ place_among v.setup.nodes n → b0 ≡ get_or bs n.to b0 → b1.flying ≡ b0.flying → b1.waiting ≡ b0.waiting → b2 ≡ get_or (set bs n.to b1) n.to b2 → HasPlace b2.flying n.copy place
   room_there n place b0 b1 b2 a fly at h0 same wait h2 =
-      let kept = fits_kept f n.to b0 b1 a.to h0 (λ k. ap (λ (x : List (Option Frame)). get_or x k None) same) wait in
-      let low = there_in (algorithm_of v.program v.setup) v.rows n b2 (place_among v.setup.nodes n) (frame_there kept n b2 a fly h2) in
-      omega arith
+      let kept = fits_kept f n.to b0 b1 a.to h0 (λ c k. ap (λ (x : List (List (Option Frame))). read_at None x c k) same) wait in
+      subst (λ (z : ℕ). HasPlace b2.flying n.copy z) (sym at) (there_in (algorithm_of v.program v.setup) v.rows n b2 n.copy (place_among v.setup.nodes n) (frame_there kept n b2 a fly h2))
+
+  pub room_here : (n : Name) (place : ℕ) (b : Stock) → IsName v.setup n → IsFlying start v n → place ≡ place_among v.setup.nodes n → b ≡ get_or bs n.to b → HasPlace b.flying n.copy place
+  room_here n place b a fly at h =
+      subst (λ (z : ℕ). HasPlace b.flying n.copy z) (sym at) (there_in (algorithm_of v.program v.setup) v.rows n b n.copy (place_among v.setup.nodes n) (frame_there f n b a fly h))
+
+  -- what stands in flight at the place of a name is its frame
+  pub flight_read : (n : Name) (place : ℕ) (b : Stock) (frame : Frame) → IsName v.setup n → place ≡ place_among v.setup.nodes n → b ≡ get_or bs n.to b → flying_at b n.copy place ≡ Some frame → (frame.name ≡ n) × IsGenuine (algorithm_of v.program v.setup) v.rows frame
+  flight_read n place b frame a at h is =
+      let was : stock_at bs n.to ≡ b = stock_read bs n.to b (let s = f.sized in let t = a.to in omega arith) h in
+      let there : flying_at (stock_at bs n.to) n.copy (place_among v.setup.nodes n) ≡ Some frame = ap (λ (x : Stock). flying_at x n.copy (place_among v.setup.nodes n)) was ∙ ap (flying_at b n.copy) (sym at) ∙ is in
+      flies_some (algorithm_of v.program v.setup) v.rows n (mark_in start v n) frame (flies_same (algorithm_of v.program v.setup) v.rows n (mark_in start v n) (mark_in start v n) _ (Some frame) refl (sym there) (f.flying n a))
+
+  -- the frame of a copy, from that of copy 0
+  pub copy_read : (n : Name) (place : ℕ) (b : Stock) (first frame : Frame) → IsName v.setup n → place ≡ place_among v.setup.nodes n → b ≡ get_or bs n.to b → flying_at b 0 place ≡ Some first → frame ≡ copied_as n.copy first → (frame.name ≡ n) × IsGenuine (algorithm_of v.program v.setup) v.rows frame
+  copy_read n place b first frame a at h is made =
+      let found = flight_read (original n) place b first (original_named v.setup.nodes v.setup.rounds n a) at h is in
+      let g = found.1 in (
+        ap (λ (x : Frame). x.name) made ∙ ap (λ (x : Name). record x { copy = n.copy }) found.0,
+        subst (λ (x : Frame). IsGenuine (algorithm_of v.program v.setup) v.rows x) (sym made) (record { spells = record { says = g.spells.says }; copy = a.copy; first = g.first; past = g.past; own = g.own }),
+      )
+
+  -- a copy of what is in flight, from the room that was made
+  pub fits_made : (n : Name) (frame : Frame) (place : ℕ) (b0 b1 b2 b3 : Stock) → IsName v.setup n → CanCopy start v n → frame.name ≡ n → IsGenuine (algorithm_of v.program v.setup) v.rows frame → place ≡ place_among v.setup.nodes n → b0 ≡ get_or bs n.to b0 → SameTables None b0.flying b1.flying → b1.waiting ≡ b0.waiting → b2 ≡ get_or (set bs n.to b1) n.to b2 → Puts None b2.flying b3.flying n.copy place (Some frame) → b3.waiting ≡ b2.waiting → mark_in start (happened v (Copy n)) n ≡ copied (mark_in start v (original n)) (mark_in start v n) → SameMarksBut start n v (happened v (Copy n)) → SameWaiting start v (happened v (Copy n)) → Fits start (happened v (Copy n)) (set (set bs n.to b1) n.to b3)
+  fits_made n frame place b0 b1 b2 b3 a fit named genuine at h0 same wait h2 puts d mark marks waits =
+      let now = copied_now (mark_in start v (original n)) (mark_in start v n) fit.0 fit.1 in
+      fits_put (fits_kept f n.to b0 b1 a.to h0 same wait) (Copy n) n frame b2 b3 a named genuine h2
+      (subst (λ (z : ℕ). Puts None b2.flying b3.flying n.copy z (Some frame)) at puts) d
+      (mark ∙ ap (λ (b : Bool). if b then Flying else mark_in start v n) now) marks waits

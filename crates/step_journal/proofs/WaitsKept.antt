@@ -1,11 +1,12 @@
 -- Each event keeps the buffers.
-use Rattle.std.proofs.Common.{◌≡◌, ◌≢◌, ℕ, ◌+◌, ◌-◌, ◌<◌, ◌≤◌, true, false, ◌&&◌, List, [], ◌∷◌, ◌++◌, length, get_or, set, sym, refl, ap, ◌∙◌, arith, ◌⊎◌, inl, inr}
+use Rattle.std.proofs.Common.{◌≡◌, ◌≢◌, ℕ, ◌+◌, ◌<◌, ◌≤◌, true, false, ◌&&◌, List, [], ◌∷◌, ◌++◌, length, get_or, set, sym, refl, ap, ◌∙◌, arith, ◌⊎◌, inl, inr}
 use Rattle.std.proofs.lemmas.Bool.{and_left, and_right, cases_eq, eq-eqb, ne_eqb}
 use Rattle.std.proofs.lemmas.List.{get_or-set_same, get_or-set_other, length-set, append-nil}
 use Rattle.step_machine.specs.declared.event.Name.{Name}
 use Rattle.step_machine.specs.declared.event.Event.{Event}
-use Rattle.step_machine.specs.declared.event.Event.TheVariants.{Step, Release}
+use Rattle.step_machine.specs.declared.event.Event.TheVariants.{Step, Release, Drop, Copy}
 use Rattle.step_journal.specs.World.{World, nodes_of, IsPlan, is_receive}
+use Rattle.step_journal.specs.Fates.{is_take}
 use Rattle.step_journal.specs.Trace.{is_step, steps}
 use Rattle.step_journal.specs.History.{mark_of, arrival, arrived, buffer_of}
 use Rattle.step_journal.specs.Agreement.{Waits}
@@ -14,7 +15,7 @@ use Rattle.step_journal.proofs.Plans.{receives_by_before}
 pub idle_is_no_receive : (w : World) → IsPlan w → (x : ℕ) → w.start (w.rounds + 1) ≤ x → is_receive w x ≡ false
 idle_is_no_receive w p x h = receives_by_before w p w.rounds (w.rounds + 1) x (omega arith) h
 
-pub buffer_kept : (w : World) (i : ℕ) (e : Event) (t : List Event) → (is_step i e && is_receive w (steps i t)) ≡ false → arrived w i e t ≡ [] → buffer_of w i (e ∷ t) ≡ buffer_of w i t
+pub buffer_kept : (w : World) (i : ℕ) (e : Event) (t : List Event) → is_take w i e t ≡ false → arrived w i e t ≡ [] → buffer_of w i (e ∷ t) ≡ buffer_of w i t
 unfolding buffer_of
 buffer_kept w i e t h k = rw (h, k) (append-nil (buffer_of w i t))
 
@@ -22,7 +23,7 @@ pub buffer_emptied : (w : World) (i : ℕ) (e : Event) (t : List Event) → is_s
 unfolding buffer_of
 buffer_emptied w i e t h k = rw (h, k) refl
 
-pub buffer_grown : (w : World) (i : ℕ) (n : Name) (t : List Event) → n.to ≡ i → buffer_of w i (Release n ∷ t) ≡ buffer_of w i t ++ arrival n (mark_of w t n.from n.to (n.round - 1))
+pub buffer_grown : (w : World) (i : ℕ) (n : Name) (t : List Event) → n.to ≡ i → buffer_of w i (Release n ∷ t) ≡ buffer_of w i t ++ arrival n (mark_of w t n)
 unfolding buffer_of
 buffer_grown w i n t h = rw (eq-eqb n.to i h) refl
 
@@ -53,26 +54,33 @@ waits_receive w t buffers k l h a = record {
 pub arrived_other : (w : World) (t : List Event) (n : Name) (i : ℕ) → (i ≡ n.to → ⊥) → arrived w i (Release n) t ≡ []
 arrived_other w t n i h = rw (ne_eqb n.to i (λ e. h (sym e))) refl
 
-waits_release_at : (w : World) (t : List Event) (buffers : List (List Name)) (n : Name) (i : ℕ) → n.to < length buffers → get_or buffers n.to [] ≡ buffer_of w n.to t → get_or buffers i [] ≡ buffer_of w i t → (i ≡ n.to) ⊎ (i ≡ n.to → ⊥) → get_or (set buffers n.to (get_or buffers n.to [] ++ arrival n (mark_of w t n.from n.to (n.round - 1)))) i [] ≡ buffer_of w i (Release n ∷ t)
+waits_release_at : (w : World) (t : List Event) (buffers : List (List Name)) (n : Name) (i : ℕ) → n.to < length buffers → get_or buffers n.to [] ≡ buffer_of w n.to t → get_or buffers i [] ≡ buffer_of w i t → (i ≡ n.to) ⊎ (i ≡ n.to → ⊥) → get_or (set buffers n.to (get_or buffers n.to [] ++ arrival n (mark_of w t n))) i [] ≡ buffer_of w i (Release n ∷ t)
 waits_release_at w t buffers n i l f e (inl same) =
-    rw same (get_or-set_same buffers n.to _ [] l ∙ ap (λ z. z ++ arrival n (mark_of w t n.from n.to (n.round - 1))) f ∙ sym (buffer_grown w n.to n t refl))
+    rw same (get_or-set_same buffers n.to _ [] l ∙ ap (λ z. z ++ arrival n (mark_of w t n)) f ∙ sym (buffer_grown w n.to n t refl))
 waits_release_at w t buffers n i l f e (inr apart) =
     let ne : i ≢ n.to = apart in
     rw get_or-set_other (e ∙ sym (buffer_kept w i (Release n) t refl (arrived_other w t n i apart)))
 
-pub waits_release : (w : World) (t : List Event) (buffers : List (List Name)) (n : Name) → n.to < nodes_of w → Waits w t buffers → Waits w (Release n ∷ t) (set buffers n.to (get_or buffers n.to [] ++ arrival n (mark_of w t n.from n.to (n.round - 1))))
+pub waits_release : (w : World) (t : List Event) (buffers : List (List Name)) (n : Name) → n.to < nodes_of w → Waits w t buffers → Waits w (Release n ∷ t) (set buffers n.to (get_or buffers n.to [] ++ arrival n (mark_of w t n)))
 waits_release w t buffers n l a = record {
   sized = length-set buffers n.to _ ∙ a.sized;
   held = λ i b. waits_release_at w t buffers n i (let m = a.sized in omega arith) (a.held n.to l) (a.held i b) (cases_eq i n.to);
 }
 
-pub waits_late_at : (w : World) (t : List Event) (n : Name) (i : ℕ) → arrival n (mark_of w t n.from n.to (n.round - 1)) ≡ [] → (i ≡ n.to) ⊎ (i ≡ n.to → ⊥) → buffer_of w i (Release n ∷ t) ≡ buffer_of w i t
+pub waits_late_at : (w : World) (t : List Event) (n : Name) (i : ℕ) → arrival n (mark_of w t n) ≡ [] → (i ≡ n.to) ⊎ (i ≡ n.to → ⊥) → buffer_of w i (Release n ∷ t) ≡ buffer_of w i t
 waits_late_at w t n i h (inl same) = rw same (buffer_grown w n.to n t refl ∙ rw h (append-nil (buffer_of w n.to t)))
 waits_late_at w t n i h (inr apart) = buffer_kept w i (Release n) t refl (arrived_other w t n i apart)
 
 -- a release of what isn't in flight
-pub waits_late : (w : World) (t : List Event) (buffers : List (List Name)) (n : Name) → arrival n (mark_of w t n.from n.to (n.round - 1)) ≡ [] → Waits w t buffers → Waits w (Release n ∷ t) buffers
+pub waits_late : (w : World) (t : List Event) (buffers : List (List Name)) (n : Name) → arrival n (mark_of w t n) ≡ [] → Waits w t buffers → Waits w (Release n ∷ t) buffers
 waits_late w t buffers n h a = record {
   sized = a.sized;
   held = λ i b. a.held i b ∙ sym (waits_late_at w t n i h (cases_eq i n.to));
+}
+
+-- an event of the network that lets nothing go
+pub waits_quiet : (w : World) (t : List Event) (e : Event) (buffers : List (List Name)) → ((i : ℕ) → is_take w i e t ≡ false) → ((i : ℕ) → arrived w i e t ≡ []) → Waits w t buffers → Waits w (e ∷ t) buffers
+waits_quiet w t e buffers h k a = record {
+  sized = a.sized;
+  held = λ i b. a.held i b ∙ sym (buffer_kept w i e t (h i) (k i));
 }

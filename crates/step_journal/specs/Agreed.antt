@@ -6,12 +6,14 @@ use Rattle.round_meaning.specs.Rounds.{algorithm_of}
 use Rattle.step_machine.specs.declared.event.Name.{Name}
 use Rattle.step_machine.specs.Frames.{Frame, sent_under}
 use Rattle.step_journal.specs.declared.mark.Mark.{Mark}
-use Rattle.step_journal.specs.declared.mark.Mark.TheVariants.{Unsent, Silent, Flying, Released}
-use Rattle.step_journal.specs.Agreement.{is_named, row}
+use Rattle.step_journal.specs.declared.mark.Mark.TheVariants.{Unsent, Silent, Flying, Released, Lost}
+use Rattle.step_journal.specs.Agreement.{row}
+use Rattle.step_journal.specs.Fates.{carried}
 use Rattle.step_journal.specs.History.{state}
-use Rattle.step_journal.specs.Log.{Log, IsName, count_of, history, round_of, world_of}
-use Rattle.step_journal.specs.Places.{IsCarried, IsFirstAfter, IsReceiveAt, IsReleaseAt, IsSlotAt}
-use Rattle.step_journal.specs.Trace.{carried}
+use Rattle.step_journal.specs.Log.{Log, count_of, history, round_of, world_of}
+use Rattle.step_journal.specs.Names.{IsName}
+use Rattle.step_journal.specs.Places.{IsCarried, IsFirstAfter, IsLeftAt, IsMadeAt, IsReceiveAt, IsReleaseAt, IsSlotAt}
+use Rattle.step_journal.specs.Trace.{is_name}
 
 -- the state of node i after r rounds of the run in rounds
 abbrev pub state_in : (ℕ → ℕ) → Log → ℕ → ℕ → List Value
@@ -31,26 +33,29 @@ IsMessage Unsent = ⊥
 IsMessage Silent = ⊥
 IsMessage Flying = Unit {0}
 IsMessage (Released x) = Unit {0}
+IsMessage Lost = Unit {0}
 
 -- silence or a message is recorded, as there is none or one
 abbrev pub IsSpoken : Option (List Value) → Mark → Type 0
 IsSpoken None m = m ≡ Silent
 IsSpoken (Some x) m = IsMessage m
 
--- the message was sent, and no release of it follows
+-- the copy of a message was made, and no release or drop of it follows
 pub record IsInFlight (start : ℕ → ℕ) (v : Log) (n : Name) : Type 0 where
   pub a : ℕ
-  pub slot : IsSlotAt (world_of start v) v.trace n a
+  pub made : IsMadeAt (world_of start v) v.trace n a
   pub message : IsSome (message_in start v n)
-  pub none : (b : ℕ) → a < b → ¬ IsReleaseAt v.trace n b
+  pub none : (b : ℕ) → a < b → ¬ IsLeftAt v.trace n b
 
--- the message was sent, then released, and no receive of its receiver follows that
+-- the copy of a message was made, then released before any drop of it, and no receive of its
+-- receiver follows that
 pub record IsInBuffer (start : ℕ → ℕ) (v : Log) (n : Name) : Type 0 where
   pub a : ℕ
   pub b : ℕ
-  pub slot : IsSlotAt (world_of start v) v.trace n a
+  pub made : IsMadeAt (world_of start v) v.trace n a
   pub message : IsSome (message_in start v n)
-  pub release : IsFirstAfter (IsReleaseAt v.trace n) a b
+  pub leaves : IsFirstAfter (IsLeftAt v.trace n) a b
+  pub release : IsReleaseAt v.trace n b
   pub none : (c : ℕ) → b < c → ¬ IsReceiveAt (world_of start v) v.trace n.to c
 
 -- the trace has each step of the node's round
@@ -63,20 +68,22 @@ pub record IsDueRound (start : ℕ → ℕ) (v : Log) (i r : ℕ) : Type 0 where
 pub record JournalAgrees (start : ℕ → ℕ) (v : Log) (mark : Name → Mark) (waiting : ℕ → List Name) : Type 0 where
   -- the omission table of the run in rounds is that of the trace
   pub omissions : (n : Name) → IsName v.setup n → (carried (world_of start v) (history v) n.to n.round n.from ≡ true) ↔ IsCarried (world_of start v) v.trace n
-  -- a slot's message or silence is recorded as the sender's state in the rounds sends one or none, and nothing before
-  pub spoken : (n : Name) (a : ℕ) → IsName v.setup n → IsSlotAt (world_of start v) v.trace n a → IsSpoken (message_in start v n) (mark n)
-  pub unsent : (n : Name) → IsName v.setup n → ((a : ℕ) → ¬ IsSlotAt (world_of start v) v.trace n a) → mark n ≡ Unsent
+  -- a slot's message or silence is recorded as the sender's state in the rounds sends one or none
+  pub spoken : (n : Name) (a : ℕ) → IsName v.setup n → n.copy ≡ 0 → IsSlotAt (world_of start v) v.trace n a → IsSpoken (message_in start v n) (mark n)
+  -- what wasn't made isn't recorded, and silence has no copies
+  pub unsent : (n : Name) → IsName v.setup n → ((a : ℕ) → ¬ IsMadeAt (world_of start v) v.trace n a) → mark n ≡ Unsent
+  pub uncopied : (n : Name) → IsName v.setup n → 0 < n.copy → message_in start v n ≡ None → mark n ≡ Unsent
   -- the recorded state of a closed round is that of the run in rounds
   pub stated : (i r : ℕ) → i < v.setup.nodes → r < round_of v i → slice_index_or (row v.rows i) r [] ≡ state_in start v i r
   -- the closed rounds are 1 to d, those due are 1 to d or 1 to d + 1, and no step follows the last due one that isn't closed
   pub closed : (i r : ℕ) → i < v.setup.nodes → 1 ≤ r → r < round_of v i → IsDueRound start v i r
   pub due : (i r : ℕ) → i < v.setup.nodes → IsDueRound start v i r → r ≤ round_of v i
   pub exact : (i : ℕ) → i < v.setup.nodes → IsDueRound start v i (round_of v i) → count_of v i ≡ start (round_of v i + 1)
-  -- a message is in flight where it was sent and not released since
+  -- a copy is in flight where it was made and neither released nor dropped since
   pub flies : (n : Name) → IsName v.setup n → (mark n ≡ Flying) ↔ IsInFlight start v n
   -- it waits once where it was released and not taken since
-  pub waits : (n : Name) → IsName v.setup n → (count_by (is_named n.from n.to n.round) (waiting n.to) ≡ 1) ↔ IsInBuffer start v n
-  pub once : (n : Name) → IsName v.setup n → count_by (is_named n.from n.to n.round) (waiting n.to) ≤ 1
+  pub waits : (n : Name) → IsName v.setup n → (count_by (is_name n) (waiting n.to) ≡ 1) ↔ IsInBuffer start v n
+  pub once : (n : Name) → IsName v.setup n → count_by (is_name n) (waiting n.to) ≤ 1
 
 -- what is closed stays: a recorded state, a state of the run in rounds, and what was carried to a closed round
 pub record KeepsClosed (start : ℕ → ℕ) (old new : Log) : Type 0 where

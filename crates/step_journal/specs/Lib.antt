@@ -4,7 +4,10 @@ pub use Rattle.step_machine.specs.Frames
 pub use Rattle.step_machine.specs.Nodes
 pub use Rattle.slot_plans.specs.Plan
 pub mod World
+pub mod Names
+pub mod Tables
 pub mod Trace
+pub mod Fates
 pub mod History
 pub mod Agreement
 pub mod Work

@@ -9,14 +9,16 @@ use Rattle.round_meaning.specs.declared.setup.Setup.{Setup}
 use Rattle.round_meaning.specs.Rounds.{algorithm_of}
 use Rattle.round_meaning.specs.Setups.{IsLawful}
 use Rattle.step_journal.specs.declared.mark.Mark.{Mark}
-use Rattle.step_journal.specs.declared.mark.Mark.TheVariants.{Flying}
+use Rattle.step_journal.specs.declared.mark.Mark.TheVariants.{Flying, Unsent}
 use Rattle.step_journal.specs.Agreement.{Row, row, Agrees, Waits, Accounts}
 use Rattle.step_journal.specs.History.{state, mark_of, buffer_of}
 use Rattle.step_journal.specs.Mailing.{Mailed}
+use Rattle.step_journal.specs.Names.{IsName}
 use Rattle.step_journal.specs.Trace.{steps}
 use Rattle.step_journal.specs.World.{World, IsPlan, is_receive}
 use Rattle.step_machine.specs.declared.event.Event.{Event}
 use Rattle.step_machine.specs.declared.event.Name.{Name}
+use Rattle.step_machine.specs.Frames.{original}
 use Rattle.step_machine.specs.Nodes.{NodeView, algorithm_in, held_now, inbox_of}
 
 -- a run so far: its program and setup, the events in their order, and the states of each node after 0, 1, .. closed rounds
@@ -60,13 +62,6 @@ ended n = (algorithm_in n).end n.round n.me (inbox_of (held_now n)) n.state
 abbrev pub closed : Log → NodeView → Log
 closed v n = record v { rows = slice_set v.rows n.me (row v.rows n.me ++ ended n ∷ []) }
 
--- the name is of a message of the run
-pub record IsName (s : Setup) (n : Name) : Type 0 where
-  pub from : n.from < s.nodes
-  pub to : n.to < s.nodes
-  pub first : 0 < n.round
-  pub last : n.round ≤ s.rounds
-
 -- a node's round: the first that isn't closed
 abbrev pub round_of : Log → ℕ → ℕ
 round_of v i = length (row v.rows i)
@@ -75,17 +70,21 @@ round_of v i = length (row v.rows i)
 abbrev pub count_of : Log → ℕ → ℕ
 count_of v i = steps i (history v)
 
--- what became of a message
+-- what became of a copy of a message
 abbrev pub mark_in : (ℕ → ℕ) → Log → Name → Mark
-mark_in start v n = mark_of (world_of start v) (history v) n.from n.to (n.round - 1)
+mark_in start v n = mark_of (world_of start v) (history v) n
 
 -- the names that wait for a node
 abbrev pub waiting_in : (ℕ → ℕ) → Log → ℕ → List Name
 waiting_in start v i = buffer_of (world_of start v) i (history v)
 
--- the message is in flight
+-- the copy is in flight
 abbrev pub IsFlying : (ℕ → ℕ) → Log → Name → Type 0
 IsFlying start v n = mark_in start v n ≡ Flying
+
+-- the copy was never made, and copy 0 is in flight
+abbrev pub CanCopy : (ℕ → ℕ) → Log → Name → Type 0
+CanCopy start v n = IsFlying start v (original n) × (mark_in start v n ≡ Unsent)
 
 -- a round of the node is due and isn't closed
 abbrev pub IsDue : (ℕ → ℕ) → Log → ℕ → Type 0
@@ -129,11 +128,11 @@ pub record IsFaithful (start : ℕ → ℕ) (v : Log) : Type 0 where
   pub stated : (i r : ℕ) → i < v.setup.nodes → r < round_of v i → slice_index_or (row v.rows i) r [] ≡ state (world_of start v) (history v) r i
 
 -- what is kept beside the run is what its history says
-pub record Holds (start : ℕ → ℕ) (nodes : ℕ) (v : Log) (counts : List ℕ) (marks : List Mark) (waiting : List (List Name)) (handed : List (List (List Name))) (answers : List Bool) : Type 0 where
+pub record Holds (start : ℕ → ℕ) (nodes : ℕ) (v : Log) (counts : List ℕ) (tables : List (List Mark)) (waiting : List (List Name)) (handed : List (List (List Name))) (answers : List Bool) : Type 0 where
   pub lawful : IsLawful v.program.values v.setup
   pub sized : nodes ≡ v.setup.nodes
   pub plan : IsPlan (world_of start v)
-  pub book : Agrees (world_of start v) (history v) counts v.rows marks
+  pub book : Agrees (world_of start v) (history v) counts v.rows tables
   pub waits : Waits (world_of start v) (history v) waiting
   pub accounts : Accounts (world_of start v) (history v) handed answers
 

@@ -1,8 +1,9 @@
 -- Places in the list of events, the oldest first and counted from 0.
-use Rattle.std.specs.Prelude.{◌≡◌, ℕ, ◌+◌, ◌<◌, ◌≤◌, List, Some, count_by, slice_get, take}
+use Rattle.std.specs.Prelude.{◌≡◌, ℕ, ◌+◌, ◌<◌, ◌≤◌, ◌⊎◌, List, Some, count_by, slice_get, take}
 use Rattle.step_machine.specs.declared.event.Event.{Event}
-use Rattle.step_machine.specs.declared.event.Event.TheVariants.{Step, Release}
+use Rattle.step_machine.specs.declared.event.Event.TheVariants.{Step, Release, Drop, Copy}
 use Rattle.step_machine.specs.declared.event.Name.{Name}
+use Rattle.step_machine.specs.Frames.{max_copy, original}
 use Rattle.step_journal.specs.Trace.{is_step}
 use Rattle.step_journal.specs.World.{World, earliest, nodes_of}
 
@@ -15,9 +16,21 @@ pub record IsStepAt (trace : List Event) (i c place : ℕ) : Type 0 where
   pub there : slice_get trace place ≡ Some (Step i)
   pub number : steps_before trace i place ≡ c
 
--- the message is released at this place
+-- the network lets the copy go to its receiver's buffer at this place
 abbrev pub IsReleaseAt : List Event → Name → ℕ → Type 0
 IsReleaseAt trace n place = slice_get trace place ≡ Some (Release n)
+
+-- the network drops the copy at this place
+abbrev pub IsDropAt : List Event → Name → ℕ → Type 0
+IsDropAt trace n place = slice_get trace place ≡ Some (Drop n)
+
+-- the network makes the copy at this place
+abbrev pub IsCopyAt : List Event → Name → ℕ → Type 0
+IsCopyAt trace n place = slice_get trace place ≡ Some (Copy n)
+
+-- the copy is released or dropped at this place
+abbrev pub IsLeftAt : List Event → Name → ℕ → Type 0
+IsLeftAt trace n place = IsReleaseAt trace n place ⊎ IsDropAt trace n place
 
 -- step number c is a receive of round r
 pub record IsReceiveOf (w : World) (r c : ℕ) : Type 0 where
@@ -43,15 +56,35 @@ pub record IsFirstAfter (Is : ℕ → Type 0) (before place : ℕ) : Type 0 wher
 abbrev pub IsSlotAt : World → List Event → Name → ℕ → Type 0
 IsSlotAt w trace n place = IsStepAt trace n.from (w.start n.round + n.to) place
 
--- the message's slot, then the first release of it after that, then the receiver's first receive
--- after that; and this is in the message's round, or in one of the rounds before it in which the
--- message is kept
-pub record IsCarried (w : World) (trace : List Event) (n : Name) : Type 0 where
+-- a copy other than 0 is made where the network first copies it after the slot, if copy 0 is in
+-- flight there
+pub record IsCopiedAt (w : World) (trace : List Event) (n : Name) (place : ℕ) : Type 0 where
+  pub slot : ℕ
+  pub sent : IsSlotAt w trace n slot
+  pub first : IsFirstAfter (IsCopyAt trace n) slot place
+  pub flies : (k : ℕ) → slot < k → k < place → ¬ IsLeftAt trace (original n) k
+
+-- a copy is made at this place: copy 0 at the slot
+pub data IsMadeAt (w : World) (trace : List Event) (n : Name) (place : ℕ) : Type 0 where
+  Sent : n.copy ≡ 0 → IsSlotAt w trace n place → IsMadeAt w trace n place
+  Copied : 0 < n.copy → IsCopiedAt w trace n place → IsMadeAt w trace n place
+
+-- the copy is made; the first release or drop of it after that is a release; then comes the
+-- receiver's first receive, and this is in the message's round, or in one of the rounds before it
+-- in which the message is kept
+pub record IsCarriedAs (w : World) (trace : List Event) (n : Name) : Type 0 where
   pub a : ℕ
   pub b : ℕ
   pub c : ℕ
-  pub slot : IsSlotAt w trace n a
-  pub release : IsFirstAfter (IsReleaseAt trace n) a b
+  pub made : IsMadeAt w trace n a
+  pub leaves : IsFirstAfter (IsLeftAt trace n) a b
+  pub release : IsReleaseAt trace n b
   pub receive : IsFirstAfter (IsReceiveAt w trace n.to) b c
   pub from_start : w.start (earliest n.round) ≤ steps_before trace n.to c
   pub before_end : steps_before trace n.to c < w.start (n.round + 1)
+
+-- one of the message's copies is carried
+pub record IsCarried (w : World) (trace : List Event) (n : Name) : Type 0 where
+  pub copy : ℕ
+  pub few : copy ≤ max_copy
+  pub carried : IsCarriedAs w trace (record n { copy = copy })

@@ -2,20 +2,20 @@
 ghost use Rattle.std.specs.Prelude.{◌≡◌, ◌+◌, ◌-◌, ◌*◌, ◌^◌, ◌<◌, ◌≤◌, ◌++◌, ◌↔◌, [], IfErr, IfOk, IsTrue, MatchOption, OnErr, OnOk, length, option_map};
 ghost use Rattle.round_meaning.specs.Rounds.{algorithm_of};
 ghost use Rattle.round_meaning.specs.Setups.{IsLawful};
-ghost use Rattle.step_machine.specs.Frames.{IsPrepared};
+ghost use Rattle.step_machine.specs.Frames.{IsPrepared, original};
 ghost use Rattle.step_journal.specs.Agreed.{JournalAgrees, KeepsClosed};
 ghost use Rattle.step_journal.specs.Agreement.{IsBuffer, row};
 ghost use Rattle.step_journal.specs.Causes.{CloseCause, IdleCause, IsDueIn, IsKnown, IsReceiveFit, IsSendFit, ReceiveCause, SendCause};
-ghost use Rattle.step_journal.specs.History.{answers_of, arrival, handed_of, let_go, spoken};
-ghost use Rattle.step_journal.specs.Log.{IsDue, IsFaithful, IsFlying, IsName, IsReceive, SameMarks, SameMarksBut, SameWaiting, SameWaitingBut, closed, count_of, happened, history, mark_in, opened, round_of, state_before, states_of, waiting_in, world_of};
-ghost use Rattle.step_journal.specs.Work.{AreCarried, heard_from, tag_of};
+ghost use Rattle.step_journal.specs.History.{answers_of, arrival, copied, dropped, handed_of, let_go, spoken};
+ghost use Rattle.step_journal.specs.Log.{CanCopy, IsDue, IsFaithful, IsFlying, IsReceive, SameMarks, SameMarksBut, SameWaiting, SameWaitingBut, closed, count_of, happened, history, mark_in, opened, round_of, state_before, states_of, waiting_in, world_of};
+ghost use Rattle.step_journal.specs.Names.{IsName};
+ghost use Rattle.step_journal.specs.Work.{AreCarried, any_within, heard_from, is_within, tag_of};
 
 use crate::fault::{CloseFault, IdleFault, ReceiveFault, SendFault};
 use crate::mail::Mail;
 use crate::mark::Mark;
-use crate::notes::{
-    note_close, note_idle_release, note_receive, note_release, note_send, note_step,
-};
+use crate::marks::Marks;
+use crate::notes::{note_answer, note_close, note_receive, note_release, note_send, note_step};
 use crate::opening::{first_rows, no_mail, no_steps};
 use crate::tags::{earliest, is_tagged, is_within};
 use round_check::Checked;
@@ -28,7 +28,8 @@ use std::sync::Arc;
 use step_machine::{Event, Finished, Name, Prepared, Sealed};
 
 /// The record of a run: its events, the steps of each node, the states of its closed rounds, what
-/// became of each message, what each receive handed out, and how each release was answered.
+/// became of each copy of each message, what each receive handed out, and how each event of the
+/// network was answered.
 #[derive(Drop)]
 pub struct Book<P: Plan> {
     program: Checked,
@@ -37,7 +38,7 @@ pub struct Book<P: Plan> {
     trace: Vec<Event>,
     steps: Vec<u64>,
     states: Vec<Vec<Arc<Vars>>>,
-    marks: Vec<Mark>,
+    marks: Marks,
     mails: Vec<Mail>,
     answers: Vec<bool>,
 }
@@ -68,7 +69,7 @@ impl<P: Plan> Model for Book<P> {
           trace = s.trace.items;
           rows = rows_of s.states.items;
         })
-        s.steps.items s.marks.items (waits_in s.mails.items) (handed_in s.mails.items) s.answers.items };
+        s.steps.items s.marks (waits_in s.mails.items) (handed_in s.mails.items) s.answers.items };
 }
 
 impl<P: Plan> Book<P> {
@@ -93,7 +94,7 @@ impl<P: Plan> Book<P> {
             trace: Vec::new(alloc),
             steps,
             states,
-            marks: Vec::new(alloc),
+            marks: Marks::new(alloc),
             mails,
             answers: Vec::new(alloc),
         })
@@ -174,23 +175,28 @@ impl<P: Plan> Book<P> {
         &self.states[node as usize]
     }
 
-    /// What became of a message.
+    /// What became of a copy of a message.
     pub fn mark(&self, name: Name) -> Mark
         requires { IsName self.now.log.setup name }
         ensures { result ≡ mark_in (P.start self.now.plan) self.now.log name }
     {
-        match self.marks.get(self.place(name)) {
-            Some(mark) => *mark,
-            None => Mark::Unsent,
-        }
+        self.marks.at(name.copy, self.place(name))
     }
 
-    /// Whether a message is in flight.
+    /// Whether a copy of a message is in flight.
     pub fn is_flying(&self, name: Name) -> bool
         requires { IsName self.now.log.setup name }
         ensures { IsTrue result ↔ IsFlying (P.start self.now.plan) self.now.log name }
     {
         self.mark(name) == Mark::Flying
+    }
+
+    /// Whether the network can make this copy: copy 0 is in flight, and this one was never made.
+    pub fn can_copy(&self, name: Name) -> bool
+        requires { IsName self.now.log.setup name }
+        ensures { IsTrue result ↔ CanCopy (P.start self.now.plan) self.now.log name }
+    {
+        self.is_flying(name.original()) && self.mark(name) == Mark::Unsent
     }
 
     /// The names that wait for a node.
@@ -213,14 +219,15 @@ impl<P: Plan> Book<P> {
         &self.mails[node as usize]
     }
 
-    /// The answers that the releases got, in their order: whether a message moved.
+    /// The answers that the network's events got, in their order: whether a copy was let go, lost or
+    /// made.
     pub fn answers(&self) -> &[bool]
         ensures { result.now ≡ answers_of (world_of (P.start self.now.plan) self.now.log) (history self.now.log) }
     {
         &self.answers
     }
 
-    /// The place of a message in the table of all.
+    /// The place of a message in its copy's table.
     fn place(&self, name: Name) -> usize
         requires { IsName self.now.log.setup name }
         ensures { result ≡ ((name.round - 1) * self.now.log.setup.nodes + name.from) * self.now.log.setup.nodes + name.to }
@@ -341,7 +348,7 @@ impl<P: Plan> Book<P> {
         Ok(())
     }
 
-    /// A release by the network: true where a message went from flight to those that wait.
+    /// A release by the network: true where a copy went from flight to those that wait.
     pub fn release(&mut self, name: Name) -> Result<bool, NoMemory>
         requires { IsName self.old.log.setup name }
         ensures ok { OnOk result (self.new ≡ record self.old { log = happened self.old.log (Event.Release name) }) }
@@ -364,10 +371,62 @@ impl<P: Plan> Book<P> {
                 &mut self.mails[name.to as usize],
                 name,
             )?;
-            self.marks[place] = Mark::Released(count);
+            self.marks.put(name.copy, place, Mark::Released(count));
             return Ok(true);
         }
-        note_idle_release(&mut self.trace, &mut self.answers, name)?;
+        note_answer(
+            &mut self.trace,
+            &mut self.answers,
+            Event::Release(name),
+            false,
+        )?;
+        Ok(false)
+    }
+
+    /// A drop by the network: true where a copy was in flight; it's lost.
+    pub fn drop_copy(&mut self, name: Name) -> Result<bool, NoMemory>
+        requires { IsName self.old.log.setup name }
+        ensures ok { OnOk result (self.new ≡ record self.old { log = happened self.old.log (Event.Drop name) }) }
+        ensures err { OnErr result (self.new ≡ self.old) }
+        ensures lost { IfOk result (λ lost. IsTrue lost ↔ IsFlying (P.start self.old.plan) self.old.log name) }
+        ensures dropped { OnOk result (mark_in (P.start self.old.plan) self.new.log name
+            ≡ dropped (mark_in (P.start self.old.plan) self.old.log name)) }
+        ensures marks { OnOk result (SameMarksBut (P.start self.old.plan) name self.old.log self.new.log) }
+        ensures waiting { OnOk result (SameWaiting (P.start self.old.plan) self.old.log self.new.log) }
+        ensures kept { OnOk result (KeepsClosed (P.start self.old.plan) self.old.log self.new.log) }
+    {
+        let place = self.place(name);
+        if self.is_flying(name) {
+            note_answer(&mut self.trace, &mut self.answers, Event::Drop(name), true)?;
+            self.marks.put(name.copy, place, Mark::Lost);
+            return Ok(true);
+        }
+        note_answer(&mut self.trace, &mut self.answers, Event::Drop(name), false)?;
+        Ok(false)
+    }
+
+    /// A copy by the network: true where copy 0 was in flight and this one, 1 to 3, was never made;
+    /// it's in flight.
+    pub fn make_copy(&mut self, name: Name) -> Result<bool, NoMemory>
+        requires name { IsName self.old.log.setup name }
+        requires other { 0 < name.copy }
+        ensures ok { OnOk result (self.new ≡ record self.old { log = happened self.old.log (Event.Copy name) }) }
+        ensures err { OnErr result (self.new ≡ self.old) }
+        ensures made { IfOk result (λ made. IsTrue made ↔ CanCopy (P.start self.old.plan) self.old.log name) }
+        ensures copied { OnOk result (mark_in (P.start self.old.plan) self.new.log name
+            ≡ copied (mark_in (P.start self.old.plan) self.old.log (original name)) (mark_in (P.start self.old.plan) self.old.log name)) }
+        ensures marks { OnOk result (SameMarksBut (P.start self.old.plan) name self.old.log self.new.log) }
+        ensures waiting { OnOk result (SameWaiting (P.start self.old.plan) self.old.log self.new.log) }
+        ensures kept { OnOk result (KeepsClosed (P.start self.old.plan) self.old.log self.new.log) }
+    {
+        let place = self.place(name);
+        if self.can_copy(name) {
+            self.marks.reserve(name.copy, place)?;
+            note_answer(&mut self.trace, &mut self.answers, Event::Copy(name), true)?;
+            self.marks.put(name.copy, place, Mark::Flying);
+            return Ok(true);
+        }
+        note_answer(&mut self.trace, &mut self.answers, Event::Copy(name), false)?;
         Ok(false)
     }
 
@@ -456,12 +515,33 @@ impl<P: Plan> Book<P> {
             from,
             to: node,
             round,
+            copy: 0,
         };
         let first = self.start(earliest(round));
-        if !is_within(self.mark(name), first, self.start(round + 1)) {
+        if !self.was_released(name, first, self.start(round + 1)) {
             return frame.is_none();
         }
         is_tagged(frame, name, &row[round as usize - 1])
+    }
+
+    /// Whether one of a message's copies was released while its receiver's step count stood from
+    /// `first` on and below `end`.
+    pub fn was_released(&self, name: Name, first: u64, end: u64) -> bool
+        requires { IsName self.now.log.setup name }
+        ensures { result ≡ any_within (λ k. mark_in (P.start self.now.plan) self.now.log (record name { copy = k })) first end }
+    {
+        self.was_let_go(name, 0, first, end)
+            || self.was_let_go(name, 1, first, end)
+            || self.was_let_go(name, 2, first, end)
+            || self.was_let_go(name, 3, first, end)
+    }
+
+    fn was_let_go(&self, name: Name, copy: u32, first: u64, end: u64) -> bool
+        requires name { IsName self.now.log.setup name }
+        requires copy { copy ≤ 3 }
+        ensures { result ≡ is_within (mark_in (P.start self.now.plan) self.now.log (record name { copy = copy })) first end }
+    {
+        is_within(self.mark(Name { copy, ..name }), first, end)
     }
 }
 

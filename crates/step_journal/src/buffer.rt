@@ -1,6 +1,7 @@
 //! The frames of one node.
-ghost use Rattle.std.specs.Prelude.{◌≡◌, ◌<◌, ◌++◌, [], MatchOption, OnOk, None, Some, length, option_to_list, slice_set};
-ghost use Rattle.step_journal.specs.Stock.{SameFlying, flying_at};
+ghost use Rattle.std.specs.Prelude.{◌≡◌, ◌<◌, ◌++◌, [], MatchOption, OnOk, None, Some, option_to_list, vec_len};
+ghost use Rattle.step_journal.specs.Stock.{flying_at};
+ghost use Rattle.step_journal.specs.Tables.{HasPlace, Puts, SameTable, SameTables, tables_of};
 
 use round_lang::NoMemory;
 use round_meaning::MAX_NODES;
@@ -12,23 +13,24 @@ use step_machine::Sealed;
 /// For how many frames there is room at first: a run has no more nodes.
 const FIRST_ROOM: usize = MAX_NODES as usize;
 
-/// The frames in flight to a node, by their places in a table that grows with the rounds, and those
-/// that were released to it and not yet taken.
+/// The frames in flight to a node, by their places in a table for each copy number that grows with
+/// the rounds, and those that were released to it and not yet taken.
 #[derive(Drop)]
 pub struct Buffer {
     alloc: Global,
-    flying: Vec<Option<Sealed>>,
+    flying: Vec<Vec<Option<Sealed>>>,
     waiting: Vec<Sealed>,
 }
 
 impl Model for Buffer {
     ghost use Rattle.std.specs.Prelude.{◌-◌, vec_capacity, vec_len};
     ghost use Rattle.step_journal.specs.Stock.{Stock};
+    ghost use Rattle.step_journal.specs.Tables.{tables_of};
 
     ghost Value = { Stock };
 
     ghost view = { λ s. record {
-      flying = s.flying.items;
+      flying = tables_of s.flying.items;
       waiting = s.waiting.items;
       spare = vec_capacity s.waiting - vec_len s.waiting;
     } };
@@ -54,26 +56,27 @@ impl Buffer {
         &self.waiting
     }
 
-    /// The frame in flight at a place.
-    pub fn flying(&self, place: usize) -> Option<&Sealed>
-        ensures { MatchOption result (flying_at self.now place ≡ None) (λ frame. flying_at self.now place ≡ Some frame.now) }
+    /// The frame in flight at a place of a copy's table.
+    pub fn flying(&self, copy: u32, place: usize) -> Option<&Sealed>
+        ensures { MatchOption result (flying_at self.now copy place ≡ None) (λ frame. flying_at self.now copy place ≡ Some frame.now) }
     {
-        match self.flying.get(place) {
+        let Some(table) = self.flying.get(copy as usize) else {
+            return None;
+        };
+        match table.get(place) {
             Some(frame) => frame.as_ref(),
             None => None,
         }
     }
 
-    /// Makes room for a frame in flight at a place.
-    pub fn reserve_flying(&mut self, place: usize) -> Result<(), NoMemory>
-        ensures room { OnOk result (place < length self.new.flying) }
-        ensures flying { SameFlying self.old self.new }
+    /// Makes room for a frame in flight at a place of a copy's table.
+    pub fn reserve_flying(&mut self, copy: u32, place: usize) -> Result<(), NoMemory>
+        ensures room { OnOk result (HasPlace self.new.flying copy place) }
+        ensures flying { SameTables None self.old.flying self.new.flying }
         ensures waiting { self.new.waiting ≡ self.old.waiting }
     {
-        while self.flying.len() <= place {
-            self.flying.push(None)?;
-        }
-        Ok(())
+        add_tables(self.alloc, &mut self.flying, copy as usize)?;
+        grow(&mut self.flying[copy as usize], place)
     }
 
     /// Makes room for one more frame that waits; the first time, for one of each node.
@@ -92,24 +95,33 @@ impl Buffer {
     }
 
     /// A frame more in flight.
-    pub fn put(&mut self, place: usize, frame: Sealed)
-        requires { place < length self.old.flying }
-        ensures flying { self.new.flying ≡ slice_set self.old.flying place (Some frame) }
+    pub fn put(&mut self, copy: u32, place: usize, frame: Sealed)
+        requires { HasPlace self.old.flying copy place }
+        ensures flying { Puts None self.old.flying self.new.flying copy place (Some frame) }
         ensures waiting { self.new.waiting ≡ self.old.waiting }
     {
-        self.flying[place] = Some(frame);
+        self.flying[copy as usize][place] = Some(frame);
     }
 
     /// The frame at a place, if there is one, goes from flight to those that wait.
-    pub fn let_go(&mut self, place: usize)
-        requires place { place < length self.old.flying }
+    pub fn let_go(&mut self, copy: u32, place: usize)
+        requires place { HasPlace self.old.flying copy place }
         requires room { 0 < self.old.spare }
-        ensures flying { self.new.flying ≡ slice_set self.old.flying place None }
-        ensures waiting { self.new.waiting ≡ self.old.waiting ++ option_to_list (flying_at self.old place) }
+        ensures flying { Puts None self.old.flying self.new.flying copy place None }
+        ensures waiting { self.new.waiting ≡ self.old.waiting ++ option_to_list (flying_at self.old copy place) }
     {
-        if let Some(frame) = self.flying[place].take() {
+        if let Some(frame) = self.flying[copy as usize][place].take() {
             self.waiting.push_reserved(frame);
         }
+    }
+
+    /// The frame at a place is lost.
+    pub fn remove(&mut self, copy: u32, place: usize)
+        requires { HasPlace self.old.flying copy place }
+        ensures flying { Puts None self.old.flying self.new.flying copy place None }
+        ensures waiting { self.new.waiting ≡ self.old.waiting }
+    {
+        self.flying[copy as usize][place] = None;
     }
 
     /// Takes the frames that wait.
@@ -121,4 +133,30 @@ impl Buffer {
         let alloc = self.alloc;
         mem::replace(&mut self.waiting, Vec::new(alloc))
     }
+}
+
+/// Adds empty tables until the copy has one.
+fn add_tables(
+    alloc: Global,
+    tables: &mut Vec<Vec<Option<Sealed>>>,
+    copy: usize,
+) -> Result<(), NoMemory>
+    ensures there { OnOk result (copy < vec_len tables.new) }
+    ensures same { SameTables None (tables_of tables.old.items) (tables_of tables.new.items) }
+{
+    while tables.len() <= copy {
+        tables.push(Vec::new(alloc))?;
+    }
+    Ok(())
+}
+
+/// Makes a table longer than a place.
+fn grow(table: &mut Vec<Option<Sealed>>, place: usize) -> Result<(), NoMemory>
+    ensures long { OnOk result (place < vec_len table.new) }
+    ensures same { SameTable None table.old.items table.new.items }
+{
+    while table.len() <= place {
+        table.push(None)?;
+    }
+    Ok(())
 }

@@ -2,12 +2,13 @@
 ghost use Rattle.std.specs.Prelude.{◌≡◌, ◌+◌, ◌-◌, ◌*◌, ◌<◌, ◌++◌, ◌↔◌, [], All, IfErr, IfOk, IfSome, IsSome, IsTrue, OnErr, OnOk};
 ghost use Rattle.round_meaning.specs.Rounds.{algorithm_of};
 ghost use Rattle.round_meaning.specs.Setups.{IsLawful};
-ghost use Rattle.step_machine.specs.Frames.{IsPrepared};
+ghost use Rattle.step_machine.specs.Frames.{IsPrepared, copied_as, original};
 ghost use Rattle.step_journal.specs.Agreed.{IsSaid, JournalAgrees, KeepsClosed};
 ghost use Rattle.step_journal.specs.Agreement.{IsBuffer};
 ghost use Rattle.step_journal.specs.Causes.{CloseCause, IdleCause, IsDueIn, IsKnown, IsReceiveFit, IsSendFit, ReceiveCause, SendCause};
-ghost use Rattle.step_journal.specs.History.{arrival, let_go, spoken};
-ghost use Rattle.step_journal.specs.Log.{IsFlying, IsName, SameMarks, SameMarksBut, SameWaiting, SameWaitingBut, closed, count_of, happened, history, mark_in, opened, round_of, waiting_in, world_of};
+ghost use Rattle.step_journal.specs.History.{arrival, copied, dropped, let_go, spoken};
+ghost use Rattle.step_journal.specs.Log.{CanCopy, IsFlying, SameMarks, SameMarksBut, SameWaiting, SameWaitingBut, closed, count_of, happened, history, mark_in, opened, round_of, waiting_in, world_of};
+ghost use Rattle.step_journal.specs.Names.{IsName};
 ghost use Rattle.step_journal.specs.Stock.{AreEmpty, IsGenuine, IsMail, names_in, place_among};
 
 use crate::book::Book;
@@ -120,7 +121,7 @@ impl<P: Plan> Journal<P> {
     {
         self.book.agrees();
         let buffer = &self.buffers[name.to as usize];
-        buffer.flying(self.place(name))
+        buffer.flying(name.copy, self.place(name))
     }
 
     /// The place of a message among those to its receiver.
@@ -152,7 +153,7 @@ impl<P: Plan> Journal<P> {
         let name = prepared.name();
         let place = self.place(name);
         let buffer = &mut self.buffers[name.to as usize];
-        match buffer.reserve_flying(place) {
+        match buffer.reserve_flying(0, place) {
             Ok(()) => {}
             Err(_) => return Err(Refused::memory(prepared)),
         }
@@ -163,7 +164,7 @@ impl<P: Plan> Journal<P> {
         match prepared.into_sealed() {
             Some(frame) => {
                 let buffer = &mut self.buffers[name.to as usize];
-                buffer.put(place, frame);
+                buffer.put(0, place, frame);
                 Ok(())
             }
             None => Ok(()),
@@ -194,7 +195,7 @@ impl<P: Plan> Journal<P> {
         Ok(Took { frames })
     }
 
-    /// A release: true where a frame went from flight to its buffer.
+    /// A release: true where a copy went from flight to its buffer.
     pub fn release(&mut self, name: Name) -> Result<bool, NoMemory>
         requires { IsName self.old.log.setup name }
         ensures ok { OnOk result (self.new ≡ record self.old { log = happened self.old.log (Event.Release name) }) }
@@ -214,10 +215,76 @@ impl<P: Plan> Journal<P> {
         let moved = self.book.release(name)?;
         if moved {
             let buffer = &mut self.buffers[name.to as usize];
-            buffer.let_go(place);
+            buffer.let_go(name.copy, place);
             return Ok(true);
         }
         Ok(false)
+    }
+
+    /// A drop: true where a copy was in flight; its frame is gone.
+    pub fn drop_frame(&mut self, name: Name) -> Result<bool, NoMemory>
+        requires { IsName self.old.log.setup name }
+        ensures ok { OnOk result (self.new ≡ record self.old { log = happened self.old.log (Event.Drop name) }) }
+        ensures err { OnErr result (self.new ≡ self.old) }
+        ensures lost { IfOk result (λ lost. IsTrue lost ↔ IsFlying (P.start self.old.plan) self.old.log name) }
+        ensures dropped { OnOk result (mark_in (P.start self.old.plan) self.new.log name
+            ≡ dropped (mark_in (P.start self.old.plan) self.old.log name)) }
+        ensures marks { OnOk result (SameMarksBut (P.start self.old.plan) name self.old.log self.new.log) }
+        ensures waiting { OnOk result (SameWaiting (P.start self.old.plan) self.old.log self.new.log) }
+        ensures kept { OnOk result (KeepsClosed (P.start self.old.plan) self.old.log self.new.log) }
+    {
+        let place = self.place(name);
+        let lost = self.book.drop_copy(name)?;
+        if lost {
+            let buffer = &mut self.buffers[name.to as usize];
+            buffer.remove(name.copy, place);
+            return Ok(true);
+        }
+        Ok(false)
+    }
+
+    /// A copy: true where copy 0 was in flight and this one, 1 to 3, was never made; its frame, the
+    /// same message, is in flight.
+    pub fn copy_frame(&mut self, name: Name) -> Result<bool, NoMemory>
+        requires name { IsName self.old.log.setup name }
+        requires other { 0 < name.copy }
+        ensures ok { OnOk result (self.new ≡ record self.old { log = happened self.old.log (Event.Copy name) }) }
+        ensures err { OnErr result (self.new ≡ self.old) }
+        ensures made { IfOk result (λ made. IsTrue made ↔ CanCopy (P.start self.old.plan) self.old.log name) }
+        ensures copied { OnOk result (mark_in (P.start self.old.plan) self.new.log name
+            ≡ copied (mark_in (P.start self.old.plan) self.old.log (original name)) (mark_in (P.start self.old.plan) self.old.log name)) }
+        ensures marks { OnOk result (SameMarksBut (P.start self.old.plan) name self.old.log self.new.log) }
+        ensures waiting { OnOk result (SameWaiting (P.start self.old.plan) self.old.log self.new.log) }
+        ensures kept { OnOk result (KeepsClosed (P.start self.old.plan) self.old.log self.new.log) }
+    {
+        let Some(frame) = self.copy_of(name)? else {
+            let made = self.book.make_copy(name)?;
+            return Ok(made);
+        };
+        let place = self.place(name);
+        let buffer = &mut self.buffers[name.to as usize];
+        buffer.reserve_flying(name.copy, place)?;
+        let made = self.book.make_copy(name)?;
+        if made {
+            let buffer = &mut self.buffers[name.to as usize];
+            buffer.put(name.copy, place, frame);
+            return Ok(true);
+        }
+        Ok(false)
+    }
+
+    /// The frame of a copy, where copy 0 is in flight.
+    fn copy_of(&self, name: Name) -> Result<Option<Sealed>, NoMemory>
+        requires { IsName self.now.log.setup name }
+        ensures there { IfOk result (λ o. IsSome o ↔ IsFlying (P.start self.now.plan) self.now.log (original name)) }
+        ensures named { IfOk result (λ o. IfSome o (λ frame. frame.name ≡ name)) }
+        ensures genuine { IfOk result (λ o. IfSome o (λ frame. IsGenuine (algorithm_of self.now.log.program self.now.log.setup) self.now.log.rows frame)) }
+    {
+        let buffer = &self.buffers[name.to as usize];
+        match buffer.flying(0, self.place(name)) {
+            Some(frame) => Ok(Some(frame.copied(name.copy)?)),
+            None => Ok(None),
+        }
     }
 
     /// Closes the due round that a node of the run finished.

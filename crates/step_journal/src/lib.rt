@@ -7,6 +7,7 @@ mod fault;
 mod journal;
 mod mail;
 mod mark;
+mod marks;
 mod notes;
 mod opening;
 mod tags;

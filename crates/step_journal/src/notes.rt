@@ -1,11 +1,13 @@
 //! What an event adds to a record, field by field. All growth goes before any change, so an error
 //! leaves each field as it was.
-ghost use Rattle.std.specs.Prelude.{◌≡◌, ◌+◌, ◌<◌, ◌≤◌, [], ◌∷◌, ◌++◌, OnOk, OnErr, false, slice_index, slice_set, true, vec_len};
-ghost use Rattle.step_journal.specs.Agreement.{Puts, SameTable};
+ghost use Rattle.std.specs.Prelude.{◌≡◌, ◌+◌, ◌<◌, ◌≤◌, [], ◌∷◌, ◌++◌, OnOk, OnErr, slice_index, slice_set, true, vec_len};
+ghost use Rattle.step_journal.specs.declared.mark.Mark.TheVariants.{Unsent};
+ghost use Rattle.step_journal.specs.Tables.{Puts, SameTables};
 ghost use Rattle.step_journal.specs.Log.{ended, states_of};
 
 use crate::mail::Mail;
 use crate::mark::Mark;
+use crate::marks::Marks;
 use round_lang::{NoMemory, Vars};
 use std::sync::Arc;
 use step_machine::{Event, Finished, Name};
@@ -28,22 +30,11 @@ pub(crate) fn note_step(
     Ok(())
 }
 
-/// Makes the table longer than a place.
-fn grow(marks: &mut Vec<Mark>, place: usize) -> Result<(), NoMemory>
-    ensures long { OnOk result (place < vec_len marks.new) }
-    ensures same { SameTable marks.old.items marks.new.items }
-{
-    while marks.len() <= place {
-        marks.push(Mark::Unsent)?;
-    }
-    Ok(())
-}
-
 /// A send step, with the mark of its message.
 pub(crate) fn note_send(
     trace: &mut Vec<Event>,
     steps: &mut Vec<u64>,
-    marks: &mut Vec<Mark>,
+    marks: &mut Marks,
     node: u32,
     place: usize,
     mark: Mark,
@@ -52,14 +43,14 @@ pub(crate) fn note_send(
     requires counted { slice_index steps.old.items node ≤ vec_len trace.old }
     ensures trace { OnOk result (trace.new.items ≡ trace.old.items ++ Event.Step node ∷ []) }
     ensures steps { OnOk result (steps.new.items ≡ slice_set steps.old.items node (slice_index steps.old.items node + 1)) }
-    ensures marks { OnOk result (Puts marks.old.items marks.new.items place mark) }
+    ensures marks { OnOk result (Puts Unsent marks.old marks.new 0 place mark) }
     ensures trace_kept { OnErr result (trace.new.items ≡ trace.old.items) }
     ensures steps_kept { OnErr result (steps.new.items ≡ steps.old.items) }
-    ensures marks_kept { OnErr result (SameTable marks.old.items marks.new.items) }
+    ensures marks_kept { OnErr result (SameTables Unsent marks.old marks.new) }
 {
-    grow(marks, place)?;
+    marks.reserve(0, place)?;
     note_step(trace, steps, node)?;
-    marks[place] = mark;
+    marks.put(0, place, mark);
     Ok(())
 }
 
@@ -110,20 +101,21 @@ pub(crate) fn note_release(
     Ok(())
 }
 
-/// A release that moves nothing.
-pub(crate) fn note_idle_release(
+/// An event of the network with its answer, which changes no mail.
+pub(crate) fn note_answer(
     trace: &mut Vec<Event>,
     answers: &mut Vec<bool>,
-    name: Name,
+    event: Event,
+    answer: bool,
 ) -> Result<(), NoMemory>
-    ensures trace { OnOk result (trace.new.items ≡ trace.old.items ++ Event.Release name ∷ []) }
-    ensures answers { OnOk result (answers.new.items ≡ answers.old.items ++ false ∷ []) }
+    ensures trace { OnOk result (trace.new.items ≡ trace.old.items ++ event ∷ []) }
+    ensures answers { OnOk result (answers.new.items ≡ answers.old.items ++ answer ∷ []) }
     ensures trace_kept { OnErr result (trace.new.items ≡ trace.old.items) }
     ensures answers_kept { OnErr result (answers.new.items ≡ answers.old.items) }
 {
     trace.reserve(1)?;
-    answers.push(false)?;
-    trace.push_reserved(Event::Release(name));
+    answers.push(answer)?;
+    trace.push_reserved(event);
     Ok(())
 }
 

@@ -20,16 +20,16 @@ pub(crate) fn is_within(mark: Mark, first: u64, end: u64) -> bool
 {
     match mark {
         Mark::Released(count) => first <= count && count < end,
-        Mark::Unsent | Mark::Silent | Mark::Flying => false,
+        Mark::Unsent | Mark::Silent | Mark::Flying | Mark::Lost => false,
     }
 }
 
-/// Whether there is a frame, and it has this name and this state of its sender.
+/// Whether there is a frame, and it's a copy of this message with this state of its sender.
 pub(crate) fn is_tagged(frame: &Option<Sealed>, name: Name, state: &Vars) -> bool
     ensures { IsTrue result ↔ (option_map tag_of frame.now ≡ Some (record { name = name; state = state.now })) }
 {
     match frame {
-        Some(frame) => frame.name() == name && state.same(frame.state()),
+        Some(frame) => frame.name().original() == name && state.same(frame.state()),
         None => false,
     }
 }

@@ -5,6 +5,14 @@ use Rattle.round_lang.specs.declared.value.Value.{Value}
 use Rattle.round_meaning.specs.Rounds.{Algorithm}
 use Rattle.step_machine.specs.declared.event.Name.{Name}
 
+-- the message's copy 0
+abbrev pub original : Name → Name
+original n = record n { copy = 0 }
+
+-- the greatest number of a copy
+abbrev pub max_copy : ℕ
+max_copy = 3
+
 -- what is said in a state: a message, or silence
 pub record Saying : Type 0 where
   pub state : List Value
@@ -19,6 +27,10 @@ pub record Frame : Type 0 where
   pub name : Name
   pub state : List Value
   pub message : List Value
+
+-- the same message as copy k
+abbrev pub copied_as : ℕ → Frame → Frame
+copied_as k f = record f { name = record f.name { copy = k } }
 
 -- a message or silence under its name, with its sender's state
 pub record Ready : Type 0 where

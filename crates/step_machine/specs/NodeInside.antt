@@ -9,7 +9,7 @@ use Rattle.step_machine.specs.Nodes.{NodeView, AreHeld, IsToldToAll, algorithm_i
 -- the node that its fields make
 abbrev pub node_seen : Inside → NodeView
 node_seen s = record {
-  program = s.program;
+  program = s.machine;
   setup = s.setup;
   me = s.me;
   round = s.round;

@@ -3,12 +3,13 @@
 
 mod event;
 mod held;
+mod machine;
 mod node;
 mod prepared;
 mod said;
 mod sealed;
 
-pub use event::{Event, InFlight, Name};
+pub use event::{Event, InFlight, MAX_COPY, Name};
 pub use node::{Finished, Node, ROUNDS_HELD, Taken};
 pub use prepared::Prepared;
 pub use sealed::Sealed;

@@ -11,13 +11,14 @@ mod finished;
 
 use crate::event::Name;
 use crate::held::Held;
+use crate::machine::Machine;
 use crate::prepared::Prepared;
 use crate::said::Said;
 use crate::sealed::Sealed;
 pub use finished::Finished;
 use round_check::Checked;
 use round_lang::{NoMemory, Vars};
-use round_meaning::{Heard, Setup, end_of, initial_of, is_broadcast, send_of};
+use round_meaning::{Setup, is_broadcast};
 use std::alloc::Global;
 use std::marker::Model;
 use std::sync::Arc;
@@ -45,7 +46,7 @@ pub enum Taken {
 #[derive(Drop)]
 pub struct Node {
     alloc: Global,
-    program: Checked,
+    machine: Machine,
     setup: Setup,
     me: u32,
     round: u32,
@@ -90,12 +91,13 @@ impl Node {
           next = None;
         }) }
     {
-        let state = initial_of(alloc, program, setup, me)?;
+        let mut machine = Machine::new(alloc, program)?;
+        let state = machine.init(alloc, setup, me)?;
         let state = Arc::new(alloc, state)?;
         let held = none_held(alloc, setup.nodes)?;
         Ok(Node {
             alloc,
-            program: program.copy()?,
+            machine,
             setup: setup.copy()?,
             me,
             round: 1,
@@ -117,7 +119,7 @@ impl Node {
     pub fn prepare(&mut self, dest: u32) -> Result<Prepared, NoMemory>
         requires { dest < self.old.setup.nodes }
         ensures ready { IfOk result (λ p. p ≡ record {
-          name = record { from = self.old.me; to = dest; round = self.old.round };
+          name = record { from = self.old.me; to = dest; round = self.old.round; copy = 0 };
           state = self.old.state;
           message = (algorithm_in self.old).send self.old.round self.old.state self.old.me dest;
         }) }
@@ -128,6 +130,7 @@ impl Node {
             from: self.me,
             to: dest,
             round: self.round,
+            copy: 0,
         };
         Ok(Prepared::new(name, said))
     }
@@ -141,18 +144,18 @@ impl Node {
             return Ok(Arc::try_clone(said)?);
         }
         let said = self.computed(dest)?;
-        if is_broadcast(&self.program, self.round) {
+        if is_broadcast(self.machine.program(), self.round) {
             self.spoken = Some(Arc::try_clone(&said)?);
         }
         Ok(said)
     }
 
-    fn computed(&self, dest: u32) -> Result<Arc<Said>, NoMemory>
-        ensures { IfOk result (λ said. arc_value said ≡ said_to self.now dest) }
+    fn computed(&mut self, dest: u32) -> Result<Arc<Said>, NoMemory>
+        ensures says { IfOk result (λ said. arc_value said ≡ said_to self.old dest) }
+        ensures same { self.new ≡ self.old }
     {
-        let message = send_of(
+        let message = self.machine.send(
             self.alloc,
-            &self.program,
             &self.setup,
             self.round,
             &self.state,
@@ -202,18 +205,17 @@ impl Node {
     }
 
     /// The state after the round.
-    fn next_state(&self) -> Result<Arc<Vars>, NoMemory>
-        ensures { IfOk result (λ s. arc_value s
-            ≡ (algorithm_in self.now).end self.now.round self.now.me (inbox_of (held_now self.now)) self.now.state) }
+    fn next_state(&mut self) -> Result<Arc<Vars>, NoMemory>
+        ensures state { IfOk result (λ s. arc_value s
+            ≡ (algorithm_in self.old).end self.old.round self.old.me (inbox_of (held_now self.old)) self.old.state) }
+        ensures same { self.new ≡ self.old }
     {
-        let inbox = inbox_of(self.alloc, self.held[0].frames())?;
-        let next = end_of(
+        let next = self.machine.end(
             self.alloc,
-            &self.program,
             &self.setup,
             self.round,
             self.me,
-            &inbox,
+            self.held[0].frames(),
             &self.state,
         )?;
         Ok(Arc::new(self.alloc, next)?)
@@ -246,17 +248,4 @@ fn none_held(alloc: Global, senders: u32) -> Result<Vec<Held>, NoMemory>
         held.push(Held::new(alloc, senders)?)?;
     }
     Ok(held)
-}
-
-/// The frames as an inbox, in rising order of sender.
-fn inbox_of<'a>(alloc: Global, held: &'a [Option<Sealed>]) -> Result<Vec<Heard<'a>>, NoMemory>
-    ensures { IfOk result (λ inbox. inbox.items ≡ inbox_of held.now) }
-{
-    let mut inbox = Vec::with_capacity(alloc, held.len())?;
-    for frame in held {
-        if let Some(frame) = frame {
-            inbox.push(Heard::new(frame.name().from, frame.message()))?;
-        }
-    }
-    Ok(inbox)
 }

@@ -17,11 +17,14 @@ pub struct Prepared {
 
 impl Model for Prepared {
     ghost use Rattle.std.specs.Arc.{arc_value};
+    ghost use Rattle.std.specs.Prelude.{◌≡◌};
     ghost use Rattle.step_machine.specs.Frames.{Ready};
 
     ghost Value = { Ready };
 
     ghost view = { λ s. record { name = s.name; state = (arc_value s.said).state; message = (arc_value s.said).message } };
+
+    ghost invariant = { λ s. s.name.copy ≡ 0 };
 }
 
 impl Prepared {
@@ -29,14 +32,16 @@ impl Prepared {
     ghost use Rattle.step_machine.specs.Frames.{frame_of};
 
     pub(crate) fn new(name: Name, said: Arc<Said>) -> Prepared
+        requires { name.copy ≡ 0 }
         ensures { result ≡ record { name = name; state = (arc_value said).state; message = (arc_value said).message } }
     {
         Prepared { name, said }
     }
 
-    /// The name that the message has, or would have.
+    /// The name that the message has, or would have: its copy 0.
     pub fn name(&self) -> Name
-        ensures { result ≡ self.now.name }
+        ensures value { result ≡ self.now.name }
+        ensures original { result.copy ≡ 0 }
     {
         self.name
     }

@@ -1,10 +1,10 @@
 //! Messages on their way.
 ghost use Rattle.std.specs.Arc.{arc_value};
-ghost use Rattle.std.specs.Prelude.{◌≡◌, Some};
+ghost use Rattle.std.specs.Prelude.{◌≡◌, IfOk, Some};
 
 use crate::event::Name;
 use crate::said::Said;
-use round_lang::{Message, Vars};
+use round_lang::{Message, NoMemory, Vars};
 use std::marker::Model;
 use std::sync::Arc;
 
@@ -31,13 +31,24 @@ impl Model for Sealed {
 impl Sealed {
     ghost use Rattle.std.specs.Arc.{arc_value};
     ghost use Rattle.std.specs.Prelude.{IsSome};
-    ghost use Rattle.step_machine.specs.Frames.{message_in};
+    ghost use Rattle.step_machine.specs.Frames.{copied_as, message_in};
 
     pub(crate) fn new(name: Name, said: Arc<Said>) -> Sealed
         requires { IsSome (arc_value said).message }
         ensures { result ≡ record { name = name; state = (arc_value said).state; message = message_in (arc_value said) } }
     {
         Sealed { name, said }
+    }
+
+    /// The same message as another copy; the message and the state are shared.
+    pub fn copied(&self, copy: u32) -> Result<Sealed, NoMemory>
+        ensures { IfOk result (λ frame. frame ≡ copied_as copy self.now) }
+    {
+        let said = Arc::try_clone(&self.said)?;
+        Ok(Sealed {
+            name: Name { copy, ..self.name },
+            said,
+        })
     }
 
     pub fn name(&self) -> Name

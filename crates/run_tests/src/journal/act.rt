@@ -1,6 +1,6 @@
 //! The acts on a journal.
 use crate::fault::Fault;
-use crate::reading::{cut, number, three, two};
+use crate::reading::{cut, number, two};
 use step_machine::Name;
 
 /// What is done. A node that isn't the journal's own, a double, does the same with frames of its own.
@@ -12,7 +12,15 @@ pub enum Deed {
     Idle,
     /// The node ends its round by itself.
     Skip,
-    Release(Name),
+    Network(Network, Name),
+}
+
+/// What the network does with a copy of a message.
+#[derive(Clone, Copy, PartialEq, Eq)]
+pub enum Network {
+    Release,
+    Drop,
+    Copy,
 }
 
 /// What is asked.
@@ -36,9 +44,17 @@ pub enum Act {
     Reserve(u32),
 }
 
+/// The name that three numbers are, of copy 0, or four.
 fn name(text: &str) -> Result<Name, Fault> {
-    let (from, to, round) = three(text)?;
-    Ok(Name { from, to, round })
+    let (from, rest) = cut(text);
+    let (to, rest) = cut(rest);
+    let (round, copy) = cut(rest);
+    Ok(Name {
+        from: number(from)?,
+        to: number(to)?,
+        round: number(round)?,
+        copy: if copy.is_empty() { 0 } else { number(copy)? },
+    })
 }
 
 fn deed_by(text: &str, deed: Deed) -> Result<Act, Fault> {
@@ -52,8 +68,8 @@ fn send(text: &str) -> Result<Act, Fault> {
     Ok(Act::Do { by, deed })
 }
 
-fn release(text: &str) -> Result<Act, Fault> {
-    let deed = Deed::Release(name(text)?);
+fn act_of_network(event: Network, text: &str) -> Result<Act, Fault> {
+    let deed = Deed::Network(event, name(text)?);
     Ok(Act::Do { by: 0, deed })
 }
 
@@ -84,7 +100,9 @@ pub fn act_of(line: &str) -> Result<Act, Fault> {
         "close" => deed_by(rest, Deed::Close),
         "idle" => deed_by(rest, Deed::Idle),
         "skip" => deed_by(rest, Deed::Skip),
-        "release" => release(rest),
+        "release" => act_of_network(Network::Release, rest),
+        "drop" => act_of_network(Network::Drop, rest),
+        "copy" => act_of_network(Network::Copy, rest),
         "handed" => handed(rest),
         "reserve" => Ok(Act::Reserve(number(rest)?)),
         _ => asked(verb, rest),

@@ -1,11 +1,14 @@
 //! Deeds on a journal. A call that is refused for memory must leave all as it was, and is made again.
 ghost use Rattle.std.specs.Prelude.{◌≡◌, ◌<◌, ◌≤◌, IfSome, OnErr};
+ghost use Rattle.run_tests.specs.declared.journal.act.Network.TheVariants as Network;
+ghost use Rattle.step_journal.specs.Names.{IsName};
 ghost use Rattle.step_machine.specs.Nodes.{algorithm_in};
 
 use crate::fault::Fault;
-use crate::journal::act::Deed;
+use crate::journal::act::{Deed, Network};
 use crate::journal::seen::{Answer, Seen, tell};
 use crate::journal::taking::receive;
+use crate::journal::telling::within;
 use round_lang::NoMemory;
 use slot_plans::Known;
 use step_journal::{CloseFault, IdleFault, Journal, SendFault};
@@ -15,7 +18,7 @@ use step_machine::{Name, Node, Prepared};
 fn prepare(node: &mut Node, to: u32) -> Option<Prepared>
     requires { to < node.old.setup.nodes }
     ensures ready { IfSome result (λ p. p ≡ record {
-      name = record { from = node.old.me; to = to; round = node.old.round };
+      name = record { from = node.old.me; to = to; round = node.old.round; copy = 0 };
       state = node.old.state;
       message = (algorithm_in node.old).send node.old.round node.old.state node.old.me to;
     }) }
@@ -161,27 +164,37 @@ fn idle(journal: &mut Journal<Known>, node: &mut Node) -> Answer<IdleFault>
     }
 }
 
-/// A release, which answers whether it moved a message.
-fn release(journal: &mut Journal<Known>, name: Name) -> Answer<bool>
+/// An event of the network.
+fn happen(journal: &mut Journal<Known>, deed: Network, name: Name) -> Result<bool, NoMemory>
+    requires name { IsName journal.old.log.setup name }
+    requires other { (deed ≡ Network.Copy) → 0 < name.copy }
     ensures program { journal.new.log.program ≡ journal.old.log.program }
     ensures setup { journal.new.log.setup ≡ journal.old.log.setup }
 {
-    let setup = journal.book().setup();
-    if name.from >= setup.nodes
-        || name.to >= setup.nodes
-        || name.round == 0
-        || name.round > setup.rounds
-    {
+    match deed {
+        Network::Release => journal.release(name),
+        Network::Drop => journal.drop_frame(name),
+        Network::Copy => journal.copy_frame(name),
+    }
+}
+
+/// An event of the network, which answers whether it moved, lost or made a copy; where it's refused
+/// for memory, it's made again.
+fn answer(journal: &mut Journal<Known>, deed: Network, name: Name) -> Answer<bool>
+    ensures program { journal.new.log.program ≡ journal.old.log.program }
+    ensures setup { journal.new.log.setup ≡ journal.old.log.setup }
+{
+    if !within(journal, name) || (deed == Network::Copy && name.copy == 0) {
         return Answer::Outside;
     }
     let before = Seen::of(journal, name.to);
-    if let Ok(moved) = journal.release(name) {
+    if let Ok(moved) = happen(journal, deed, name) {
         return Answer::Said(moved);
     }
     if Seen::of(journal, name.to) != before {
         return Answer::Changed;
     }
-    match journal.release(name) {
+    match happen(journal, deed, name) {
         Ok(moved) => Answer::Said(moved),
         Err(_) => Answer::NoMemory,
     }
@@ -222,6 +235,6 @@ pub fn perform(
         Deed::Close => tell(out, close(journal, node), "closed"),
         Deed::Idle => tell(out, idle(journal, node), "idle"),
         Deed::Skip => tell(out, skip(journal, node), "skipped"),
-        Deed::Release(name) => tell(out, release(journal, name), ""),
+        Deed::Network(event, name) => tell(out, answer(journal, event, name), ""),
     }
 }

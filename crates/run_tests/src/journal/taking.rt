@@ -6,9 +6,10 @@ ghost use Rattle.step_machine.specs.Nodes.{algorithm_in};
 use crate::fault::Fault;
 use crate::journal::doing::number_of;
 use crate::journal::seen::{Answer, Seen, tell};
+use crate::journal::telling::tell_name;
 use slot_plans::Known;
 use step_journal::{Journal, ReceiveFault};
-use step_machine::{Name, Node, Sealed};
+use step_machine::{Node, Sealed};
 
 /// The node takes frames, and what becomes of each is told.
 fn take_all(node: &mut Node, frames: Vec<Sealed>, out: &mut String) -> Result<(), Fault>
@@ -18,9 +19,9 @@ fn take_all(node: &mut Node, frames: Vec<Sealed>, out: &mut String) -> Result<()
 {
     out.push_str("took")?;
     for frame in frames {
-        let Name { from, to, round } = frame.name();
+        tell_name(out, frame.name())?;
         let taken = node.take(frame);
-        write!(out, " {from}>{to}:{round} {taken:?}")?;
+        write!(out, " {taken:?}")?;
     }
     Ok(())
 }

@@ -1,13 +1,13 @@
 //! What a journal tells.
 ghost use Rattle.std.specs.Prelude.{◌<◌, IsTrue};
-ghost use Rattle.step_journal.specs.Log.{IsName};
+ghost use Rattle.step_journal.specs.Names.{IsName};
 
 use crate::fault::Fault;
 use crate::journal::act::Question;
 use round_lang::ValueSet;
 use slot_plans::Known;
 use step_journal::Journal;
-use step_machine::Name;
+use step_machine::{MAX_COPY, Name};
 
 const OUTSIDE: &str = "not within its limits";
 
@@ -23,9 +23,18 @@ fn tell_set(out: &mut String, set: ValueSet) -> Result<(), Fault> {
     Ok(())
 }
 
-fn tell_name(out: &mut String, name: Name) -> Result<(), Fault> {
-    let Name { from, to, round } = name;
+/// The name; the number of a copy other than 0 stands behind a point.
+pub fn tell_name(out: &mut String, name: Name) -> Result<(), Fault> {
+    let Name {
+        from,
+        to,
+        round,
+        copy,
+    } = name;
     write!(out, " {from}>{to}:{round}")?;
+    if copy > 0 {
+        write!(out, ".{copy}")?;
+    }
     Ok(())
 }
 
@@ -39,7 +48,7 @@ fn tell_names(out: &mut String, names: &[Name]) -> Result<(), Fault> {
     Ok(())
 }
 
-/// The run, and how many events it has; of its releases how many moved a message.
+/// The run, and how many events it has; of the network's how many moved, lost or made a copy.
 fn tell_book(journal: &Journal<Known>, out: &mut String) -> Result<(), Fault> {
     let book = journal.book();
     journal.agrees();
@@ -140,11 +149,15 @@ fn tell_of_node(journal: &Journal<Known>, asked: Question, out: &mut String) -> 
 }
 
 /// Whether the run has a message of this name.
-fn within(journal: &Journal<Known>, name: Name) -> bool
+pub fn within(journal: &Journal<Known>, name: Name) -> bool
     ensures { IsTrue result → IsName journal.now.log.setup name }
 {
     let setup = journal.book().setup();
-    name.from < setup.nodes && name.to < setup.nodes && 0 < name.round && name.round <= setup.rounds
+    name.from < setup.nodes
+        && name.to < setup.nodes
+        && 0 < name.round
+        && name.round <= setup.rounds
+        && name.copy <= MAX_COPY
 }
 
 fn tell_of_name(journal: &Journal<Known>, asked: Question, out: &mut String) -> Result<(), Fault> {

@@ -1,11 +1,11 @@
-use Rattle.std.proofs.Common.{◌≡◌, ◌+◌, ◌<◌, [], ap, arith, length, sym, subst, take}
-use Rattle.step_machine.specs.declared.event.Event.TheVariants.{Step, Release}
+use Rattle.std.proofs.Common.{◌≡◌, ◌+◌, ◌<◌, [], ap, arith, length, refl, sym, subst, take}
+use Rattle.step_machine.specs.declared.event.Event.TheVariants.{Step, Release, Drop, Copy}
 use Rattle.step_journal.specs.Log.{IsFaithful, Recorded}
 use Rattle.adversary.specs.Driving.{AreSettled, IsNodeOf}
-use Rattle.adversary.proofs.Runs.{IsRun, known_step, one_event, run_begins, run_plan, run_steps, run_releases}
-use Rattle.adversary.proofs.Settled.{closed_are_due, settled_first, settled_release, settled_step}
+use Rattle.adversary.proofs.Runs.{IsRun, known_step, one_event, run_begins, run_plan, run_rests, run_steps}
+use Rattle.adversary.proofs.Settled.{closed_are_due, settled_first, settled_rest, settled_step}
 use Rattle.adversary.proofs.running.run.Goals as goal
-use Rattle.adversary.proofs.running.run.Goals.{in-Step+in_ok-step-in-Step, in-Release+in_ok-release-in-Release}
+use Rattle.adversary.proofs.running.run.Goals.{in-Step+in_ok-step-in-Step, in-Release+in_ok-release-in-Release, in-Drop+in_ok-lose-in-Drop, in-Copy+in_ok-copy-in-Copy}
 
 pub step-requires-clause-node : goal.step-requires-clause-node
 step-requires-clause-node g c =
@@ -32,9 +32,27 @@ loop-event-preserved g c =
           let after = take (c.loop-event.event-index + 1) c.args.events.now in
           let is = w.in_ok-release-in-Release.ensures in
           let old = subst (λ q. AreSettled (g.P.Plan.start q) c.loop-event.journal.log) (sym (ap (λ (j : Recorded _). j.plan) is)) c.loop-event.invariant.1 in
-          let settled = settled_release (g.P.Plan.start w.release.new.journal.plan) c.loop-event.journal.log w.release.new.journal.log w.in-Release.name (ap (λ (j : Recorded _). j.log) is) old in
-          let ran = run_releases g.P.Plan.start c.args.program.now c.args.setup.now c.args.plan c.loop-event.journal w.release.new.journal (take c.loop-event.event-index c.args.events.now) after w.in-Release.name c.loop-event.nodes.items
-          planned c.loop-event.invariant.0 is (one_event c.args.events.now c.loop-event.event-index (Step 0) (Release w.in-Release.name) c.loop-event-test.true w.in-Release.is) in
+          let settled = settled_rest (g.P.Plan.start w.release.new.journal.plan) c.loop-event.journal.log w.release.new.journal.log (Release w.in-Release.name) (λ i. refl) (ap (λ (j : Recorded _). j.log) is) old in
+          let ran = run_rests g.P.Plan.start c.args.program.now c.args.setup.now c.args.plan c.loop-event.journal w.release.new.journal (take c.loop-event.event-index c.args.events.now) after (Release w.in-Release.name) c.loop-event.nodes.items
+          planned (λ i. refl) c.loop-event.invariant.0 is (one_event c.args.events.now c.loop-event.event-index (Step 0) (Release w.in-Release.name) c.loop-event-test.true w.in-Release.is) in
+          subst (λ v. IsRun g.P.Plan.start c.args.program.now c.args.setup.now c.args.plan c.match-event.journal after v.items × AreSettled (g.P.Plan.start c.match-event.journal.plan) c.match-event.journal.log) (sym w.nodes-is)
+          (subst (λ j. IsRun g.P.Plan.start c.args.program.now c.args.setup.now c.args.plan j after c.loop-event.nodes.items × AreSettled (g.P.Plan.start j.plan) j.log) (sym w.journal-is) (ran, settled))
+      | in-Drop+in_ok-lose-in-Drop w ↦
+          let after = take (c.loop-event.event-index + 1) c.args.events.now in
+          let is = w.in_ok-lose-in-Drop.ensures in
+          let old = subst (λ q. AreSettled (g.P.Plan.start q) c.loop-event.journal.log) (sym (ap (λ (j : Recorded _). j.plan) is)) c.loop-event.invariant.1 in
+          let settled = settled_rest (g.P.Plan.start w.lose.new.journal.plan) c.loop-event.journal.log w.lose.new.journal.log (Drop w.in-Drop.name) (λ i. refl) (ap (λ (j : Recorded _). j.log) is) old in
+          let ran = run_rests g.P.Plan.start c.args.program.now c.args.setup.now c.args.plan c.loop-event.journal w.lose.new.journal (take c.loop-event.event-index c.args.events.now) after (Drop w.in-Drop.name) c.loop-event.nodes.items
+          planned (λ i. refl) c.loop-event.invariant.0 is (one_event c.args.events.now c.loop-event.event-index (Step 0) (Drop w.in-Drop.name) c.loop-event-test.true w.in-Drop.is) in
+          subst (λ v. IsRun g.P.Plan.start c.args.program.now c.args.setup.now c.args.plan c.match-event.journal after v.items × AreSettled (g.P.Plan.start c.match-event.journal.plan) c.match-event.journal.log) (sym w.nodes-is)
+          (subst (λ j. IsRun g.P.Plan.start c.args.program.now c.args.setup.now c.args.plan j after c.loop-event.nodes.items × AreSettled (g.P.Plan.start j.plan) j.log) (sym w.journal-is) (ran, settled))
+      | in-Copy+in_ok-copy-in-Copy w ↦
+          let after = take (c.loop-event.event-index + 1) c.args.events.now in
+          let is = w.in_ok-copy-in-Copy.ensures in
+          let old = subst (λ q. AreSettled (g.P.Plan.start q) c.loop-event.journal.log) (sym (ap (λ (j : Recorded _). j.plan) is)) c.loop-event.invariant.1 in
+          let settled = settled_rest (g.P.Plan.start w.copy.new.journal.plan) c.loop-event.journal.log w.copy.new.journal.log (Copy w.in-Copy.name) (λ i. refl) (ap (λ (j : Recorded _). j.log) is) old in
+          let ran = run_rests g.P.Plan.start c.args.program.now c.args.setup.now c.args.plan c.loop-event.journal w.copy.new.journal (take c.loop-event.event-index c.args.events.now) after (Copy w.in-Copy.name) c.loop-event.nodes.items
+          planned (λ i. refl) c.loop-event.invariant.0 is (one_event c.args.events.now c.loop-event.event-index (Step 0) (Copy w.in-Copy.name) c.loop-event-test.true w.in-Copy.is) in
           subst (λ v. IsRun g.P.Plan.start c.args.program.now c.args.setup.now c.args.plan c.match-event.journal after v.items × AreSettled (g.P.Plan.start c.match-event.journal.plan) c.match-event.journal.log) (sym w.nodes-is)
           (subst (λ j. IsRun g.P.Plan.start c.args.program.now c.args.setup.now c.args.plan j after c.loop-event.nodes.items × AreSettled (g.P.Plan.start j.plan) j.log) (sym w.journal-is) (ran, settled))
     ]

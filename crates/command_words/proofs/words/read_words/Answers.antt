@@ -1,10 +1,10 @@
-use Rattle.std.proofs.Common.{◌≡◌, ◌∙◌, ap, sym, subst, inl, inr, map, option_map, is_some, false, true, Bor}
+use Rattle.std.proofs.Common.{◌≡◌, ◌∙◌, ap, sym, subst, ◌⊎◌, map, option_map, is_some, false, true, Bor}
 use Rattle.std.proofs.lemmas.Result.{IfOk-weaker, IfErr-weaker}
 use Rattle.clap.specs.Words.{App, Kinds, Text, IsAmong, found_of, kind_of, is_simple, is_simple_and_free, fault_of, rows_of, subcommand_of}
-use Rattle.command_words.specs.Given.{Explains}
+use Rattle.clap.specs.declared.error.kind.ErrorKind.TheVariants.{OutOfMemory}
 use Rattle.clap.proofs.TakesLemmas.{some_rows}
 use Rattle.clap.specs.declared.parser.matches.ArgMatches.TheViews.{out-ArgMatches}
-use Rattle.command_words.proofs.GivenLemmas.{command_named, name_given, ok_always, lack_explained, pair_given, roundc_is_free, roundc_is_simple}
+use Rattle.command_words.proofs.GivenLemmas.{command_named, lack_explained, mistake_explained, name_given, ok_always, pair_given, roundc_is_free, roundc_is_simple}
 use Rattle.command_words.proofs.words.read_words.Goals as goal
 
 pub returns-in-Err-clause-err : goal.returns-in-Err-clause-err
@@ -12,13 +12,8 @@ returns-in-Err-clause-err c =
     let is = c.in_ok-command.ensures.0 in
     let words = map (λ (s : Bor Text). s.now) c.args.words.now in
     let kinds = c.in-Err.ensures.kinds (ap is_simple_and_free is ∙ roundc_is_free) in
-    elim c.refusal.ensures [
-      | inl memory ↦ subst (Explains words) (sym memory.0) tt
-      | inr other ↦ subst (Explains words) (sym other.0) (elim kinds [
-        | inl memory ↦ absurd (other.1 memory)
-        | inr among ↦ subst (λ (k : Kinds). IsAmong (kind_of c.in-Err.error) k) (ap (λ (a : App). fault_of a words) is) among
-      ])
-    ]
+    let known = subst (λ (k : Kinds). (kind_of c.in-Err.error ≡ OutOfMemory) ⊎ IsAmong (kind_of c.in-Err.error) k) (ap (λ (a : App). fault_of a words) is) kinds in
+    mistake_explained words c.in-Err.error c.refusal.result known c.refusal.ensures
 
 pub returns-clause-ok : goal.returns-clause-ok
 returns-clause-ok c =

@@ -4,7 +4,7 @@ use Rattle.std.proofs.lemmas.List.{take_all}
 use Rattle.std.specs.Prelude.{IfSome}
 use Rattle.round_lang.specs.Sets.{is_in}
 use Rattle.slot_plans.specs.Plan.{IsClearRound}
-use Rattle.step_machine.specs.declared.event.Event.TheVariants.{Step, Release}
+use Rattle.step_machine.specs.declared.event.Event.TheVariants.{Step, Release, Drop, Copy}
 use Rattle.step_journal.specs.Log.{history, world_of}
 use Rattle.step_journal.specs.World.{IsPlan, nodes_of}
 use Rattle.step_journal.proofs.Moments.{At}
@@ -18,7 +18,7 @@ use Rattle.omission_explainer.proofs.Moments.{moment_at, moment_short, next_mome
 use Rattle.omission_explainer.proofs.Passes.{IsBoundTo, IsOther, IsPacedTo, through, passed_none, passed_other, passed_step, count_below, other_step, and_then, and_not}
 use Rattle.omission_explainer.proofs.Verdicts.{bound_placed, lockstep_placed}
 use Rattle.omission_explainer.proofs.judging.judge.Goals as goal
-use Rattle.omission_explainer.proofs.judging.judge.Goals.{in-Step+then-contains, in-Step+else-contains, in-Release, then-lockstep, else-lockstep, then-bound, else-bound}
+use Rattle.omission_explainer.proofs.judging.judge.Goals.{in-Step+then-contains, in-Step+else-contains, in-Release, in-Drop, in-Copy, then-lockstep, else-lockstep, then-bound, else-bound}
 
 pub loop-event-init : goal.loop-event-init
 loop-event-init g c =
@@ -84,6 +84,16 @@ loop-event-preserved g c =
           let e = Release w'.in-Release.field-0 in
           let other : IsOther correct e = λ j h. refl in
           rw (next_moment xs i _ e low w'.in-Release.is, w'.counts-is, w'.lockstep-is, w'.bound-is)
+          (passed_other w t correct delta gst at counts c.loop-event.lockstep c.loop-event.bound e other a)
+      | in-Drop w' ↦
+          let e = Drop w'.in-Drop.field-0 in
+          let other : IsOther correct e = λ j h. refl in
+          rw (next_moment xs i _ e low w'.in-Drop.is, w'.counts-is, w'.lockstep-is, w'.bound-is)
+          (passed_other w t correct delta gst at counts c.loop-event.lockstep c.loop-event.bound e other a)
+      | in-Copy w' ↦
+          let e = Copy w'.in-Copy.field-0 in
+          let other : IsOther correct e = λ j h. refl in
+          rw (next_moment xs i _ e low w'.in-Copy.is, w'.counts-is, w'.lockstep-is, w'.bound-is)
           (passed_other w t correct delta gst at counts c.loop-event.lockstep c.loop-event.bound e other a)
     ]
 

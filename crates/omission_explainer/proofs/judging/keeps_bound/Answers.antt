@@ -2,11 +2,9 @@ use Rattle.std.proofs.Common.{◌≡◌, ◌+◌, ◌∙◌, ◌↔◌, true, ma
 use Rattle.std.proofs.lemmas.Bool.{both_ways}
 use Rattle.round_lang.specs.Sets.{is_in}
 use Rattle.step_journal.specs.Log.{history, world_of}
-use Rattle.step_journal.specs.World.{nodes_of}
 use Rattle.step_journal.proofs.Reading.{nodes_are}
 use Rattle.step_journal.proofs.Starts.{plan_is}
 use Rattle.omission_explainer.specs.Lateness.{HasReceive}
-use Rattle.omission_explainer.specs.Verdict.{AreNodes}
 use Rattle.omission_explainer.proofs.Keeping.{has_member, member_of, keeps_no_slot, keeps_other, keeps_at, slot_small}
 use Rattle.omission_explainer.proofs.judging.keeps_bound.Goals as goal
 
@@ -18,12 +16,11 @@ returns-then-not-contains g c =
     let n = nodes_are start v in
     let w = world_of start v in
     let plan = plan_is start (g.P.Plan.receives p) (g.P.Plan.nodes p) v (g.met.P.Plan.laws p) c.agrees.ensures.sized in
-    let within : AreNodes (nodes_of w) c.args.terms.correct.bits = λ i h. (let l = c.requires.within i h in omega arith) in
     let few = c.agrees.ensures.lawful.sized.few_nodes in
     let slot = c.in-Some.ensures in
     let small = slot.to in
     let out = λ (h : is_in c.args.terms.correct.bits c.in-Some.name.to ≡ true). both_ways c.contains.result c.if-not-contains.true (c.contains.ensures ∙ has_member _ _ (omega arith) h) in
-    (λ h. keeps_other w (history v) c.args.terms.correct.bits c.args.terms.delta c.args.terms.gst c.args.counts.now c.args.node plan within c.in-Some.name slot out, λ h. refl)
+    (λ h. keeps_other w (history v) c.args.terms.correct.bits c.args.terms.delta c.args.terms.gst c.args.counts.now c.args.node plan c.in-Some.name slot out, λ h. refl)
 
 pub overflow_add-count : goal.overflow_add-count
 overflow_add-count g c =
@@ -45,7 +42,6 @@ returns-else-not-contains g c =
     let n = nodes_are start v in
     let w = world_of start v in
     let plan = plan_is start (g.P.Plan.receives p) (g.P.Plan.nodes p) v (g.met.P.Plan.laws p) c.agrees.ensures.sized in
-    let within : AreNodes (nodes_of w) c.args.terms.correct.bits = λ i h. (let l = c.requires.within i h in omega arith) in
     let name = c.in-Some.name in
     let slot = c.in-Some.ensures in
     let here : is_in c.args.terms.correct.bits name.to ≡ true = member_of _ _ (sym c.contains.ensures ∙ c.if-not-contains.false) in
@@ -54,7 +50,7 @@ returns-else-not-contains g c =
     let both = subst (λ x. (c.has_receive.result ≡ true) ↔ HasReceive w (max (count + c.args.terms.delta) (get_or c.args.counts.now name.to 0)) x) c.open_until.ensures
     (subst (λ x. (c.has_receive.result ≡ true) ↔ HasReceive w x c.open_until.result) low c.has_receive.ensures) in
     let from : name.from ≡ c.args.node = slot.from in
-    keeps_at w (history v) c.args.terms.correct.bits c.args.terms.delta c.args.terms.gst c.args.counts.now c.args.node plan within name c.has_receive.result slot here (omega (arith, c.from.ensures, c.if-count-from.false)) both
+    keeps_at w (history v) c.args.terms.correct.bits c.args.terms.delta c.args.terms.gst c.args.counts.now c.args.node plan name c.has_receive.result slot here (omega (arith, c.from.ensures, c.if-count-from.false)) both
 
 pub returns-in-None : goal.returns-in-None
 returns-in-None g c =
@@ -64,5 +60,4 @@ returns-in-None g c =
     let n = nodes_are start v in
     let w = world_of start v in
     let plan = plan_is start (g.P.Plan.receives p) (g.P.Plan.nodes p) v (g.met.P.Plan.laws p) c.agrees.ensures.sized in
-    let within : AreNodes (nodes_of w) c.args.terms.correct.bits = λ i h. (let l = c.requires.within i h in omega arith) in
-    (λ h. keeps_no_slot w (history v) c.args.terms.correct.bits c.args.terms.delta c.args.terms.gst c.args.counts.now c.args.node plan within c.in-None.ensures, λ h. refl)
+    (λ h. keeps_no_slot w (history v) c.args.terms.correct.bits c.args.terms.delta c.args.terms.gst c.args.counts.now c.args.node plan c.in-None.ensures, λ h. refl)

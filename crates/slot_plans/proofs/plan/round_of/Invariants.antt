@@ -1,5 +1,5 @@
 use Rattle.std.proofs.Common.{◌+◌, ◌-◌, ◌<◌, ◌≤◌}
-use Rattle.slot_plans.specs.declared.limits.TheConstants.{MAX_ROUNDS}
+use Rattle.slot_plans.specs.Limits.{max_rounds}
 use Rattle.slot_plans.proofs.plan.round_of.Given as goal
 
 -- the step is in the rounds from `low` up to, but not, `high`
@@ -7,7 +7,7 @@ abbrev pub invariant-loop-low : goal.invariant-loop-low
 invariant-loop-low g l = record {
   first : 1 ≤ l.low;
   ordered : l.low < l.high;
-  last : l.high ≤ MAX_ROUNDS + 1;
+  last : l.high ≤ max_rounds + 1;
   started : g.P.Plan.start l.plan l.low ≤ l.step;
   unfinished : l.step < g.P.Plan.start l.plan l.high;
 }

@@ -38,7 +38,7 @@ invariant_of-self g c =
     let d = handed_len c.self.invariant in
     let e = lists_len s.mails.items in
     let same = c.in_err-note_receive.ensures.mail_kept in
-    kept c.self.invariant _ _ _ _ _ _ c.in_err-note_receive.ensures.trace_kept c.in_err-note_receive.ensures.steps_kept (λ q. refl)
+    kept c.self.invariant _ _ _ _ _ _ c.in_err-note_receive.ensures.trace_kept c.in_err-note_receive.ensures.steps_kept (λ a q. refl)
     (waits_same s.mails.items k c.index_mut.result.now c.note_receive.new.mail (omega (arith, c.requires)) c.index_mut.ensures.value (ap (λ (m : Mailed). m.waiting) same))
     (lists_same s.mails.items k c.index_mut.result.now c.note_receive.new.mail (omega (arith, c.requires)) c.index_mut.ensures.value (ap (λ (m : Mailed). m.handed) same))
     refl

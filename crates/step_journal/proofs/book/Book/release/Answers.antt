@@ -1,15 +1,14 @@
 use Rattle.step_journal.specs.Agreed.{KeepsClosed}
 use Rattle.step_journal.proofs.Later.{kept_happened}
-use Rattle.std.proofs.Common.{set, arith, sym, subst, ap, ◌∙◌, refl}
+use Rattle.std.proofs.Common.{arith, sym, subst, ap, ◌∙◌, refl}
 use Rattle.step_machine.specs.declared.event.Event.TheVariants.{Release}
-use Rattle.step_journal.specs.declared.mark.Mark.TheVariants.{Released}
-use Rattle.step_journal.specs.Agreement.{Puts}
+use Rattle.step_journal.specs.declared.mark.Mark.TheVariants.{Released, Unsent}
+use Rattle.step_journal.specs.Tables.{Puts}
 use Rattle.step_journal.specs.Mailing.{Mailed}
 use Rattle.step_journal.specs.Log.{Log, IsFlying, SameMarksBut, SameWaitingBut, mark_in, waiting_in}
 use Rattle.step_journal.proofs.Events.{kept, moved, let_be, to_fields}
 use Rattle.step_journal.proofs.Leaves.{released_mark, released_others, released_waiting, released_waiting_others}
 use Rattle.step_journal.proofs.Reading.{of_view, trace_view, log_view, flying_in, handed_len, lists_len, waiting_len, waits_len}
-use Rattle.step_journal.proofs.Tables.{puts_set}
 use Rattle.step_journal.proofs.Vectors.{lists_same, waits_push, waits_same}
 use Rattle.step_journal.proofs.book.Book.release.Goals as goal
 
@@ -27,15 +26,14 @@ invariant_of-self g c =
     let d = handed_len (of_view g.P.Plan.start g.P.Plan.nodes c.self.view_is c.self.invariant) in
     let e = lists_len s.mails.items in
     let same = c.in_err-note_release.ensures.mail_kept in
-    kept c.self.invariant _ _ _ _ _ _ c.in_err-note_release.ensures.trace_kept refl (λ q. refl)
+    kept c.self.invariant _ _ _ _ _ _ c.in_err-note_release.ensures.trace_kept refl (λ a q. refl)
     (waits_same s.mails.items c.args.name.to c.index_mut.result.now c.note_release.new.mail (omega (arith, c.requires.to)) c.index_mut.ensures.value (ap (λ (m : Mailed). m.waiting) same))
     (lists_same s.mails.items c.args.name.to c.index_mut.result.now c.note_release.new.mail (omega (arith, c.requires.to)) c.index_mut.ensures.value (ap (λ (m : Mailed). m.handed) same))
     c.in_err-note_release.ensures.answers_kept
 
-pub index_mut-requires-then-is_flying : goal.index_mut-requires-then-is_flying
-index_mut-requires-then-is_flying g c =
-    let low = flying_in (of_view g.P.Plan.start g.P.Plan.nodes c.self.view_is c.self.invariant) c.args.name c.place-place.result c.requires (c.is_flying.ensures.0 cc) c.place-place.ensures in
-    omega arith
+pub put-requires : goal.put-requires
+put-requires g c =
+    flying_in (of_view g.P.Plan.start g.P.Plan.nodes c.self.view_is c.self.invariant) c.args.name c.place-place.result c.requires (c.is_flying.ensures.0 cc) c.place-place.ensures
 
 pub invariant_of-self-then-is_flying : goal.invariant_of-self-then-is_flying
 invariant_of-self-then-is_flying g c =
@@ -51,8 +49,7 @@ invariant_of-self-then-is_flying g c =
     to_fields g.P.Plan.start g.P.Plan.nodes c.self.view_is
     (moved h n _ _ c.place-place.result _ _ _ c.requires fly c.place-place.ensures
     (trace_view (Release n) _ c.self.view_is c.in_ok-note_release.ensures.trace)
-    (subst (λ x. Puts s.marks.items (set s.marks.items c.place-place.result (Released c.count_of-count.result)) c.place-place.result (Released x)) c.count_of-count.ensures
-    (puts_set s.marks.items s.marks.items c.place-place.result (Released c.count_of-count.result) (flying_in h n c.place-place.result c.requires fly c.place-place.ensures) (λ q. refl)))
+    (subst (λ x. Puts Unsent s.marks c.put.new.self n.copy c.place-place.result (Released x)) c.count_of-count.ensures c.put.ensures)
     (waits_push s.mails.items n.to c.index_mut.result.now c.note_release.new.mail n (omega (arith, c.requires.to)) c.index_mut.ensures.value c.in_ok-note_release.ensures.waiting)
     (lists_same s.mails.items n.to c.index_mut.result.now c.note_release.new.mail (omega (arith, c.requires.to)) c.index_mut.ensures.value c.in_ok-note_release.ensures.handed)
     c.in_ok-note_release.ensures.answers)
@@ -67,7 +64,7 @@ pub returns-then-is_flying-clause-marks : goal.returns-then-is_flying-clause-mar
 returns-then-is_flying-clause-marks g c =
     let v = c.args.self.now in
     let n = c.args.name in
-    subst (λ (z : Log). SameMarksBut (g.P.Plan.start v.plan) n v.log z) (sym (log_view (Release n) _ c.self.view_is c.in_ok-note_release.ensures.trace)) (released_others (of_view g.P.Plan.start g.P.Plan.nodes c.self.view_is c.self.invariant) n c.requires)
+    subst (λ (z : Log). SameMarksBut (g.P.Plan.start v.plan) n v.log z) (sym (log_view (Release n) _ c.self.view_is c.in_ok-note_release.ensures.trace)) (released_others (of_view g.P.Plan.start g.P.Plan.nodes c.self.view_is c.self.invariant) n)
 
 pub returns-then-is_flying-clause-arrived : goal.returns-then-is_flying-clause-arrived
 returns-then-is_flying-clause-arrived g c =
@@ -85,25 +82,25 @@ pub returns-clause-released : goal.returns-clause-released
 returns-clause-released g c =
     let v = c.args.self.now in
     let n = c.args.name in
-    ap (λ (z : Log). mark_in (g.P.Plan.start v.plan) z n) (log_view (Release n) _ c.self.view_is c.in_ok-note_idle_release.ensures.trace) ∙ released_mark (of_view g.P.Plan.start g.P.Plan.nodes c.self.view_is c.self.invariant) n c.requires
+    ap (λ (z : Log). mark_in (g.P.Plan.start v.plan) z n) (log_view (Release n) _ c.self.view_is c.in_ok-note_answer.ensures.trace) ∙ released_mark (of_view g.P.Plan.start g.P.Plan.nodes c.self.view_is c.self.invariant) n c.requires
 
 pub returns-clause-marks : goal.returns-clause-marks
 returns-clause-marks g c =
     let v = c.args.self.now in
     let n = c.args.name in
-    subst (λ (z : Log). SameMarksBut (g.P.Plan.start v.plan) n v.log z) (sym (log_view (Release n) _ c.self.view_is c.in_ok-note_idle_release.ensures.trace)) (released_others (of_view g.P.Plan.start g.P.Plan.nodes c.self.view_is c.self.invariant) n c.requires)
+    subst (λ (z : Log). SameMarksBut (g.P.Plan.start v.plan) n v.log z) (sym (log_view (Release n) _ c.self.view_is c.in_ok-note_answer.ensures.trace)) (released_others (of_view g.P.Plan.start g.P.Plan.nodes c.self.view_is c.self.invariant) n)
 
 pub returns-clause-arrived : goal.returns-clause-arrived
 returns-clause-arrived g c =
     let v = c.args.self.now in
     let n = c.args.name in
-    ap (λ (z : Log). waiting_in (g.P.Plan.start v.plan) z n.to) (log_view (Release n) _ c.self.view_is c.in_ok-note_idle_release.ensures.trace) ∙ released_waiting (of_view g.P.Plan.start g.P.Plan.nodes c.self.view_is c.self.invariant) n
+    ap (λ (z : Log). waiting_in (g.P.Plan.start v.plan) z n.to) (log_view (Release n) _ c.self.view_is c.in_ok-note_answer.ensures.trace) ∙ released_waiting (of_view g.P.Plan.start g.P.Plan.nodes c.self.view_is c.self.invariant) n
 
 pub returns-clause-waiting : goal.returns-clause-waiting
 returns-clause-waiting g c =
     let v = c.args.self.now in
     let n = c.args.name in
-    subst (λ (z : Log). SameWaitingBut (g.P.Plan.start v.plan) n.to v.log z) (sym (log_view (Release n) _ c.self.view_is c.in_ok-note_idle_release.ensures.trace)) (released_waiting_others (of_view g.P.Plan.start g.P.Plan.nodes c.self.view_is c.self.invariant) n)
+    subst (λ (z : Log). SameWaitingBut (g.P.Plan.start v.plan) n.to v.log z) (sym (log_view (Release n) _ c.self.view_is c.in_ok-note_answer.ensures.trace)) (released_waiting_others (of_view g.P.Plan.start g.P.Plan.nodes c.self.view_is c.self.invariant) n)
 
 pub invariant_of-self-2 : goal.invariant_of-self-2
 invariant_of-self-2 g c =
@@ -111,7 +108,7 @@ invariant_of-self-2 g c =
     let n = c.args.name in
     to_fields g.P.Plan.start g.P.Plan.nodes c.self.view_is
     (let_be (of_view g.P.Plan.start g.P.Plan.nodes c.self.view_is c.self.invariant) n _ _ c.requires (λ fly. (let on = c.is_flying.ensures.1 fly in cc))
-    (trace_view (Release n) _ c.self.view_is c.in_ok-note_idle_release.ensures.trace) c.in_ok-note_idle_release.ensures.answers)
+    (trace_view (Release n) _ c.self.view_is c.in_ok-note_answer.ensures.trace) c.in_ok-note_answer.ensures.answers)
 
 pub returns-then-is_flying-clause-kept : goal.returns-then-is_flying-clause-kept
 returns-then-is_flying-clause-kept g c =
@@ -124,5 +121,5 @@ pub returns-clause-kept : goal.returns-clause-kept
 returns-clause-kept g c =
     let v = c.args.self.now in
     let n = c.args.name in
-    subst (λ (z : Log). KeepsClosed (g.P.Plan.start v.plan) v.log z) (sym (log_view (Release n) _ c.self.view_is c.in_ok-note_idle_release.ensures.trace))
+    subst (λ (z : Log). KeepsClosed (g.P.Plan.start v.plan) v.log z) (sym (log_view (Release n) _ c.self.view_is c.in_ok-note_answer.ensures.trace))
     (kept_happened (of_view g.P.Plan.start g.P.Plan.nodes c.self.view_is c.self.invariant) (Release n))

@@ -6,11 +6,11 @@ use Rattle.step_machine.specs.Nodes.{AreHeld, ahead}
 use Rattle.step_machine.proofs.HeldFrames.{no_rows}
 use Rattle.step_machine.proofs.node.Node.new.Goals as goal
 
-pub invariant_of-result : goal.invariant_of-result
-invariant_of-result c =
-    let same : c.in_ok-copy-2.field-0 ≡ c.args.setup.now = c.in_ok-copy-2.ensures in
-    let nodes : c.args.setup.now.nodes ≡ c.in_ok-copy-2.field-0.nodes = ap (λ (s : Setup). s.nodes) (sym same) in
-    let none : c.in_ok-held.held.items ≡ replicate (suc ahead) (replicate c.in_ok-copy-2.field-0.nodes None) = c.in_ok-held.ensures ∙ ap (λ n. replicate (suc ahead) (replicate n None)) nodes in
+pub invariant_of-result-2 : goal.invariant_of-result-2
+invariant_of-result-2 c =
+    let same : c.in_ok-copy.field-0 ≡ c.args.setup.now = c.in_ok-copy.ensures in
+    let nodes : c.args.setup.now.nodes ≡ c.in_ok-copy.field-0.nodes = ap (λ (s : Setup). s.nodes) (sym same) in
+    let none : c.in_ok-held.held.items ≡ replicate (suc ahead) (replicate c.in_ok-copy.field-0.nodes None) = c.in_ok-held.ensures ∙ ap (λ n. replicate (suc ahead) (replicate n None)) nodes in
     record {
       setup = subst IsSized (sym same) c.requires.sized;
       me = omega (arith, c.requires.me, nodes);

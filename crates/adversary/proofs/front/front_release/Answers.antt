@@ -1,6 +1,0 @@
-use Rattle.adversary.proofs.FirstLines.{front_release}
-use Rattle.adversary.proofs.front.front_release.Goals as goal
-
-pub returns : goal.returns
-returns c =
-    front_release c.args.text.now _ _ _ _ _ _ c.in_ok-from.ensures c.in_ok-to.ensures c.in_ok-round.ensures

@@ -1,5 +1,0 @@
-use Rattle.adversary.proofs.FirstLines.{front_step}
-use Rattle.adversary.proofs.front.front_step.Goals as goal
-
-pub returns : goal.returns
-returns c = front_step c.args.text.now _ _ c.in_ok-node.ensures

@@ -1,5 +1,0 @@
-use Rattle.adversary.proofs.Numbers.{CountsDigits}
-use Rattle.adversary.proofs.number.front_digits.Given as goal
-
-abbrev pub invariant-loop-place : goal.invariant-loop-place
-invariant-loop-place l = CountsDigits l.text l.place l.value

@@ -1,0 +1,227 @@
+-- From what each layer refuses to the causes of a command's refusal.
+use Rattle.std.proofs.Common.{◌≡◌, ◌≢◌, ◌⊎◌, inl, inr, ℕ, ◌+◌, ◌<◌, ◌≤◌, All, List, [], Option, Some, None, Result, Ok, Err, length, take, refl, sym, ap, ◌∙◌, subst, arith}
+use Rattle.std.specs.Prelude.{◌↔◌, IfErr, IfSome, IsErrAnd, true}
+use Rattle.std.specs.Str.{IsUtf8}
+use Rattle.adversary.specs.Driving.{IsUnknownAt, RunCause}
+use Rattle.adversary.specs.declared.fault.RunFault.{RunFault}
+use Rattle.adversary.specs.declared.fault.RunFault.TheVariants as run
+use Rattle.command_runs.specs.Refused.{IsBadSchedule, IsNoProgram, IsNoSchedule, IsNoSource, IsNotRun, IsPlan, IsRunnable, of_check, of_run, of_schedule, of_source}
+use Rattle.command_runs.specs.Served.{IsCheckedSource, IsSchedule}
+use Rattle.command_runs.specs.Stages.{IsNoProgramIn, IsNoProgramOf, IsNoScheduleIn, IsNoScheduleOf, IsNotRunAs, IsProgramIn, IsScheduleIn}
+use Rattle.command_runs.specs.Texts.{BeginsUtf8, IsLongText, IsNoText, IsText, IsTextOf}
+use Rattle.command_runs.specs.declared.refusal.Refusal.{Refusal}
+use Rattle.command_runs.specs.declared.refusal.Refusal.TheVariants as refusal
+use Rattle.command_runs.specs.declared.texts.Text.{Text}
+use Rattle.command_runs.specs.declared.texts.Text.TheVariants as text
+use Rattle.round_check.proofs.Facts.{typed-none}
+use Rattle.round_check.specs.Causes.{fault_of, is_typed}
+use Rattle.round_check.specs.declared.fault.CheckFault.{CheckFault}
+use Rattle.round_check.specs.declared.fault.CheckFault.TheVariants as check
+use Rattle.round_lang.specs.Limits.{max_text}
+use Rattle.round_lang.specs.Source.{IsSource}
+use Rattle.round_lang.specs.Syntax.{ProgramTree}
+use Rattle.round_lang.specs.declared.fault.LangFault.{LangFault}
+use Rattle.round_lang.specs.declared.fault.LangFault.TheVariants as lang
+use Rattle.round_meaning.specs.Setups.{IsLawful}
+use Rattle.round_meaning.specs.declared.setup.Setup.{Setup}
+use Rattle.schedule_text.specs.Outcome.{IsRead}
+use Rattle.schedule_text.specs.Readings.{IsReading}
+use Rattle.schedule_text.specs.Texts.{Says, max_text as max_schedule}
+use Rattle.schedule_text.specs.declared.fault.ScheduleFault.{ScheduleFault}
+use Rattle.schedule_text.specs.declared.fault.ScheduleFault.TheVariants as schedule
+use Rattle.schedule_text.specs.declared.reading.Schedule.{Schedule}
+use Rattle.slot_plans.specs.Plan.{IsDelta, IsNodeCount}
+use Rattle.slot_plans.specs.declared.kind.PlanKind.{PlanKind}
+use Rattle.slot_plans.specs.declared.kind.PlanKind.TheVariants.{Growing, Known}
+use Rattle.step_machine.specs.declared.event.Event.{Event}
+
+-- what follows from the error that a `?` hands on
+pub err_then : {T E : Type 0} (r : Result T E) (Q P : E → Type 0) → IsErrAnd r Q → ((y : E) → Q y → P y) → IfErr r P
+err_then (Ok x) Q P h f = tt
+err_then (Err y) Q P h f = f y h
+
+-- a file that fits and isn't UTF-8 is no text, and neither is a longer one that doesn't begin as one
+no_whole_text : (limit : ℕ) (held bytes : List ℕ) → length held ≤ limit → bytes ≡ held → ¬ (IsUtf8 bytes) → IsNoText limit held
+no_whole_text limit held bytes short same none =
+    (λ t. none (subst IsUtf8 (sym same) t.utf8), λ t. let long : limit < length held = t.long in absurd (omega arith))
+
+no_long_text : (limit : ℕ) (held bytes : List ℕ) → limit < length held → bytes ≡ take (limit + 1) held → ¬ (BeginsUtf8 bytes) → IsNoText limit held
+no_long_text limit held bytes long same none =
+    (λ t. let short : length held ≤ limit = t.short in absurd (omega arith), λ t. none (subst BeginsUtf8 (sym same) t.utf8))
+
+whole_text : (limit : ℕ) (held bytes : List ℕ) → length held ≤ limit → bytes ≡ held → IsUtf8 bytes → IsText limit held
+whole_text limit held bytes short same utf8 = record { short = short; utf8 = subst IsUtf8 same utf8 }
+
+long_text : (limit : ℕ) (held bytes : List ℕ) → limit < length held → bytes ≡ take (limit + 1) held → BeginsUtf8 bytes → IsLongText limit held
+long_text limit held bytes long same utf8 = record { long = long; utf8 = subst BeginsUtf8 same utf8 }
+
+-- the program of what was read is the file's
+pub program_read : (t : Text) (held : List ℕ) (p : ProgramTree) → IsTextOf max_text t held → IsProgramIn t p → IsCheckedSource held p
+program_read (text.Whole bytes) held p is has = record {
+  fits = whole_text max_text held bytes.items is.0 is.1 has.0;
+  source = subst (λ h. IsSource h p) is.1 has.1;
+  typed = has.2;
+}
+program_read (text.Longer bytes) held p is has = absurd has
+
+pub file_program : (file : Option (List ℕ)) (t : Text) (p : ProgramTree) → IfSome file (IsTextOf max_text t) → IsProgramIn t p → IfSome file (λ held. IsCheckedSource held p)
+file_program None t p is has = tt
+file_program (Some held) t p is has = program_read t held p is has
+
+source_read : (bytes held : List ℕ) (f : LangFault) → length held ≤ max_text → bytes ≡ held → IsUtf8 bytes → IsNoProgramOf bytes (refusal.Source f) → IsNoSource held f
+source_read bytes held (lang.BadToken span) short same utf8 none =
+    (whole_text max_text held bytes short same utf8, λ p is. none p (subst (λ h. IsSource h p) (sym same) is))
+source_read bytes held (lang.Unexpected span) short same utf8 none =
+    (whole_text max_text held bytes short same utf8, λ p is. none p (subst (λ h. IsSource h p) (sym same) is))
+source_read bytes held lang.TooDeep short same utf8 none =
+    (whole_text max_text held bytes short same utf8, λ p is. none p (subst (λ h. IsSource h p) (sym same) is))
+source_read bytes held lang.TooLong short same utf8 none =
+    let long : max_text < length held = subst (λ h. max_text < length h) same none in absurd (omega arith)
+source_read bytes held (lang.LimitPassed span) short same utf8 none =
+    (whole_text max_text held bytes short same utf8, λ p is. none p (subst (λ h. IsSource h p) (sym same) is))
+source_read bytes held lang.NoMemory short same utf8 none = absurd none
+
+-- why a file has no program, from why there is none in what was read of it
+pub no_file_program : (file : Option (List ℕ)) (t : Text) (r : Refusal) → IfSome file (IsTextOf max_text t) → IsNoProgramIn t r → IsNoProgram file r
+no_file_program file (text.Whole bytes) (refusal.Words fault) is none = absurd none.1
+no_file_program file (text.Whole bytes) (refusal.Schedule fault) is none = absurd none.1
+no_file_program file (text.Whole bytes) (refusal.Library fault) is none = absurd none.1
+no_file_program file (text.Whole bytes) refusal.NoSuchProgram is none = absurd none.1
+no_file_program file (text.Whole bytes) (refusal.Run fault) is none = absurd none.1
+no_file_program file (text.Whole bytes) refusal.Write is none = absurd none.1
+no_file_program file (text.Whole bytes) refusal.NoMemory is none = tt
+no_file_program None (text.Whole bytes) refusal.File is none = tt
+no_file_program (Some held) (text.Whole bytes) refusal.File is none = no_whole_text max_text held bytes.items is.0 is.1 none
+no_file_program None (text.Whole bytes) (refusal.Source fault) is none = tt
+no_file_program (Some held) (text.Whole bytes) (refusal.Source fault) is none = source_read bytes.items held fault is.0 is.1 none.0 none.1
+no_file_program None (text.Whole bytes) (refusal.Check fault) is none = tt
+no_file_program (Some held) (text.Whole bytes) (refusal.Check fault) is none = (
+  whole_text max_text held bytes.items is.0 is.1 none.0,
+  (none.1.0, subst (λ h. IsSource h none.1.0) is.1 none.1.1, none.1.2),
+)
+no_file_program None (text.Longer bytes) refusal.File is none = tt
+no_file_program (Some held) (text.Longer bytes) refusal.File is none = no_long_text max_text held bytes.items is.0 is.1 none
+no_file_program None (text.Longer bytes) (refusal.Source lang.TooLong) is none = tt
+no_file_program (Some held) (text.Longer bytes) (refusal.Source lang.TooLong) is none = long_text max_text held bytes.items is.0 is.1 none
+no_file_program file (text.Longer bytes) r is none = absurd none
+
+-- what `parse` refuses
+pub no_source : (held : List ℕ) (f : LangFault) → (f ≢ lang.NoMemory → f ≢ lang.TooLong → (p : ProgramTree) → IsSource held p → ⊥) → (f ≡ lang.TooLong → max_text < length held)
+    → IsNoProgramOf held (of_source f)
+no_source held (lang.BadToken span) none long = none (λ e. cc e) (λ e. cc e)
+no_source held (lang.Unexpected span) none long = none (λ e. cc e) (λ e. cc e)
+no_source held lang.TooDeep none long = none (λ e. cc e) (λ e. cc e)
+no_source held lang.TooLong none long = long refl
+no_source held (lang.LimitPassed span) none long = none (λ e. cc e) (λ e. cc e)
+no_source held lang.NoMemory none long = tt
+
+-- what `check` refuses
+check_fault : (A : Type 0) (p : ProgramTree) (f : CheckFault) (o : Option CheckFault) → fault_of p ≡ o → IfSome o (λ g. ◌≡◌ {A = Result A CheckFault} (Err f) (Err g))
+    → (is_typed p ≡ true → f ≡ check.NoMemory) → (fault_of p ≡ Some f) ⊎ (f ≡ check.NoMemory)
+check_fault A p f None e same typed = inr (typed (typed-none p e))
+check_fault A p f (Some g) e same typed = let is : f ≡ g = cc same in inl (e ∙ ap Some (sym is))
+
+untyped : (held : List ℕ) (p : ProgramTree) (f : CheckFault) → IsSource held p → (fault_of p ≡ Some f) ⊎ (f ≡ check.NoMemory) → IsNoProgramOf held (of_check f)
+untyped held p f is (inr memory) = subst (λ g. IsNoProgramOf held (of_check g)) (sym memory) tt
+untyped held p check.UnknownName is (inl fault) = (p, is, fault)
+untyped held p check.DoubleName is (inl fault) = (p, is, fault)
+untyped held p check.WrongType is (inl fault) = (p, is, fault)
+untyped held p check.FieldCount is (inl fault) = (p, is, fault)
+untyped held p check.NotAllowedHere is (inl fault) = (p, is, fault)
+untyped held p check.NoInput is (inl fault) = (p, is, fault)
+untyped held p check.NoDecision is (inl fault) = (p, is, fault)
+untyped held p check.MissingRound is (inl fault) = (p, is, fault)
+untyped held p check.NoMemory is (inl fault) = tt
+
+pub no_check : (A : Type 0) (held : List ℕ) (p : ProgramTree) (f : CheckFault) → IsSource held p → IfSome (fault_of p) (λ g. ◌≡◌ {A = Result A CheckFault} (Err f) (Err g))
+    → (is_typed p ≡ true → f ≡ check.NoMemory) → IsNoProgramOf held (of_check f)
+no_check A held p f is same typed = untyped held p f is (check_fault A p f (fault_of p) refl same typed)
+
+-- the schedule of what was read is the file's
+pub file_schedule : (file : Option (List ℕ)) (t : Text) (s : Schedule) → IfSome file (IsTextOf max_schedule t) → IsScheduleIn t s
+    → IfSome file (λ held. IsSchedule held s.setup s.plan s.events.items)
+file_schedule None t s is has = tt
+file_schedule (Some held) (text.Whole bytes) s is has = record {
+  fits = whole_text max_schedule held bytes.items is.0 is.1 has.0;
+  says = subst (λ h. Says h s.setup s.plan s.events.items) is.1 has.1;
+}
+file_schedule (Some held) (text.Longer bytes) s is has = absurd has
+
+schedule_read : (bytes held : List ℕ) (f : ScheduleFault) → length held ≤ max_schedule → bytes ≡ held → IsUtf8 bytes → IsNoScheduleOf bytes (refusal.Schedule f) → IsBadSchedule held f
+schedule_read bytes held (schedule.BadLine n) short same utf8 none =
+    (whole_text max_schedule held bytes short same utf8, subst (λ h. IsReading h (Err (schedule.BadLine n))) same none)
+schedule_read bytes held (schedule.NumberTooLarge n) short same utf8 none =
+    (whole_text max_schedule held bytes short same utf8, subst (λ h. IsReading h (Err (schedule.NumberTooLarge n))) same none)
+schedule_read bytes held schedule.TooLong short same utf8 none =
+    let long : max_schedule < length held = subst (λ h. max_schedule < length h) same none in absurd (omega arith)
+schedule_read bytes held schedule.NoMemory short same utf8 none = absurd none
+
+-- why a file has no schedule, from why there is none in what was read of it
+pub no_file_schedule : (file : Option (List ℕ)) (t : Text) (r : Refusal) → IfSome file (IsTextOf max_schedule t) → IsNoScheduleIn t r → IsNoSchedule file r
+no_file_schedule file (text.Whole bytes) (refusal.Words fault) is none = absurd none.1
+no_file_schedule file (text.Whole bytes) (refusal.Source fault) is none = absurd none.1
+no_file_schedule file (text.Whole bytes) (refusal.Check fault) is none = absurd none.1
+no_file_schedule file (text.Whole bytes) (refusal.Library fault) is none = absurd none.1
+no_file_schedule file (text.Whole bytes) refusal.NoSuchProgram is none = absurd none.1
+no_file_schedule file (text.Whole bytes) (refusal.Run fault) is none = absurd none.1
+no_file_schedule file (text.Whole bytes) refusal.Write is none = absurd none.1
+no_file_schedule file (text.Whole bytes) refusal.NoMemory is none = tt
+no_file_schedule None (text.Whole bytes) refusal.File is none = tt
+no_file_schedule (Some held) (text.Whole bytes) refusal.File is none = no_whole_text max_schedule held bytes.items is.0 is.1 none
+no_file_schedule None (text.Whole bytes) (refusal.Schedule fault) is none = tt
+no_file_schedule (Some held) (text.Whole bytes) (refusal.Schedule fault) is none = schedule_read bytes.items held fault is.0 is.1 none.0 none.1
+no_file_schedule None (text.Longer bytes) refusal.File is none = tt
+no_file_schedule (Some held) (text.Longer bytes) refusal.File is none = no_long_text max_schedule held bytes.items is.0 is.1 none
+no_file_schedule None (text.Longer bytes) (refusal.Schedule schedule.TooLong) is none = tt
+no_file_schedule (Some held) (text.Longer bytes) (refusal.Schedule schedule.TooLong) is none = long_text max_schedule held bytes.items is.0 is.1 none
+no_file_schedule file (text.Longer bytes) r is none = absurd none
+
+-- what `read_schedule` refuses
+pub no_schedule : (held : List ℕ) (f : ScheduleFault) → IsRead held (Err f) → (f ≡ schedule.TooLong → max_schedule < length held) → IsNoScheduleOf held (of_schedule f)
+no_schedule held (schedule.BadLine n) said long = said
+no_schedule held (schedule.NumberTooLarge n) said long = said
+no_schedule held schedule.TooLong said long = long refl
+no_schedule held schedule.NoMemory said long = tt
+
+-- what a run refuses, where P says that its numbers are within their limits
+pub no_run : (A : Type 0) (P : Type 0) (p : ProgramTree) (s : Setup) (events : List Event) (correct : List ℕ) (f : RunFault)
+    → ((IsLawful p.values s × All (λ n. n < s.nodes) correct) → P) → (P → IsLawful p.values s × All (λ n. n < s.nodes) correct)
+    → ((◌≡◌ {A = Result A RunFault} (Err f) (Err run.BadSetup)) ↔ (P → ⊥)) → RunCause s events f → IsNotRunAs p s events correct (of_run f)
+no_run A P p s events correct run.BadSetup to from bad cause = λ both. bad.0 refl (to both)
+no_run A P p s events correct (run.UnknownNode k) to from bad cause =
+    (λ none. let same : ◌≡◌ {A = Result A RunFault} (Err (run.UnknownNode k)) (Err run.BadSetup) = bad.1 (λ q. none (from q)) in cc same, cause)
+no_run A P p s events correct (run.UnknownMessage k) to from bad cause =
+    (λ none. let same : ◌≡◌ {A = Result A RunFault} (Err (run.UnknownMessage k)) (Err run.BadSetup) = bad.1 (λ q. none (from q)) in cc same, cause)
+no_run A P p s events correct run.NoMemory to from bad cause = tt
+
+-- under a plan within its limits
+pub not_run : (p : ProgramTree) (s : Setup) (k : PlanKind) (events : List Event) (correct : List ℕ) (r : Refusal) → IsPlan k → IsNotRunAs p s events correct r → IsNotRun p s k events correct r
+not_run p s k events correct (refusal.Run run.BadSetup) plan none = λ is. none (is.setup, is.listed)
+not_run p s k events correct (refusal.Run (run.UnknownNode n)) plan none =
+    (λ bad. none.0 (λ both. bad (record { setup = both.0; plan = plan; listed = both.1 })), none.1)
+not_run p s k events correct (refusal.Run (run.UnknownMessage n)) plan none =
+    (λ bad. none.0 (λ both. bad (record { setup = both.0; plan = plan; listed = both.1 })), none.1)
+not_run p s k events correct (refusal.Run run.NoMemory) plan none = absurd none.1
+not_run p s k events correct refusal.NoMemory plan none = tt
+not_run p s k events correct (refusal.Words fault) plan none = absurd none
+not_run p s k events correct refusal.File plan none = absurd none
+not_run p s k events correct (refusal.Source fault) plan none = absurd none
+not_run p s k events correct (refusal.Check fault) plan none = absurd none
+not_run p s k events correct (refusal.Schedule fault) plan none = absurd none
+not_run p s k events correct (refusal.Library fault) plan none = absurd none
+not_run p s k events correct refusal.NoSuchProgram plan none = absurd none
+not_run p s k events correct refusal.Write plan none = absurd none
+
+-- where there is no plan, the setup is bad
+pub no_known_plan : (p : ProgramTree) (s : Setup) (delta : ℕ) (correct : List ℕ) → ¬ (IsNodeCount s.nodes × IsDelta delta) → ¬ (IsRunnable p s (Known delta) correct)
+no_known_plan p s delta correct none is = none ((is.setup.sized.some_node, is.setup.sized.few_nodes), is.plan)
+
+pub no_growing_plan : (p : ProgramTree) (s : Setup) (correct : List ℕ) → ¬ (IsNodeCount s.nodes) → ¬ (IsRunnable p s Growing correct)
+no_growing_plan p s correct none is = none (is.setup.sized.some_node, is.setup.sized.few_nodes)
+
+-- a run for its report names no correct nodes
+pub report_to : (values : ℕ) (s : Setup) → (IsLawful values s × All (λ n. n < s.nodes) []) → IsLawful values s
+report_to values s h = h.0
+
+pub report_from : (values : ℕ) (s : Setup) → IsLawful values s → IsLawful values s × All (λ n. n < s.nodes) []
+report_from values s h = (h, λ k d lt. absurd (omega (arith, lt)))

@@ -1,0 +1,101 @@
+-- From what the parts of a command answer to what the command does.
+use Rattle.std.proofs.Common.{Bool, Bor, ◌++◌, ◌≡◌, ◌⊎◌, inl, inr, ℕ, List, [], Option, Some, None, Result, Ok, Err, refl, sym, ap, ◌∙◌, subst}
+use Rattle.std.specs.Prelude.{IfErr, IfOk, IfSome, IsOk, OnOk, codes}
+use Rattle.std.specs.Global.{Vec}
+use Rattle.std.specs.Io.KnownBytes.{Appends, Keeps}
+use Rattle.command_runs.specs.Refused.{IsNotOpened, IsNotOffered, IsOpened, IsRefusedCommand, IsSilent, IsUnanswered, IsUnchecked}
+use Rattle.command_runs.specs.Served.{AnswersRun, IsCheckedSource, IsProgramOf, JudgesRun, Opens, Serves, answer_text, file_name, summary_text, told_text}
+use Rattle.command_runs.specs.Stages.{IsHeldBack, IsRefusedAnswer, TellsAnswer, listed_by}
+use Rattle.command_runs.specs.Texts.{Files}
+use Rattle.command_runs.specs.declared.asking.Answer.{Answer}
+use Rattle.command_runs.specs.declared.asking.Answer.TheVariants as answer
+use Rattle.command_runs.specs.declared.asking.Question.{Question}
+use Rattle.command_runs.specs.declared.asking.Question.TheVariants as question
+use Rattle.command_runs.specs.declared.refusal.Refusal.{Refusal}
+use Rattle.command_runs.specs.declared.refusal.Refusal.TheVariants as refusal
+use Rattle.command_runs.specs.declared.sources.Opened.{Opened}
+use Rattle.command_runs.specs.declared.sources.Opened.TheVariants as opened
+use Rattle.command_words.specs.declared.values.Source.{Source}
+use Rattle.command_words.specs.declared.values.Source.TheVariants as source
+use Rattle.command_words.specs.declared.words.Words.{Words}
+use Rattle.command_words.specs.declared.words.Words.TheVariants as words
+use Rattle.omission_explainer.specs.Verdict.{verdict_text}
+use Rattle.round_lang.specs.Syntax.{ProgramTree}
+
+keeps_same : (x : Option (List ℕ)) → Keeps x x
+keeps_same None = tt
+keeps_same (Some xs) = refl
+
+-- nothing was written
+pub silent_same : (x : Option (List ℕ)) (r : Refusal) → IsSilent x x r
+silent_same x refusal.Write = tt
+silent_same x (refusal.Words fault) = keeps_same x
+silent_same x refusal.File = keeps_same x
+silent_same x (refusal.Source fault) = keeps_same x
+silent_same x (refusal.Check fault) = keeps_same x
+silent_same x (refusal.Schedule fault) = keeps_same x
+silent_same x (refusal.Library fault) = keeps_same x
+silent_same x refusal.NoSuchProgram = keeps_same x
+silent_same x (refusal.Run fault) = keeps_same x
+silent_same x refusal.NoMemory = keeps_same x
+
+-- only a refused writing is told after some was written
+pub silent_write : {A : Type 0} (result : Result A Refusal) (old new : Option (List ℕ)) → IfErr result (λ r. r ≡ refusal.Write) → IfErr result (IsSilent old new)
+silent_write (Ok x) old new h = tt
+silent_write (Err r) old new h = subst (IsSilent old new) (sym h) tt
+
+some_program : (file : Option (List ℕ)) (p : ProgramTree) → IfSome file (λ text. IsCheckedSource text p) → IfSome file (λ held. (q : ProgramTree) × IsCheckedSource held q)
+some_program None p h = tt
+some_program (Some text) p h = (p, h)
+
+-- a source that was opened
+pub opened_is : (s : Source) (files : Files) (o : Opened) → Opens s files o → IsOpened s files
+opened_is (source.File name) files (opened.File p) h = some_program (files (file_name name.now)) p h
+opened_is (source.Library name values) files (opened.Library n k) h = tt
+opened_is (source.File name) files (opened.Library n k) h = absurd h
+opened_is (source.Library name values) files (opened.File p) h = absurd h
+
+-- the library has no program for what was opened
+pub held_back : (s : Source) (files : Files) (o : Opened) (n t : ℕ) (r : Refusal) → Opens s files o → IsHeldBack o n t r → IsNotOffered s n t r
+held_back (source.File name) files (opened.File p) n t r h none = none
+held_back (source.Library name values) files (opened.Library m k) n t r h none =
+    subst (λ v. IsNotOffered (source.Library name v) n t r) h.1
+    (subst (λ x. IsNotOffered (source.Library x k) n t r) h.0 none)
+held_back (source.File name) files (opened.Library m k) n t r h none = absurd h
+held_back (source.Library name values) files (opened.File p) n t r h none = absurd h
+
+-- a refused answer, of `run` and of `judge`
+pub run_refused : (source : Source) (files : Files) (schedule : Bor (List ℕ)) (told : Bool) (r : Refusal) → IsRefusedAnswer source files (files schedule.now) (question.Report told) r
+    → IsRefusedCommand (words.Run source schedule told) files r
+run_refused source files schedule told refusal.Write (answer.Report report shown, h) = (told_text report told, (report, h.1, refl))
+run_refused source files schedule told refusal.Write (answer.Verdict verdict, h) = absurd h
+run_refused source files schedule told (refusal.Words fault) h = h
+run_refused source files schedule told refusal.File h = h
+run_refused source files schedule told (refusal.Source fault) h = h
+run_refused source files schedule told (refusal.Check fault) h = h
+run_refused source files schedule told (refusal.Schedule fault) h = h
+run_refused source files schedule told (refusal.Library fault) h = h
+run_refused source files schedule told refusal.NoSuchProgram h = h
+run_refused source files schedule told (refusal.Run fault) h = h
+run_refused source files schedule told refusal.NoMemory h = h
+
+module _ (source : Source) (files : Files) (schedule : Bor (List ℕ)) (correct : Vec ℕ) (delta gst : ℕ) (list : Bor (List ℕ)) (same : list.now ≡ correct.items) where
+  unanswered : (r : Refusal) → IsUnanswered source files (files schedule.now) list.now r → IsUnanswered source files (files schedule.now) correct.items r
+  unanswered r h = subst (λ ns. IsUnanswered source files (files schedule.now) ns r) same h
+
+  pub judge_refused : (r : Refusal) → IsRefusedAnswer source files (files schedule.now) (question.Verdict (record { correct = list; delta = delta; gst = gst })) r
+      → IsRefusedCommand (words.Judge source schedule correct delta gst) files r
+  judge_refused refusal.Write (answer.Report report shown, h) = absurd h
+  judge_refused refusal.Write (answer.Verdict verdict, h) = (
+    verdict_text verdict ++ codes "\n",
+    (verdict, subst (λ ns. JudgesRun source files (files schedule.now) ns delta gst verdict) same h, refl),
+  )
+  judge_refused (refusal.Words fault) h = unanswered (refusal.Words fault) h
+  judge_refused refusal.File h = unanswered refusal.File h
+  judge_refused (refusal.Source fault) h = unanswered (refusal.Source fault) h
+  judge_refused (refusal.Check fault) h = unanswered (refusal.Check fault) h
+  judge_refused (refusal.Schedule fault) h = unanswered (refusal.Schedule fault) h
+  judge_refused (refusal.Library fault) h = unanswered (refusal.Library fault) h
+  judge_refused refusal.NoSuchProgram h = unanswered refusal.NoSuchProgram h
+  judge_refused (refusal.Run fault) h = unanswered (refusal.Run fault) h
+  judge_refused refusal.NoMemory h = unanswered refusal.NoMemory h

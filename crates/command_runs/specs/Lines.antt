@@ -1,0 +1,91 @@
+-- The line that each refusal has on standard error, and the exit status.
+use Rattle.std.specs.Prelude.{ℕ, ◌++◌, List, Option, Some, None, codes}
+use Rattle.std.specs.Fmt.{decimal}
+use Rattle.adversary.specs.declared.fault.RunFault.{RunFault}
+use Rattle.adversary.specs.declared.fault.RunFault.TheVariants as run
+use Rattle.algorithm_library.specs.declared.fault.LibraryFault.{LibraryFault}
+use Rattle.algorithm_library.specs.declared.fault.LibraryFault.TheVariants as library
+use Rattle.command_runs.specs.declared.refusal.Refusal.{Refusal}
+use Rattle.command_runs.specs.declared.refusal.Refusal.TheVariants.{Words, File, Source, Check, Schedule, Library, NoSuchProgram, Run, Write, NoMemory}
+use Rattle.command_words.specs.declared.words.WordsFault.{WordsFault}
+use Rattle.command_words.specs.declared.words.WordsFault.TheVariants as words
+use Rattle.round_check.specs.declared.fault.CheckFault.{CheckFault}
+use Rattle.round_check.specs.declared.fault.CheckFault.TheVariants as check
+use Rattle.round_lang.specs.declared.fault.LangFault.{LangFault}
+use Rattle.round_lang.specs.declared.fault.LangFault.TheVariants as lang
+use Rattle.schedule_text.specs.declared.fault.ScheduleFault.{ScheduleFault}
+use Rattle.schedule_text.specs.declared.fault.ScheduleFault.TheVariants as schedule
+
+-- out of memory, whatever asked for it
+abbrev pub memory_line : List ℕ
+memory_line = codes "no memory\n"
+
+-- a mistake in the words; the text of one that `clap` finds is its own
+abbrev pub words_line : WordsFault → Option (List ℕ)
+words_line (words.Refused error) = None
+words_line words.Missing = Some (codes "error: a value is missing\n")
+words_line words.Source = Some (codes "error: SOURCE is a file, or `@`, a name, `:` and digits\n")
+words_line words.List = Some (codes "error: LIST is node numbers of 0 to 4294967295 with commas between them\n")
+words_line words.Delta = Some (codes "error: D is a number of 1 to 1024\n")
+words_line words.Gst = Some (codes "error: G is a number of 0 to 4294967295\n")
+words_line words.NoMemory = Some memory_line
+
+-- a text that is no program, with the place of what is wrong
+abbrev pub source_line : LangFault → List ℕ
+source_line (lang.BadToken span) = codes "refused source 1 at " ++ decimal span.first ++ codes " " ++ decimal span.after ++ codes "\n"
+source_line (lang.Unexpected span) = codes "refused source 2 at " ++ decimal span.first ++ codes " " ++ decimal span.after ++ codes "\n"
+source_line lang.TooDeep = codes "refused source 3\n"
+source_line lang.TooLong = codes "refused source 4\n"
+source_line (lang.LimitPassed span) = codes "refused source 5 at " ++ decimal span.first ++ codes " " ++ decimal span.after ++ codes "\n"
+source_line lang.NoMemory = memory_line
+
+-- the causes of a program that isn't typed, by their numbers
+abbrev pub check_line : CheckFault → List ℕ
+check_line check.UnknownName = codes "refused check 1\n"
+check_line check.DoubleName = codes "refused check 2\n"
+check_line check.WrongType = codes "refused check 3\n"
+check_line check.FieldCount = codes "refused check 4\n"
+check_line check.NotAllowedHere = codes "refused check 5\n"
+check_line check.NoInput = codes "refused check 6\n"
+check_line check.NoDecision = codes "refused check 7\n"
+check_line check.MissingRound = codes "refused check 8\n"
+check_line check.NoMemory = memory_line
+
+-- a text that is no schedule, with the number of its line
+abbrev pub schedule_line : ScheduleFault → List ℕ
+schedule_line (schedule.BadLine n) = codes "refused schedule 1 at " ++ decimal n ++ codes "\n"
+schedule_line (schedule.NumberTooLarge n) = codes "refused schedule 2 at " ++ decimal n ++ codes "\n"
+schedule_line schedule.TooLong = codes "refused schedule 3\n"
+schedule_line schedule.NoMemory = memory_line
+
+-- numbers for which the library has no program
+abbrev pub library_line : LibraryFault → List ℕ
+library_line library.TooFew = codes "refused library 1\n"
+library_line library.BadValues = codes "refused library 2\n"
+library_line library.NoMemory = memory_line
+
+-- a schedule that isn't run, with the position of its event
+abbrev pub run_line : RunFault → List ℕ
+run_line run.BadSetup = codes "refused run 1\n"
+run_line (run.UnknownNode k) = codes "refused run 2 at " ++ decimal k ++ codes "\n"
+run_line (run.UnknownMessage k) = codes "refused run 3 at " ++ decimal k ++ codes "\n"
+run_line run.NoMemory = memory_line
+
+-- the line of a refusal, where it isn't `clap`'s own text
+abbrev pub line_of : Refusal → Option (List ℕ)
+line_of (Words fault) = words_line fault
+line_of File = Some (codes "refused file\n")
+line_of (Source fault) = Some (source_line fault)
+line_of (Check fault) = Some (check_line fault)
+line_of (Schedule fault) = Some (schedule_line fault)
+line_of (Library fault) = Some (library_line fault)
+line_of NoSuchProgram = Some (codes "refused library 3\n")
+line_of (Run fault) = Some (run_line fault)
+line_of Write = Some (codes "refused write\n")
+line_of NoMemory = Some memory_line
+
+-- 1 refused input, 2 a bad command line, 3 no memory
+abbrev pub status_of : Refusal → ℕ
+status_of (Words fault) = 2
+status_of NoMemory = 3
+status_of _ = 1

@@ -1,0 +1,14 @@
+pub mod Numbers
+pub mod Fronts
+pub mod Inputs
+pub mod Lines
+pub mod Digits
+pub mod Split
+pub mod FirstLines
+pub mod Written
+pub mod Words
+pub mod Forms
+pub mod Places
+pub mod Sound
+pub mod OneReading
+pub mod Answered

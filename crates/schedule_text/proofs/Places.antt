@@ -1,0 +1,93 @@
+-- Which line may stand at which place, and whether its numbers are small.
+use Rattle.std.proofs.Common.{◌≡◌, ℕ, zero, suc, ◌≤◌, leb, le-leb, Bool, true, false, cond, List, [], ◌∷◌, get_or, Ok, Err, refl, sym, ap, subst, ◌∙◌, arith}
+use Rattle.std.specs.List.{list_all}
+use Rattle.std.proofs.lemmas.Bool.{leb-true}
+use Rattle.std.proofs.lemmas.List.{get_or_past}
+use Rattle.std.proofs.lemmas.List.Sums.{AllPass-from_list_all, list_all-from_AllPass}
+use Rattle.schedule_text.specs.declared.fault.LineFault.{LineFault}
+use Rattle.schedule_text.specs.declared.fault.LineFault.TheVariants as line
+use Rattle.schedule_text.specs.Numbers.{max_number}
+use Rattle.schedule_text.specs.Lines.{Line, nodes, faults, inputs, rounds, plan, event, HasForm, HasSmallNumbers, Tells, numbers_of}
+use Rattle.schedule_text.specs.Readings.{MayStandAt}
+use Rattle.schedule_text.specs.Stages.{sized}
+use Rattle.schedule_text.proofs.Forms.{Place, at_nodes, at_faults, at_inputs, at_rounds, at_plan, at_event, form_read, line_of, stands_at}
+
+-- the place of the line behind so many
+abbrev pub place_at : ℕ → Place
+place_at k = get_or (at_nodes ∷ at_faults ∷ at_inputs ∷ at_rounds ∷ at_plan ∷ []) k at_event
+
+abbrev IsAt : Place → ℕ → Type 0
+IsAt at_nodes k = k ≡ 0
+IsAt at_faults k = k ≡ 1
+IsAt at_inputs k = k ≡ 2
+IsAt at_rounds k = k ≡ 3
+IsAt at_plan k = k ≡ 4
+IsAt at_event k = 5 ≤ k
+
+is_at : (k : ℕ) → IsAt (place_at k) k
+is_at zero = refl
+is_at (suc zero) = refl
+is_at (suc (suc zero)) = refl
+is_at (suc (suc (suc zero))) = refl
+is_at (suc (suc (suc (suc zero)))) = refl
+is_at (suc (suc (suc (suc (suc k))))) = omega arith
+
+pub may_stand : (k : ℕ) (x : Line) → stands_at x ≡ place_at k → MayStandAt k x
+may_stand k (nodes n) e = subst (λ (p : Place). IsAt p k) (sym e) (is_at k)
+may_stand k (faults n) e = subst (λ (p : Place). IsAt p k) (sym e) (is_at k)
+may_stand k (inputs vs) e = subst (λ (p : Place). IsAt p k) (sym e) (is_at k)
+may_stand k (rounds n) e = subst (λ (p : Place). IsAt p k) (sym e) (is_at k)
+may_stand k (plan p) e = subst (λ (p : Place). IsAt p k) (sym e) (is_at k)
+may_stand k (event d) e = subst (λ (p : Place). IsAt p k) (sym e) (is_at k)
+
+pub stands : (k : ℕ) (x : Line) → MayStandAt k x → stands_at x ≡ place_at k
+stands k (nodes n) h = sym (ap place_at h)
+stands k (faults n) h = sym (ap place_at h)
+stands k (inputs vs) h = sym (ap place_at h)
+stands k (rounds n) h = sym (ap place_at h)
+stands k (plan p) h = sym (ap place_at h)
+stands k (event d) h = sym (get_or_past (at_nodes ∷ at_faults ∷ at_inputs ∷ at_rounds ∷ at_plan ∷ []) k at_event h)
+
+-- whether numbers are small
+abbrev pub are_small : List ℕ → Bool
+are_small vs = list_all (λ v. leb v max_number) vs
+
+pub small_numbers : (x : Line) → are_small (numbers_of x) ≡ true → HasSmallNumbers x
+small_numbers x h = λ k d lt. leb-true (get_or (numbers_of x) k d) max_number (AllPass-from_list_all (λ v. leb v max_number) (numbers_of x) h k d lt)
+
+pub small_passes : (x : Line) → HasSmallNumbers x → are_small (numbers_of x) ≡ true
+small_passes x h = list_all-from_AllPass (λ v. leb v max_number) (numbers_of x) (λ k d lt. le-leb (get_or (numbers_of x) k d) max_number (h k d lt))
+
+cond_ok : (b : Bool) (x y : Line) → Ok x ≡ cond b (Ok y) (Err line.Large) → (b ≡ true) × (x ≡ y)
+cond_ok true x y h = (refl, cc)
+cond_ok false x y h = absurd cc
+
+cond_err : (b : Bool) (f : LineFault) (y : Line) → Err f ≡ cond b (Ok y) (Err line.Large) → (b ≡ false) × (f ≡ line.Large)
+cond_err true f y h = absurd cc
+cond_err false f y h = (refl, cc)
+
+-- what was sized as good has small numbers
+pub sized_ok : (x y : Line) → Ok x ≡ sized (numbers_of y) y → HasSmallNumbers y × (x ≡ y)
+sized_ok x y h = let c = cond_ok (are_small (numbers_of y)) x y h in (small_numbers y c.0, c.1)
+
+-- what wasn't is too large
+pub sized_err : (f : LineFault) (y : Line) → Err f ≡ sized (numbers_of y) y → (¬ HasSmallNumbers y) × (f ≡ line.Large)
+sized_err f y h =
+    let c = cond_err (are_small (numbers_of y)) f y h in
+    (λ s. let t = small_passes y s in absurd (cc (t, c.0)), c.1)
+
+-- what a line tells at a place is read of it
+pub tells_read : (k : ℕ) (l : List ℕ) (x : Line) → HasForm l x → MayStandAt k x → line_of (place_at k) l ≡ sized (numbers_of x) x
+tells_read k l x form place = ap (λ p. line_of p l) (sym (stands k x place)) ∙ form_read l x form
+
+-- small numbers are read as they are
+pub sized_small : (x : Line) → HasSmallNumbers x → sized (numbers_of x) x ≡ Ok x
+sized_small x s = ap (λ b. cond b (Ok x) (Err line.Large)) (small_passes x s)
+
+-- a line tells one thing at its place
+pub tells_one : (l : List ℕ) (x y : Line) → Tells l x → Tells l y → stands_at x ≡ stands_at y → x ≡ y
+tells_one l x y h g e =
+    let a = form_read l x h.form ∙ sized_small x h.small in
+    let b = form_read l y g.form ∙ sized_small y g.small in
+    let same : Ok x ≡ Ok y = sym a ∙ ap (λ p. line_of p l) e ∙ b in
+    cc

@@ -1,0 +1,9 @@
+pub mod Numbers
+pub mod Lines
+pub mod Texts
+pub mod Readings
+pub mod Stages
+pub mod Fronts
+pub mod Outcome
+pub mod Writing
+pub mod Small

@@ -1,0 +1,34 @@
+-- Schedules whose numbers a text can hold.
+use Rattle.std.specs.Prelude.{ℕ, ◌≤◌, All}
+use Rattle.round_meaning.specs.declared.setup.Setup.{Setup}
+use Rattle.slot_plans.specs.declared.kind.PlanKind.{PlanKind}
+use Rattle.slot_plans.specs.declared.kind.PlanKind.TheVariants.{Known, Growing}
+use Rattle.step_machine.specs.declared.event.Event.{Event}
+use Rattle.step_machine.specs.declared.event.Event.TheVariants.{Step, Release, Drop, Copy}
+use Rattle.step_machine.specs.declared.event.Name.{Name}
+use Rattle.schedule_text.specs.Numbers.{max_number}
+
+-- a number that a line may have
+abbrev pub IsSmall : ℕ → Type 0
+IsSmall n = n ≤ max_number
+
+-- and so are the numbers of a plan, a message's name and an event
+abbrev pub IsSmallPlan : PlanKind → Type 0
+IsSmallPlan (Known d) = IsSmall d
+IsSmallPlan Growing = Unit {0}
+
+abbrev pub IsSmallName : Name → Type 0
+IsSmallName m = IsSmall m.from × IsSmall m.to × IsSmall m.round × IsSmall m.copy
+
+abbrev pub IsSmallEvent : Event → Type 0
+IsSmallEvent (Step i) = IsSmall i
+IsSmallEvent (Release m) = IsSmallName m
+IsSmallEvent (Drop m) = IsSmallName m
+IsSmallEvent (Copy m) = IsSmallName m
+
+-- each number of the setup is small
+pub record IsSmallSetup (s : Setup) : Type 0 where
+  pub nodes : IsSmall s.nodes
+  pub faults : IsSmall s.faults
+  pub inputs : All IsSmall s.inputs
+  pub rounds : IsSmall s.rounds

@@ -1,0 +1,53 @@
+//! Why a text is no schedule.
+
+use std::alloc::AllocFailed;
+
+/// Why a text is no schedule; lines count from 1.
+#[derive(Clone, Copy, PartialEq, Eq, Debug)]
+pub enum ScheduleFault {
+    /// The line may not stand where it does; at the end of a text that stops within the header it
+    /// is the number of its last line and one more.
+    BadLine(u64),
+    /// The line would do, but a number of it is above 4,294,967,295.
+    NumberTooLarge(u64),
+    /// The text has more than 16,777,216 bytes.
+    TooLong,
+    NoMemory,
+}
+
+/// Why a line is refused.
+#[derive(Clone, Copy, PartialEq, Eq, Debug)]
+pub enum LineFault {
+    Bad,
+    Large,
+    NoMemory,
+}
+
+impl LineFault {
+    ghost use Rattle.std.specs.Prelude.{◌≡◌, ◌≢◌};
+    ghost use Rattle.schedule_text.specs.Stages.{at_line};
+    ghost use Rattle.schedule_text.specs.declared.fault.ScheduleFault.TheVariants as ScheduleFault;
+
+    /// The fault of the line of this number.
+    pub fn at(self, number: u64) -> ScheduleFault
+        ensures line { result ≡ at_line number self }
+        ensures short { result ≢ ScheduleFault.TooLong }
+    {
+        match self {
+            LineFault::Bad => ScheduleFault::BadLine(number),
+            LineFault::Large => ScheduleFault::NumberTooLarge(number),
+            LineFault::NoMemory => ScheduleFault::NoMemory,
+        }
+    }
+}
+
+impl<T: Drop> From<AllocFailed<T>> for LineFault {
+    ghost use Rattle.std.specs.Prelude.{◌≡◌};
+    ghost use Rattle.schedule_text.specs.declared.fault.LineFault.TheVariants as line;
+
+    ghost from_gives = { λ _ e. e ≡ line.NoMemory };
+
+    fn from(_error: AllocFailed<T>) -> LineFault {
+        LineFault::NoMemory
+    }
+}

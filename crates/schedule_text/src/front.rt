@@ -1,0 +1,75 @@
+//! The first line of a text.
+ghost use Rattle.std.specs.Prelude.{◌≡◌, ◌<◌, ◌≤◌, ◌==◌, not, ◌∷◌, ◌++◌, length, IfSome, codes};
+ghost use Rattle.std.specs.List.{prefix_len};
+ghost use Rattle.std.specs.Str.Lines.{lines, strip_carriage_return};
+ghost use Rattle.schedule_text.specs.Fronts.{IsFrontEvent};
+
+use crate::line::after;
+use crate::number::number_before;
+use step_machine::{Event, Name};
+
+/// The event of a first line that LF ends, and what follows it; `None` where the line is no plain
+/// step or release of a message's copy 0.
+pub fn front_event(text: &[u8]) -> Option<(Event, &[u8])>
+    ensures { IfSome result (λ r. IsFrontEvent text.now r.0 r.1.now) }
+{
+    match text {
+        [b's', ..] => front_step(after(text, b"step ")?),
+        _ => front_release(after(text, b"release ")?),
+    }
+}
+
+fn front_step(text: &[u8]) -> Option<(Event, &[u8])>
+    ensures { IfSome result (λ r. IsFrontEvent (codes "step " ++ text.now) r.0 r.1.now) }
+{
+    let (node, rest) = number_before(text, b'\n')?;
+    Some((Event::Step(node), rest))
+}
+
+fn front_release(text: &[u8]) -> Option<(Event, &[u8])>
+    ensures { IfSome result (λ r. IsFrontEvent (codes "release " ++ text.now) r.0 r.1.now) }
+{
+    let (from, behind_from) = number_before(text, b' ')?;
+    let (to, behind_to) = number_before(behind_from, b' ')?;
+    let (round, rest) = number_before(behind_to, b'\n')?;
+    let name = Name {
+        from,
+        to,
+        round,
+        copy: 0,
+    };
+    Some((Event::Release(name), rest))
+}
+
+/// The first line without its end, and what follows it.
+pub fn first_line(text: &[u8]) -> (&[u8], &[u8])
+    requires { 0 < length text.now }
+    ensures first { lines text.now ≡ result.0.now ∷ lines result.1.now }
+    ensures shorter { length result.1.now < length text.now }
+{
+    let end = line_length(text);
+    if end == text.len() {
+        return (text, b"");
+    }
+    (without_return(&text[..end]), &text[end + 1..])
+}
+
+/// How many bytes come before the first LF, or all where there is none.
+fn line_length(text: &[u8]) -> usize
+    ensures value { result ≡ prefix_len (λ b. not (b == 10)) text.now }
+    ensures within { result ≤ length text.now }
+{
+    text.iter().take_while(|b| **b != b'\n').count()
+}
+
+/// A line without the one CR at its end.
+fn without_return(line: &[u8]) -> &[u8]
+    ensures { result.now ≡ strip_carriage_return line.now }
+{
+    let end = line.len();
+    if end > 0 && line[end - 1] == b'\r' {
+        &line[..end - 1]
+    } else {
+        line
+    }
+}

@@ -1,0 +1,17 @@
+use Rattle.std.proofs.Common.{◌≡◌, ap, subst, sym}
+use Rattle.round_meaning.specs.Rounds.{algorithm_of}
+use Rattle.step_journal.specs.Log.{Recorded}
+use Rattle.step_journal.specs.Stock.{IsGenuine}
+use Rattle.step_journal.proofs.Stocks.{copy_read, name_view, place_view}
+use Rattle.step_journal.proofs.journal.Journal.copy_of.Goals as goal
+
+pub returns-in_ok-copied-in-Some-clause-named : goal.returns-in_ok-copied-in-Some-clause-named
+returns-in_ok-copied-in-Some-clause-named g c =
+    (copy_read c.self.invariant c.args.name c.place.result c.index-buffer.result.now c.in-Some.frame.now c.in_ok-copied-in-Some.field-0 (name_view c.args.name c.self.view_is c.requires)
+    (place_view c.args.name c.place.result c.self.view_is c.place.ensures) c.index-buffer.ensures c.in-Some.ensures c.in_ok-copied-in-Some.ensures).0
+
+pub returns-in_ok-copied-in-Some-clause-genuine : goal.returns-in_ok-copied-in-Some-clause-genuine
+returns-in_ok-copied-in-Some-clause-genuine g c =
+    subst (λ (z : Recorded _). IsGenuine (algorithm_of z.log.program z.log.setup) z.log.rows c.in_ok-copied-in-Some.field-0) c.self.view_is
+    (copy_read c.self.invariant c.args.name c.place.result c.index-buffer.result.now c.in-Some.frame.now c.in_ok-copied-in-Some.field-0 (name_view c.args.name c.self.view_is c.requires)
+    (place_view c.args.name c.place.result c.self.view_is c.place.ensures) c.index-buffer.ensures c.in-Some.ensures c.in_ok-copied-in-Some.ensures).1

@@ -1,9 +1,0 @@
-use Rattle.std.proofs.Common.{◌+◌, ◌-◌, vec_len}
-use Rattle.step_journal.specs.Agreement.{SameTable}
-use Rattle.step_journal.proofs.notes.grow.Given as goal
-
-abbrev pub invariant-loop-marks : goal.invariant-loop-marks
-invariant-loop-marks l = SameTable l.fn.marks.items l.marks.items
-
-abbrev pub decreases-loop-marks : goal.decreases-loop-marks
-decreases-loop-marks l = l.place + 1 - vec_len l.marks

@@ -1,0 +1,163 @@
+//! A program's code, and the room of words that a node runs it in.
+ghost use Rattle.std.specs.Prelude.{◌≡◌, ◌++◌, ◌↔◌, ℕ, List, All, IfOk, IsTrue, length};
+ghost use Rattle.round_lang.specs.declared.value.Value.{Value};
+ghost use Rattle.round_meaning.specs.declared.received.Received.{Received};
+ghost use Rattle.round_meaning.specs.declared.setup.Setup.{Setup as OneSetup};
+ghost use Rattle.round_meaning.specs.Rounds.{algorithm_of};
+ghost use Rattle.round_meaning.specs.Turn.{IsInbox};
+ghost use Rattle.step_code.specs.Layout.{room_of};
+ghost use Rattle.step_code.specs.Turns.{InTurn};
+ghost use Rattle.step_machine.specs.Nodes.{inbox_of};
+ghost use Rattle.step_machine.specs.Reading.{AreOfRound, MayBeOfRound};
+
+use crate::sealed::Sealed;
+use round_check::Checked;
+use round_lang::{Message, NoMemory, Vars};
+use round_meaning::{Heard, Setup, end_of, send_of};
+use std::alloc::Global;
+use std::marker::Model;
+use step_code::{Room, StepProgram, compile};
+
+/// A program's code with a room that it runs in, seen by contracts as the program.
+///
+/// Code reads words, of the kinds that the program's states and messages have. A state or a message
+/// that is of others, as a node of another program may send it, is left to the evaluator.
+#[derive(Drop)]
+pub(crate) struct Machine {
+    code: StepProgram,
+    room: Room,
+}
+
+impl Model for Machine {
+    ghost use Rattle.round_lang.specs.Syntax.{ProgramTree};
+    ghost use Rattle.round_lang.specs.contracts.formula.Formula as formula;
+    ghost use Rattle.std.specs.Coded.{codes};
+    ghost use Rattle.step_code.specs.Rooms.{IsRoomOf};
+
+    ghost Value = { ProgramTree };
+
+    ghost coded = { Prim.hlevel (codes, formula.the_row.coded) };
+
+    ghost view = { λ m. m.code };
+
+    ghost invariant = { λ m. IsRoomOf m.code m.room };
+}
+
+impl Machine {
+    pub(crate) fn new(alloc: Global, program: &Checked) -> Result<Machine, NoMemory>
+        ensures { IfOk result (λ m. m ≡ program.now) }
+    {
+        let code = compile(alloc, program)?;
+        let room = Room::new(alloc, &code)?;
+        Ok(Machine { code, room })
+    }
+
+    pub(crate) fn program(&self) -> &Checked
+        ensures { result.now ≡ self.now }
+    {
+        self.code.program()
+    }
+
+    /// The initial state of node `me`.
+    pub(crate) fn init(&mut self, alloc: Global, setup: &Setup, me: u32) -> Result<Vars, NoMemory>
+        ensures state { IfOk result (λ vs. vs ≡ (algorithm_of self.old setup.now).init me) }
+        ensures same { self.new ≡ self.old }
+    {
+        self.code.init(alloc, setup, me, &mut self.room)
+    }
+
+    /// What node `me` in a state sends to `dest` in a round, none where it's silent.
+    pub(crate) fn send(
+        &mut self,
+        alloc: Global,
+        setup: &Setup,
+        round: u32,
+        state: &Vars,
+        me: u32,
+        dest: u32,
+    ) -> Result<Option<Message>, NoMemory>
+        ensures message { IfOk result (λ m. m
+            ≡ (algorithm_of self.old setup.now).send round state.now me dest) }
+        ensures same { self.new ≡ self.old }
+    {
+        if !self.code.is_state(state) {
+            return send_of(alloc, self.code.program(), setup, round, state, me, dest);
+        }
+        self.code
+            .send(alloc, setup, round, state, me, dest, &mut self.room)
+    }
+
+    /// The state of node `me` after a round, from the state before it and the frames held of it.
+    pub(crate) fn end(
+        &mut self,
+        alloc: Global,
+        setup: &Setup,
+        round: u32,
+        me: u32,
+        held: &[Option<Sealed>],
+        state: &Vars,
+    ) -> Result<Vars, NoMemory>
+        requires { IsInbox (inbox_of held.now) }
+        ensures state { IfOk result (λ vs. vs
+            ≡ (algorithm_of self.old setup.now).end round me (inbox_of held.now) state.now) }
+        ensures same { self.new ≡ self.old }
+    {
+        if !self.code.is_state(state) || !are_of_round(&self.code, round, held) {
+            let inbox = inbox_of(alloc, held)?;
+            return end_of(alloc, self.code.program(), setup, round, me, &inbox, state);
+        }
+        let mut next = state.copy(alloc)?;
+        self.code.init_turn(setup, round, me, state, &mut self.room);
+        take_all(&self.code, round, held, &mut self.room);
+        self.code.end(round, &mut next, &mut self.room);
+        Ok(next)
+    }
+}
+
+/// Whether the code can read the messages of a round.
+fn are_of_round(code: &StepProgram, round: u32, held: &[Option<Sealed>]) -> bool
+    ensures { IsTrue result ↔ AreOfRound code.now round held.now }
+{
+    held.iter().all(|frame| is_of_round(code, round, frame))
+}
+
+fn is_of_round(code: &StepProgram, round: u32, frame: &Option<Sealed>) -> bool
+    ensures { IsTrue result ↔ MayBeOfRound code.now round frame.now }
+{
+    match frame {
+        Some(frame) => code.is_message(round, frame.message()),
+        None => true,
+    }
+}
+
+/// Takes the messages, in rising order of sender.
+fn take_all(code: &StepProgram, round: u32, held: &[Option<Sealed>], room: &mut Room)
+    requires long { length room.old ≡ room_of code.now }
+    requires kinds { AreOfRound code.now round held.now }
+    ensures { (s : OneSetup) (i : ℕ) (old : List Value) (inbox : List Received)
+        → InTurn code.now s round i old inbox room.old
+        → InTurn code.now s round i old (inbox ++ inbox_of held.now) room.new }
+{
+    match held {
+        [] => {}
+        [first, rest @ ..] => {
+            if let Some(frame) = first {
+                code.message(round, frame.name().from, frame.message(), room);
+            }
+            take_all(code, round, rest, room);
+        }
+    }
+}
+
+/// The frames as an inbox, in rising order of sender.
+fn inbox_of<'a>(alloc: Global, held: &'a [Option<Sealed>]) -> Result<Vec<Heard<'a>>, NoMemory>
+    ensures { IfOk result (λ inbox. inbox.items ≡ inbox_of held.now) }
+{
+    let mut inbox = Vec::with_capacity(alloc, held.len())?;
+    for frame in held {
+        if let Some(frame) = frame {
+            inbox.push(Heard::new(frame.name().from, frame.message()))?;
+        }
+    }
+    Ok(inbox)
+}
