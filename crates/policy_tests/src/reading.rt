@@ -1,0 +1,93 @@
+//! Texts of numbers, messages and choices.
+use crate::fault::Fault;
+use policies::Choice;
+use std::alloc::Global;
+use step_machine::{InFlight, Name};
+
+pub fn number(text: &str) -> Result<u32, Fault> {
+    text.parse().map_err(|_| Fault::Unreadable)
+}
+
+pub fn numbers(alloc: Global, words: &[String]) -> Result<Vec<u32>, Fault> {
+    let mut numbers = Vec::new(alloc);
+    for word in words {
+        numbers.push(number(word.as_str())?)?;
+    }
+    Ok(numbers)
+}
+
+/// Numbers with dots between them.
+fn dotted(alloc: Global, text: &str) -> Result<Vec<u32>, Fault> {
+    let mut numbers = Vec::new(alloc);
+    for word in text.split('.') {
+        numbers.push(number(word)?)?;
+    }
+    Ok(numbers)
+}
+
+pub fn names(alloc: Global, words: &[String]) -> Result<Vec<Name>, Fault> {
+    let mut names = Vec::new(alloc);
+    for word in words {
+        let numbers = dotted(alloc, word.as_str())?;
+        let [from, to, round, copy] = *numbers.as_slice() else {
+            return Err(Fault::Unreadable);
+        };
+        names.push(Name {
+            from,
+            to,
+            round,
+            copy,
+        })?;
+    }
+    Ok(names)
+}
+
+fn choice(text: &str) -> Result<Choice, Fault> {
+    let Some((kind, place)) = text.split_once('.') else {
+        return Err(Fault::Unreadable);
+    };
+    let place = number(place)? as usize;
+    match kind {
+        "release" => Ok(Choice::Release(place)),
+        "drop" => Ok(Choice::Drop(place)),
+        "copy" => Ok(Choice::Copy(place)),
+        _ => Err(Fault::Unreadable),
+    }
+}
+
+pub fn choices(alloc: Global, words: &[String]) -> Result<Vec<Choice>, Fault> {
+    let mut choices = Vec::new(alloc);
+    for word in words {
+        choices.push(choice(word.as_str())?)?;
+    }
+    Ok(choices)
+}
+
+fn message(alloc: Global, text: &str) -> Result<InFlight, Fault> {
+    let numbers = dotted(alloc, text)?;
+    let [from, to, round, copy, sent_at, serial] = *numbers.as_slice() else {
+        return Err(Fault::Unreadable);
+    };
+    let name = Name {
+        from,
+        to,
+        round,
+        copy,
+    };
+    Ok(InFlight {
+        name,
+        sent_at,
+        serial,
+    })
+}
+
+/// Messages with single blanks between them, none in an empty text.
+pub fn flight(alloc: Global, text: &str) -> Result<Vec<InFlight>, Fault> {
+    let mut flight = Vec::new(alloc);
+    if !text.is_empty() {
+        for word in text.split(' ') {
+            flight.push(message(alloc, word)?)?;
+        }
+    }
+    Ok(flight)
+}
