@@ -1,0 +1,904 @@
+"""What roundc answers, read from docs/LANGUAGE.md and docs/SCHEDULES.md a second time, in Python.
+
+It shares nothing with the crates: sources are parsed by descent and evaluated as trees, and a
+schedule is never run. Which message was carried is told by the places of events in the finished
+list, and the states are those of a run in rounds under the omissions that come of it.
+
+`answer` is the whole of it; `.ci/long` compares it with the program, byte for byte.
+"""
+import bisect
+import codecs
+import collections
+import re
+
+LARGEST = 2**32 - 1
+SOURCE_LIMIT, SCHEDULE_LIMIT = 65536, 16777216  # bytes
+VALUES, PERIOD, VARIABLES, FIELDS = 64, 8, 16, 8
+NAME_LIMIT, NESTING = 32, 32
+NODES, FAULTS, ROUNDS, DELTA = 16, 15, 4096, 1024
+EARLY = 3  # the rounds for which a message may come before its own
+
+KEYWORDS = set(
+    """values period state input decide at message send when on end num bool set row if then else or
+    and not union minus inter div mod true false empty all zero single has size least me n t round
+    phase dest from""".split()
+)
+TYPES = ("num", "bool", "set", "row")
+# The operators, from the loosest; behind `and` comes `not`, and a comparison stands alone.
+LEVELS = (
+    ("or",),
+    ("and",),
+    ("=", "<>", "<", "<=", ">", ">="),
+    ("+", "-", "union", "minus"),
+    ("div", "mod", "inter"),
+)
+COMPARISON = 2
+CALLS = {"single": 1, "size": 1, "least": 1, "has": 2}
+WORDS = {"true", "false", "empty", "all", "zero", "me", "n", "t", "round", "phase", "dest", "from"}
+# For each form that has one type only: what its parts are, and what it is.
+SIGNATURES = {
+    **{it: (("num", "num"), "num") for it in ("+", "-", "div", "mod")},
+    **{it: (("num", "num"), "bool") for it in ("<", "<=", ">", ">=")},
+    **{it: (("bool", "bool"), "bool") for it in ("and", "or")},
+    **{it: (("set", "set"), "set") for it in ("union", "inter", "minus")},
+    **{it: ((), "num") for it in ("number", "me", "n", "t", "round", "phase", "dest", "from")},
+    **{it: ((), "bool") for it in ("true", "false")},
+    **{it: ((), "set") for it in ("empty", "all")},
+    "zero": ((), "row"),
+    "not": (("bool",), "bool"),
+    "single": (("num",), "set"),
+    "has": (("set", "num"), "bool"),
+    "size": (("set",), "num"),
+    "least": (("set",), "num"),
+    "entry": (("row", "num"), "num"),
+    "set of": (("bool",), "set"),
+    "row of": (("num",), "row"),
+}
+LIBRARY = {
+    "gather": """values K period 1 input x state seen: set = single(x) decide seen
+at 1: message (s: set) send when true: (seen) on message: seen := seen union s; end:""",
+    "count_votes": """values K period 1
+input x state votes: row = zero state last: row = zero state top: set = empty decide top
+at 1: message (v: num) send when true: (x)
+  on message: votes := [w : if w = v then votes[w] + 1 else votes[w]];
+  end: top := {w : votes[w] > n div 2}; last := votes; votes := zero;""",
+    "dls1": """values K period 4
+input x state proper: set = single(x) state locks: row = zero state lists: row = zero
+state prop: set = empty state got: bool = false state acks: num = 0 state done: set = empty
+decide done
+at 1: message (list: set, p: set) send when dest = (phase - 1) mod n:
+    ({v : has(proper, v) and size({w : w <> v and locks[w] > 0}) = 0}, proper)
+  on message: lists := [v : if has(list, v) then lists[v] + 1 else lists[v]];
+    proper := proper union p;
+  end: prop := if me = (phase - 1) mod n then single(least({v : lists[v] >= n - t})) else empty;
+    lists := zero;
+at 2: message (v: set, p: set) send when size(prop) > 0: (prop, proper)
+  on message: locks := [w : if has(v, w) then phase else locks[w]]; got := true;
+    proper := proper union p;
+  end:
+at 3: message (p: set) send when got and dest = (phase - 1) mod n: (proper)
+  on message: acks := acks + 1; proper := proper union p;
+  end: done := if size(done) = 0 and acks >= t + 1 then prop else done;
+    acks := 0; got := false; prop := empty;
+at 4: message (l: row, p: set) send when size({v : locks[v] > 0}) > 0: (locks, proper)
+  on message:
+    locks := [v : if size({w : w <> v and l[w] > 0 and l[w] >= locks[v]}) > 0
+                  then 0 else locks[v]];
+    proper := proper union p;
+  end:""",
+}
+
+Token = collections.namedtuple("Token", "kind text first after")
+Declaration = collections.namedtuple("Declaration", "kind name type value")
+Block = collections.namedtuple("Block", "number fields when sent message end")
+Program = collections.namedtuple("Program", "values period declarations blocks")
+Setup = collections.namedtuple("Setup", "nodes faults inputs rounds delta")  # delta None: growing
+Row = collections.namedtuple("Row", "round node heard silent omitted state")
+Answer = collections.namedtuple("Answer", "status out err")  # err None: clap's own text
+
+
+class Refused(Exception):
+    """An input that is refused; its text is the line."""
+
+
+class BadWords(Exception):
+    """A bad command line; its text is the line, or nothing where clap finds the mistake."""
+
+
+# Sources
+
+
+def tokens(text):
+    """Parts a source into its tokens; the last is an empty one at the text's end."""
+    pattern = re.compile(
+        rb"(?P<space>[ \t\r\n]+|#[^\n]*)|(?P<name>[A-Za-z_][A-Za-z0-9_]*)|(?P<number>[0-9]+)"
+        rb"|(?P<symbol>:=|<>|<=|>=|[][(){}:;,=<>+-])"
+    )
+    found, at = [], 0
+    while at < len(text):
+        match = pattern.match(text, at)
+        if not match:
+            after = at + len(text[at:].decode()[0].encode())
+            raise Refused(f"source 1 at {at} {after}")
+        if match.lastgroup != "space":
+            found.append(Token(match.lastgroup, match.group().decode(), at, match.end()))
+        at = match.end()
+    return [*found, Token("end", "", at, at)]
+
+
+class Tree:
+    """An expression: its form, its name or number, its parts, and how deep it nests."""
+
+    def __init__(self, form, *parts, name=None):
+        self.form, self.parts, self.name = form, parts, name
+        self.depth = 1 + max((it.depth for it in parts), default=0)
+
+
+class Parser:
+    """Reads a program by descent. `outer` is how many forms are open round an expression."""
+
+    def __init__(self, text):
+        self.tokens, self.at = tokens(text), 0
+
+    def sees(self, *texts):
+        return self.tokens[self.at].text in texts
+
+    def take(self):
+        self.at += 1
+        return self.tokens[self.at - 1]
+
+    def refuse(self, cause):
+        token = self.tokens[self.at]
+        raise Refused(f"source {cause} at {token.first} {token.after}")
+
+    def expect(self, *texts):
+        for text in texts:
+            if not self.sees(text):
+                self.refuse(2)
+            self.take()
+
+    def number(self, least=0, largest=LARGEST):
+        if self.tokens[self.at].kind != "number":
+            self.refuse(2)
+        if not least <= int(self.tokens[self.at].text) <= largest:
+            self.refuse(5)
+        return int(self.take().text)
+
+    def sees_name(self):
+        return self.tokens[self.at].kind == "name" and self.tokens[self.at].text not in KEYWORDS
+
+    def name(self, is_one_too_many=False):
+        if not self.sees_name():
+            self.refuse(2)
+        if is_one_too_many or len(self.tokens[self.at].text) > NAME_LIMIT:
+            self.refuse(5)
+        return self.take().text
+
+    def type(self):
+        if not self.sees(*TYPES):
+            self.refuse(2)
+        return self.take().text
+
+    def listed(self, item):
+        """Reads a list in round brackets."""
+        found = []
+        self.expect("(")
+        if not self.sees(")"):
+            found.append(item(found))
+            while self.sees(","):
+                self.take()
+                found.append(item(found))
+        self.expect(")")
+        return found
+
+    def program(self):
+        self.expect("values")
+        values = self.number(1, VALUES)
+        self.expect("period")
+        period = self.number(1, PERIOD)
+        declarations, blocks = [], []
+        while self.sees("state", "input", "decide"):
+            declarations.append(self.declaration(declarations))
+        while self.sees("at"):
+            blocks.append(self.block())
+        if self.tokens[self.at].kind != "end":
+            self.refuse(2)
+        return Program(values, period, declarations, blocks)
+
+    def declaration(self, others):
+        kind = self.take().text
+        count = sum(it.kind != "decide" for it in others)
+        name = self.name(kind != "decide" and count == VARIABLES)
+        if kind != "state":
+            return Declaration(kind, name, "num", None)
+        self.expect(":")
+        of_type = self.type()
+        self.expect("=")
+        return Declaration(kind, name, of_type, self.expression(0))
+
+    def field(self, others):
+        name = self.name(len(others) == FIELDS)
+        self.expect(":")
+        return name, self.type()
+
+    def block(self):
+        self.expect("at")
+        number = self.number()
+        self.expect(":", "message")
+        fields = self.listed(self.field)
+        self.expect("send", "when")
+        when = self.expression(0)
+        self.expect(":")
+        sent = self.listed(lambda _: self.expression(0))
+        self.expect("on", "message", ":")
+        message = self.assignments()
+        self.expect("end", ":")
+        return Block(number, fields, when, sent, message, self.assignments())
+
+    def assignments(self):
+        found = []
+        while self.sees_name():
+            name = self.name()
+            self.expect(":=")
+            found.append((name, self.expression(0)))
+            self.expect(";")
+        return found
+
+    def deepen(self, depth):
+        if depth > NESTING:
+            raise Refused("source 3")
+
+    def expression(self, outer):
+        if not self.sees("if"):
+            return self.chain(0, outer)
+        self.deepen(outer + 2)
+        self.take()
+        parts = [self.expression(outer + 1)]
+        for word in ("then", "else"):
+            self.expect(word)
+            parts.append(self.expression(outer + 1))
+        return Tree("if", *parts)
+
+    def chain(self, level, outer):
+        """Reads operands of a level, and groups them from the left."""
+        left = self.operand(level, outer)
+        while self.sees(*LEVELS[level]):
+            self.deepen(outer + left.depth + 1)
+            operator = self.take().text
+            left = Tree(operator, left, self.operand(level, outer + 1))
+            if level == COMPARISON:
+                break
+        return left
+
+    def operand(self, level, outer):
+        if LEVELS[level] == ("and",) and self.sees("not"):
+            self.deepen(outer + 2)
+            self.take()
+            return Tree("not", self.operand(level, outer + 1))
+        if level + 1 < len(LEVELS):
+            return self.chain(level + 1, outer)
+        return self.indexed(outer)
+
+    def indexed(self, outer):
+        left = self.atom(outer)
+        if not self.sees("["):
+            return left
+        self.deepen(outer + left.depth + 1)
+        self.take()
+        index = self.expression(outer + 1)
+        self.expect("]")
+        return Tree("entry", left, index)
+
+    def atom(self, outer):
+        if self.tokens[self.at].kind == "number":
+            return Tree("number", name=self.number())
+        if self.sees_name():
+            return Tree("name", name=self.name())
+        if self.sees(*WORDS):
+            return Tree(self.take().text)
+        if not self.sees("(", "{", "[", *CALLS):
+            self.refuse(2)
+        self.deepen(outer + 2)
+        opening = self.take().text
+        if opening == "(":
+            inner = self.expression(outer + 1)
+            self.expect(")")
+            return Tree("brackets", inner)
+        if opening in CALLS:
+            return self.call(opening, outer)
+        name = self.name()
+        self.expect(":")
+        inner = self.expression(outer + 1)
+        self.expect("}" if opening == "{" else "]")
+        return Tree("set of" if opening == "{" else "row of", inner, name=name)
+
+    def call(self, name, outer):
+        self.expect("(")
+        parts = [self.expression(outer + 1)]
+        while len(parts) < CALLS[name]:
+            self.expect(",")
+            parts.append(self.expression(outer + 1))
+        self.expect(")")
+        return Tree(name, *parts)
+
+
+# Names and types
+
+
+class Checked:
+    """A program whose names and types are right."""
+
+    def __init__(self, program):
+        self.values, self.period, self.blocks = program.values, program.period, program.blocks
+        self.declarations = program.declarations
+        self.variables = [it for it in program.declarations if it.kind != "decide"]
+        self.types = {it.name: it.type for it in self.variables}
+        self.inputs = [it.name for it in self.variables if it.kind == "input"]
+        self.decided = [it.name for it in program.declarations if it.kind == "decide"]
+        self.fields = {name for block in self.blocks for name, _ in block.fields}
+        self.check()
+
+    def places(self):
+        """Yields each expression, where it stands, its block, and the type that it must have."""
+        for it in self.variables:
+            if it.value:
+                yield it.value, "initial", None, it.type
+        for block in self.blocks:
+            yield block.when, "send", block, "bool"
+            for tree, (_, of_type) in zip(block.sent, block.fields):
+                yield tree, "send", block, of_type
+            for tree in block.sent[len(block.fields) :]:
+                yield tree, "send", block, None
+            for part in ("message", "end"):
+                for name, tree in getattr(block, part):
+                    yield tree, part, block, self.types.get(name)
+
+    def targets(self):
+        yield from self.decided
+        for block in self.blocks:
+            yield from (name for name, _ in block.message + block.end)
+
+    def check(self):
+        """Refuses the first cause that stands, in the order in which they are told."""
+        causes = (
+            (2, self.has_double_name),
+            (6, lambda: not self.inputs),
+            (7, lambda: not self.decided),
+            (8, lambda: [it.number for it in self.blocks] != [*range(1, self.period + 1)]),
+            (1, lambda: self.has_name(self.is_unknown) or self.has_target(self.is_nowhere)),
+            (5, lambda: self.has_name(self.is_misplaced) or self.has_target(self.is_field)),
+            (4, lambda: any(len(it.sent) != len(it.fields) for it in self.blocks)),
+            (3, self.has_wrong_type),
+        )
+        for number, stands in causes:
+            if stands():
+                raise Refused(f"check {number}")
+
+    def has_double_name(self):
+        lists = [[it.name for it in self.variables]]
+        lists += [[name for name, _ in block.fields] for block in self.blocks]
+        if any(len(set(it)) < len(it) for it in lists):
+            return True
+        if len(self.inputs) > 1 or len(self.decided) > 1 or self.fields & {*self.types}:
+            return True
+        return any(
+            self.rebinds(tree, {*self.types} | ({name for name, _ in block.fields} if block else set()))
+            for tree, _, block, _ in self.places()
+        )
+
+    def rebinds(self, tree, taken):
+        if tree.form in ("set of", "row of"):
+            if tree.name in taken:
+                return True
+            taken = taken | {tree.name}
+        return any(self.rebinds(it, taken) for it in tree.parts)
+
+    def has_name(self, is_bad):
+        """Whether a name or word of an expression is bad where it stands."""
+
+        def stands(tree, bound, place, block):
+            if is_bad(tree, bound, place, block):
+                return True
+            if tree.form in ("set of", "row of"):
+                bound = bound | {tree.name}
+            return any(stands(it, bound, place, block) for it in tree.parts)
+
+        return any(stands(tree, frozenset(), *at) for tree, *at, _ in self.places())
+
+    def has_target(self, is_bad):
+        return any(is_bad(name) for name in self.targets())
+
+    def is_field(self, name):
+        return name in self.fields
+
+    def is_nowhere(self, name):
+        return name not in self.types and name not in self.fields
+
+    def is_unknown(self, tree, bound, place, block):
+        return tree.form == "name" and tree.name not in bound and self.is_nowhere(tree.name)
+
+    def is_misplaced(self, tree, bound, place, block):
+        if tree.form == "dest":
+            return place != "send"
+        if tree.form == "from":
+            return place != "message"
+        if tree.form in ("round", "phase"):
+            return place == "initial"
+        if tree.form != "name" or tree.name in bound:
+            return False
+        if tree.name in self.fields:
+            return place != "message" or tree.name not in dict(block.fields)
+        return place == "initial" and tree.name not in self.inputs
+
+    def has_wrong_type(self):
+        if self.types[self.decided[0]] != "set":
+            return True
+        return any(
+            self.type_of(tree, {**self.types, **dict(block.fields if block else [])}) != of_type
+            for tree, _, block, of_type in self.places()
+        )
+
+    def type_of(self, tree, names):
+        """Returns an expression's type, or None where a part has a wrong one."""
+        if tree.form == "name":
+            return names[tree.name]
+        if tree.form in ("set of", "row of"):
+            names = {**names, tree.name: "num"}
+        parts = tuple(self.type_of(it, names) for it in tree.parts)
+        if tree.form == "brackets":
+            return parts[0]
+        if tree.form in ("=", "<>"):
+            return "bool" if parts[0] == parts[1] and parts[0] else None
+        if tree.form == "if":
+            return parts[1] if parts[0] == "bool" and parts[1] == parts[2] else None
+        wanted, result = SIGNATURES[tree.form]
+        return result if parts == wanted else None
+
+
+# Values
+
+
+def value(tree, names, size):
+    """Returns an expression's value: a number, a bool, a frozenset, or a tuple of `size` numbers."""
+    form = tree.form
+    if form == "name":
+        return names[tree.name]
+    if form == "number":
+        return tree.name
+    if form in ("set of", "row of"):
+        at = ((it, value(tree.parts[0], {**names, tree.name: it}, size)) for it in range(size))
+        return tuple(it for _, it in at) if form == "row of" else frozenset(v for v, it in at if it)
+    if form == "if":
+        return value(tree.parts[1 if value(tree.parts[0], names, size) else 2], names, size)
+    parts = [value(it, names, size) for it in tree.parts]
+    if form in OPERATIONS:
+        return OPERATIONS[form](*parts)
+    if form == "single":
+        return frozenset(it for it in parts if it < size)
+    if form == "least":
+        return min(parts[0], default=size)
+    if form == "entry":
+        return parts[0][parts[1]] if parts[1] < size else 0
+    if form == "all":
+        return frozenset(range(size))
+    if form == "zero":
+        return (0,) * size
+    return names[form]
+
+
+OPERATIONS = {
+    "brackets": lambda a: a,
+    "true": lambda: True,
+    "false": lambda: False,
+    "empty": frozenset,
+    "+": lambda a, b: min(a + b, LARGEST),
+    "-": lambda a, b: max(a - b, 0),
+    "div": lambda a, b: a // b if b else 0,
+    "mod": lambda a, b: a % b if b else 0,
+    "=": lambda a, b: a == b,
+    "<>": lambda a, b: a != b,
+    "<": lambda a, b: a < b,
+    "<=": lambda a, b: a <= b,
+    ">": lambda a, b: a > b,
+    ">=": lambda a, b: a >= b,
+    "and": lambda a, b: a and b,
+    "or": lambda a, b: a or b,
+    "not": lambda a: not a,
+    "union": lambda a, b: a | b,
+    "inter": lambda a, b: a & b,
+    "minus": lambda a, b: a - b,
+    "has": lambda a, b: b in a,
+    "size": len,
+}
+
+
+class Algorithm:
+    """A checked program in a setup: what a node begins with, sends, and makes of its inbox."""
+
+    def __init__(self, checked, setup):
+        self.checked, self.setup, self.size = checked, setup, checked.values
+
+    def begin(self, node):
+        names = {"me": node, "n": self.setup.nodes, "t": self.setup.faults}
+        names[self.checked.inputs[0]] = self.setup.inputs[node]
+        given = [(it.name, it.value) for it in self.checked.variables]
+        return {name: value(it, names, self.size) if it else names[name] for name, it in given}
+
+    def names(self, state, number, node, **others):
+        phase = (number - 1) // self.checked.period + 1
+        fixed = {"me": node, "n": self.setup.nodes, "t": self.setup.faults}
+        return {**state, **fixed, "round": number, "phase": phase, **others}
+
+    def block(self, number):
+        return self.checked.blocks[(number - 1) % self.checked.period]
+
+    def send(self, state, number, node, to):
+        """Returns the fields of a node's message, or None where it's silent."""
+        block, names = self.block(number), self.names(state, number, node, dest=to)
+        if not value(block.when, names, self.size):
+            return None
+        return [value(it, names, self.size) for it in block.sent]
+
+    def end(self, state, number, node, inbox):
+        """Returns the state after a round in which these messages came."""
+        block, state = self.block(number), dict(state)
+        for sender in sorted(inbox):
+            fields = dict(zip((name for name, _ in block.fields), inbox[sender]))
+            for name, tree in block.message:
+                names = {**self.names(state, number, node), "from": sender, **fields}
+                state[name] = value(tree, names, self.size)
+        for name, tree in block.end:
+            state[name] = value(tree, self.names(state, number, node), self.size)
+        return state
+
+    def decision(self, state):
+        return min(state[self.checked.decided[0]], default=None)
+
+
+# Schedules
+
+HEADER = [
+    rb"nodes ([0-9]+)",
+    rb"faults ([0-9]+)",
+    rb"inputs ([0-9]+(?: [0-9]+)*)",
+    rb"rounds ([0-9]+)",
+    rb"plan (?:known ([0-9]+)|growing)",
+]
+EVENT = re.compile(
+    rb"(step) ([0-9]+)|(release|drop) ([0-9]+) ([0-9]+) ([0-9]+)(?: ([0-9]+))?"
+    rb"|(copy) ([0-9]+) ([0-9]+) ([0-9]+) ([0-9]+)"
+)
+
+
+def lines(text):
+    """Returns the lines of a schedule, without their ends."""
+    *whole, last = text.split(b"\n")
+    return [it[:-1] if it.endswith(b"\r") else it for it in whole] + ([last] if last else [])
+
+
+def read_schedule(text):
+    """Returns the setup and the events: ('step', node), or a kind with from, to, round, copy."""
+    header, events, number = [], [], 0
+    for number, line in enumerate(lines(text), 1):
+        if not line or line.startswith(b"#"):
+            continue
+        pattern = HEADER[len(header)] if len(header) < len(HEADER) else EVENT
+        found = re.fullmatch(pattern, line)
+        if not found:
+            raise Refused(f"schedule 1 at {number}")
+        numbers = [int(it) for it in re.findall(rb"[0-9]+", line)]
+        if any(it > LARGEST for it in numbers):
+            raise Refused(f"schedule 2 at {number}")
+        if len(header) < len(HEADER):
+            header.append(numbers)
+        else:
+            kind = line.split()[0].decode()
+            events.append((kind, *numbers, *[0] * (kind != "step" and len(numbers) == 3)))
+    if len(header) < len(HEADER):
+        raise Refused(f"schedule 1 at {number + 1}")
+    (nodes,), (faults,), inputs, (rounds,), delta = header
+    return Setup(nodes, faults, inputs, rounds, delta[0] if delta else None), events
+
+
+def check_run(checked, setup, events, correct=()):
+    """Refuses a setup that isn't lawful, then the first event that names what it hasn't."""
+    is_lawful = (
+        1 <= setup.nodes <= NODES
+        and setup.faults <= FAULTS
+        and 1 <= setup.rounds <= ROUNDS
+        and (setup.delta is None or 1 <= setup.delta <= DELTA)
+        and len(setup.inputs) == setup.nodes
+        and all(it < checked.values for it in setup.inputs)
+        and all(it < setup.nodes for it in correct)
+    )
+    if not is_lawful:
+        raise Refused("run 1")
+    for at, (kind, *numbers) in enumerate(events):
+        if kind == "step":
+            if numbers[0] >= setup.nodes:
+                raise Refused(f"run 2 at {at}")
+            continue
+        sender, to, number, copy = numbers
+        is_known = max(sender, to) < setup.nodes and 1 <= number <= setup.rounds
+        if not is_known or not int(kind == "copy") <= copy <= 3:
+            raise Refused(f"run 3 at {at}")
+
+
+class Run:
+    """A schedule's run: the states of closed rounds and who was heard, by the places of events."""
+
+    def __init__(self, algorithm, events):
+        self.algorithm, self.setup = algorithm, algorithm.setup
+        self.nodes = range(self.setup.nodes)
+        self.steps = [[] for _ in self.nodes]  # the places of each node's steps
+        self.network = collections.defaultdict(list)  # for each message: place, kind and copy
+        for place, (kind, *numbers) in enumerate(events):
+            if kind == "step":
+                self.steps[numbers[0]].append(place)
+            else:
+                self.network[tuple(numbers[:3])].append((place, kind, numbers[3]))
+        self.received = [self.receives(it) for it in self.nodes]
+        self.states = {(node, 0): algorithm.begin(node) for node in self.nodes}
+        self.rows = [self.close(*it) for it in self.due()]
+
+    def length(self, number):
+        """How many receives a round has."""
+        return number if self.setup.delta is None else self.setup.delta
+
+    def start(self, number):
+        """Returns how many steps a node takes before a round."""
+        delta = self.setup.delta
+        receives = number * (number - 1) // 2 if delta is None else (number - 1) * delta
+        return (number - 1) * self.setup.nodes + receives
+
+    def receives(self, node):
+        """Returns the step number, place and round of each receive of a node."""
+        found, count = [], len(self.steps[node])
+        for number in range(1, self.setup.rounds + 1):
+            first, after = self.start(number) + self.setup.nodes, self.start(number + 1)
+            if first >= count:
+                break
+            steps = range(first, min(after, count))
+            found += [(step, self.steps[node][step], number) for step in steps]
+        return found
+
+    def due(self):
+        """Yields the rounds that nodes have taken all steps of, by round and then by node."""
+        for number in range(1, self.setup.rounds + 1):
+            nodes = [it for it in self.nodes if len(self.steps[it]) >= self.start(number + 1)]
+            if not nodes:
+                break
+            yield from ((number, it) for it in nodes)
+
+    def sent_at(self, sender, to, number):
+        """Returns the place of a send slot, or None where it wasn't taken."""
+        step = self.start(number) + to
+        return self.steps[sender][step] if step < len(self.steps[sender]) else None
+
+    def released(self, sender, to, number):
+        """Returns the places at which a copy of a message was released."""
+        sent, found = self.sent_at(sender, to, number), []
+        if sent is None:
+            return found
+        after = [it for it in self.network[sender, to, number] if it[0] > sent]
+        gone = [place for place, kind, copy in after if kind != "copy" and copy == 0][:1]
+        for copy in range(4):
+            made = [place for place, kind, of in after if kind == "copy" and of == copy][:1]
+            if copy == 0:
+                made = [sent]
+            elif not made or (gone and gone[0] < made[0]):
+                continue
+            fates = [it for it in after if it[0] > made[0] and it[1] != "copy" and it[2] == copy]
+            found += [place for place, kind, _ in fates[:1] if kind == "release"]
+        return found
+
+    def is_carried(self, sender, to, number):
+        """Whether the receive that took a copy was in the message's round or one shortly before."""
+        for place in self.released(sender, to, number):
+            behind = bisect.bisect(self.received[to], place, key=lambda it: it[1])
+            if behind < len(self.received[to]):
+                if number - EARLY <= self.received[to][behind][2] <= number:
+                    return True
+        return False
+
+    def sends(self, sender, to, number):
+        return self.algorithm.send(self.states[sender, number - 1], number, sender, to)
+
+    def close(self, number, node):
+        inbox, silent = {}, []
+        for sender in self.nodes:
+            if self.sent_at(sender, node, number) is None:
+                continue
+            message = self.sends(sender, node, number)
+            if message is None:
+                silent.append(sender)
+            elif self.is_carried(sender, node, number):
+                inbox[sender] = message
+        omitted = [it for it in self.nodes if it not in inbox and it not in silent]
+        state = self.algorithm.end(self.states[node, number - 1], number, node, inbox)
+        self.states[node, number] = state
+        return Row(number, node, sorted(inbox), silent, omitted, state)
+
+    # Reports and verdicts
+
+    def report(self):
+        out = []
+        for it in self.rows:
+            state = " ".join(f"{name}={shown(it.state[name])}" for name in it.state)
+            sets = f"heard {listed(it.heard)} silent {listed(it.silent)} omitted {listed(it.omitted)}"
+            decision = shown_decision(self.algorithm.decision(it.state))
+            out.append(f"round {it.round} node {it.node} {sets} state {state} decision {decision}\n")
+        for node in self.nodes:
+            closed = sum(it.node == node for it in self.rows)
+            out.append(f"node {node} steps {len(self.steps[node])} rounds {closed}\n")
+        return "".join(out)
+
+    def decided(self):
+        """Says what all decisions of the report come to."""
+        found = {self.algorithm.decision(it.state) for it in self.rows} - {None}
+        return "split" if len(found) > 1 else shown_decision(next(iter(found), None))
+
+    def verdict(self, events, correct, delta, gst):
+        lockstep = yes(self.is_lockstep(events, correct))
+        bound = yes(self.is_bounded(correct, delta, gst))
+        return f"lockstep {lockstep} bound {bound} clear {self.clear(delta, gst)}\n"
+
+    def is_lockstep(self, events, correct):
+        taken = {it: 0 for it in correct}
+        for kind, node, *_ in events:
+            if kind == "step" and node in taken:
+                if any(it < taken[node] for it in taken.values()):
+                    return False
+                taken[node] += 1
+        return True
+
+    def is_bounded(self, correct, delta, gst):
+        pairs = ((sender, to) for sender in correct for to in correct)
+        return all(self.keeps_bound(*it, delta, gst) for it in pairs)
+
+    def keeps_bound(self, sender, to, delta, gst):
+        for number in range(1, self.setup.rounds + 1):
+            step = self.start(number) + to
+            if step >= len(self.steps[sender]):
+                break
+            if step < gst or self.sends(sender, to, number) is None:
+                continue
+            sent = self.steps[sender][step]
+            late = (it[1] for it in self.received[to] if it[0] >= step + delta and it[1] > sent)
+            before = next(late, None)
+            if before is not None and all(it > before for it in self.released(sender, to, number)):
+                return False
+        return True
+
+    def clear(self, delta, gst):
+        rounds = range(1, ROUNDS + 1)
+        found = (it for it in rounds if self.start(it) >= gst and self.length(it) >= delta)
+        return next(found, "none")
+
+
+def yes(is_so):
+    return "yes" if is_so else "no"
+
+
+def listed(nodes):
+    return ",".join(map(str, nodes)) or "-"
+
+
+def shown_decision(decision):
+    return "-" if decision is None else str(decision)
+
+
+def shown(given):
+    if isinstance(given, bool):
+        return "true" if given else "false"
+    if isinstance(given, frozenset):
+        return "{" + ",".join(map(str, sorted(given))) + "}"
+    if isinstance(given, tuple):
+        return "[" + ",".join(f"{at}:{it}" for at, it in enumerate(given) if it) + "]"
+    return str(given)
+
+
+# Commands
+
+
+def read_words(words):
+    """Returns the command, the source and the options, by name, or refuses the command line."""
+    needed = {"check": [], "run": ["schedule"], "judge": ["schedule", "correct", "delta", "gst"]}
+    if not words or words[0] not in needed:
+        raise BadWords
+    command, rest = words[0], collections.deque(words[1:])
+    sources, options, is_behind = [], {}, False
+    while rest:
+        word = rest.popleft()
+        name, equals, given = word.removeprefix("--").partition("=")
+        if is_behind or not word.startswith("-") or word == "-":
+            sources.append(word)
+        elif word == "--":
+            is_behind = True
+        elif word == "--decided" and command == "run" and "decided" not in options:
+            options["decided"] = ""
+        elif word.startswith("--") and name in needed[command] and name not in options:
+            if not equals and (not rest or (rest[0].startswith("-") and rest[0] != "-")):
+                raise BadWords
+            options[name] = given if equals else rest.popleft()
+        else:
+            raise BadWords
+    if len(sources) != 1 or any(it not in options for it in needed[command]):
+        raise BadWords
+    check_forms(sources[0], options)
+    return command, sources[0], options
+
+
+def check_forms(source, options):
+    """Refuses a value that hasn't its option's form, the source first."""
+    if source.startswith("@") and not re.fullmatch(r"@[A-Za-z_][A-Za-z0-9_]*:[0-9]+", source):
+        raise BadWords("error: SOURCE is a file, or `@`, a name, `:` and digits")
+    number = lambda text: bool(re.fullmatch(r"[0-9]+", text)) and int(text) <= LARGEST
+    if not all(map(number, options.get("correct", "0").split(","))):
+        text = "error: LIST is node numbers of 0 to 4294967295 with commas between them"
+        raise BadWords(text)
+    delta = options.get("delta", "1")
+    if not number(delta) or not 1 <= int(delta) <= DELTA:
+        raise BadWords("error: D is a number of 1 to 1024")
+    if not number(options.get("gst", "0")):
+        raise BadWords("error: G is a number of 0 to 4294967295")
+
+
+def text_of(content, limit, too_long):
+    """Returns a file's text; no more than the limit and a byte is ever read of it."""
+    if content is None:
+        raise Refused("file")
+    try:
+        codecs.getincrementaldecoder("utf-8")().decode(content[: limit + 1], len(content) <= limit)
+    except UnicodeDecodeError:
+        raise Refused("file") from None
+    if len(content) > limit:
+        raise Refused(too_long)
+    return content
+
+
+def library_program(source, setup):
+    """Returns a program of the library, for a setup or, with none, for one node and no fault."""
+    name, _, digits = source[1:].partition(":")
+    if name not in LIBRARY:
+        raise Refused("library 3")
+    nodes, faults = (setup.nodes, setup.faults) if setup else (1, 0)
+    is_large = name == "dls1" and not (1 <= nodes <= NODES and faults <= FAULTS)
+    if not 1 <= int(digits) <= VALUES or is_large:
+        raise Refused("library 2")
+    if name == "dls1" and nodes < 2 * faults + 1:
+        raise Refused("library 1")
+    return Checked(Parser(LIBRARY[name].replace("K", digits, 1).encode()).program())
+
+
+def carried_out(words, files):
+    """Returns what a command prints on standard output. `files` has no content for a name that
+    can't be read; the schedule `-` is standard input."""
+    command, source, options = read_words(words)
+    checked, setup, events = None, None, []
+    if not source.startswith("@"):
+        text = text_of(files.get(source), SOURCE_LIMIT, "source 4")
+        checked = Checked(Parser(text).program())
+    if command != "check":
+        text = text_of(files.get(options["schedule"]), SCHEDULE_LIMIT, "schedule 3")
+        setup, events = read_schedule(text)
+    checked = checked or library_program(source, setup)
+    if command == "check":
+        count = len(checked.variables)
+        return f"ok values {checked.values} period {checked.period} variables {count}\n"
+    correct = sorted({int(it) for it in options["correct"].split(",")}) if command == "judge" else []
+    check_run(checked, setup, events, correct)
+    run = Run(Algorithm(checked, setup), events)
+    if command == "judge":
+        return run.verdict(events, correct, int(options["delta"]), int(options["gst"]))
+    return run.report() + (f"decided {run.decided()}\n" if "decided" in options else "")
+
+
+def answer(words, files):
+    """Returns what the program answers to its words, with these files."""
+    try:
+        return Answer(0, carried_out(words, files).encode(), b"")
+    except BadWords as why:
+        return Answer(2, b"", f"{why}\n".encode() if str(why) else None)
+    except Refused as why:
+        return Answer(1, b"", f"refused {why}\n".encode())
