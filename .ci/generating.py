@@ -6,12 +6,12 @@ import collections
 import re
 
 PIECES = re.compile(r"[A-Za-z_][A-Za-z0-9_]*|[0-9]+|:=|<>|<=|>=|[^ ]")
-NAMES = ["a", "b", "x", "seen", "votes", "_", "v9", "Q", "an_identifier_of_32_characters_x", "valuess"]
+NAMES = "a b x seen votes _ v9 Q an_identifier_of_32_characters_x valuess".split()
 FIELD_NAMES = ["f", "g", "s", "list", "p_1", "_f", "h", "k2"]
 BOUND_NAMES = ["v", "w", "u", "i_"]
 STRANGE_NAMES = ["nowhere", "f", "x", "v", "a_name_of_33_characters_012345678"]
-ODD = ["$", ".", "!", "*", '"', "\0", "\f", "\v", "\ufeff", "é", "€", "😀", "\u00a0", "/", "@", "%"]
-ODD_BYTES = [b"\xff", b"\x80", b"\xc3", b"\xe2\x82", b"\xed\xa0\x80", b"\xc0\xaf", b"\xf4\x90\x80\x80"]
+ODD = [*"$.!*/@%\"é€😀", "\0", "\f", "\v", "\ufeff", "\u00a0"]
+ODD_BYTES = [b"\xff", b"\x80", b"\xc3", b"\xe2\x82", b"\xed\xa0\x80", b"\xc0", b"\xf4\x90\x80\x80"]
 NUMBERS = """0 1 2 7 8 9 15 16 17 63 64 65 1024 1025 4096 4097 4294967295 4294967296 00 007
 00000000000000000000000003 18446744073709551616 99999999999999999999999999""".split()
 SEPARATORS = [" "] * 12 + ["\n", "\n  ", "\t", "\r\n", "  ", " # a remark\n", "#é ( € $\n", "\r"]
@@ -23,7 +23,8 @@ WRONG_LISTS = ["0,0", "", ",", "0,", "00", "4294967295", "4294967296", "x", "0,,
 FORMS = {
     "num": [
         *[(f"{{}} {it} {{}}", SUM, [("num", SUM), ("num", PRODUCT)]) for it in "+-"],
-        *[(f"{{}} {it} {{}}", PRODUCT, [("num", PRODUCT), ("num", INDEXED)]) for it in ("div", "mod")],
+        ("{} div {}", PRODUCT, [("num", PRODUCT), ("num", INDEXED)]),
+        ("{} mod {}", PRODUCT, [("num", PRODUCT), ("num", INDEXED)]),
         ("size ( {} )", ATOM, [("set", 0)]),
         ("least ( {} )", ATOM, [("set", 0)]),
         ("{} [ {} ]", INDEXED, [("row", ATOM), ("num", 0)]),
@@ -38,14 +39,20 @@ FORMS = {
         ("has ( {} , {} )", ATOM, [("set", 0), ("num", 0)]),
     ],
     "set": [
-        *[(f"{{}} {it} {{}}", SUM, [("set", SUM), ("set", PRODUCT)]) for it in ("union", "minus")],
+        ("{} union {}", SUM, [("set", SUM), ("set", PRODUCT)]),
+        ("{} minus {}", SUM, [("set", SUM), ("set", PRODUCT)]),
         ("{} inter {}", PRODUCT, [("set", PRODUCT), ("set", INDEXED)]),
         ("single ( {} )", ATOM, [("num", 0)]),
         ("single ( {} )", ATOM, [("num", 0)]),
     ],
     "row": [],
 }
-CONSTANTS = {"num": ["me", "n", "t"], "bool": ["true", "false"], "set": ["empty", "all"], "row": ["zero"]}
+CONSTANTS = {
+    "num": ["me", "n", "t"],
+    "bool": ["true", "false"],
+    "set": ["empty", "all"],
+    "row": ["zero"],
+}
 
 Given = collections.namedtuple("Given", "words files")  # a content of None: there is no such file
 
@@ -117,7 +124,8 @@ class Generator:
         decided = self.one([it for it in types if types[it] == "set"] or list(types))
         start = {names[0]: "num"}
         lines = [f"input {names[0]}", f"decide {decided}"]
-        lines += [f"state {it} : {of} = {self.expression(of, 2, start)}" for it, of in types.items()]
+        first = {it: self.expression(of, 2, start) for it, of in types.items()}
+        lines += [f"state {it} : {of} = {first[it]}" for it, of in types.items()]
         if self.often(0.3):
             self.random.shuffle(lines)
         if self.often(self.slip):
@@ -129,11 +137,10 @@ class Generator:
         return f"values {self.values} period {self.period} " + " ".join(lines + blocks)
 
     def block(self, number, types):
-        count = self.one([0, 1, 1, 2, 3]) if not self.often(0.02) else self.one([8, 8, 9])
-        free = [*FIELD_NAMES, "ninth"]
-        fields = {it: self.type() for it in free[:count]} if count > 3 else {
-            it: self.type() for it in self.random.sample(FIELD_NAMES, count)
-        }
+        count = self.one([0, 1, 1, 2, 3])
+        fields = {it: self.type() for it in self.random.sample(FIELD_NAMES, count)}
+        if self.often(0.02):
+            fields = {it: self.type() for it in [*FIELD_NAMES, "ninth"][: self.one([8, 8, 9])]}
         depth = self.one([1, 2, 3, 3, 4])
         common = {**types, "round": "num", "phase": "num"}
         sending, hearing = {**common, "dest": "num"}, {**common, "from": "num", **fields}
@@ -152,15 +159,15 @@ class Generator:
         targets = [self.one(list(types)) for _ in range(self.random.randrange(4))]
         if targets and self.often(self.slip):
             targets[0] = self.one(STRANGE_NAMES + FIELD_NAMES)
-        return " ".join(f"{it} := {self.expression(types.get(it, 'num'), depth, names)} ;" for it in targets)
+        values = [self.expression(types.get(it, "num"), depth, names) for it in targets]
+        return " ".join(f"{it} := {value} ;" for it, value in zip(targets, values))
 
     def source(self):
         """Returns the bytes of a source, in about half of the cases with a fault."""
         self.slip = self.one([0, 0, 0, 0.01, 0.05])
         pieces = PIECES.findall(self.program())
-        kind = self.one(["", "", "", "", "token", "token", "deep", "odd", "bytes", "cut", "long", "noise"])
-        if self.often(0.5):
-            kind = ""
+        kinds = ["token"] * 4 + ["deep"] * 3 + ["odd", "bytes", "cut", "long", "noise"]
+        kind = self.one(kinds) if self.often(0.3) else ""
         if kind == "token":
             for _ in range(self.one([1, 1, 2])):
                 self.change_token(pieces)
@@ -211,7 +218,8 @@ class Generator:
 
     def deepen(self, pieces):
         """Wraps one token of an expression so often that it's about as deep as it may be."""
-        places = [it for it, text in enumerate(pieces) if text in ("true", "false", "n", "me", "empty")]
+        wanted = ("true", "false", "n", "me", "empty")
+        places = [it for it, text in enumerate(pieces) if text in wanted]
         if not places:
             return
         at, count = self.one(places), self.random.randrange(26, 36)
@@ -320,13 +328,15 @@ class Generator:
             for _ in range(self.one([1, 1, 2])):
                 self.change_line(lines, len(head), kind)
         elif kind == "event":
-            lines.insert(self.random.randrange(len(head), len(lines) + 1), self.wrong_event(nodes, rounds))
+            at = self.random.randrange(len(head), len(lines) + 1)
+            lines.insert(at, self.wrong_event(nodes, rounds))
         elif kind == "comments":
             for _ in range(5):
                 at = self.random.randrange(len(lines) + 1)
                 lines.insert(at, self.one(["", "#", "# é", "#step 0", "# a\0"]))
         ending = self.one(["\n", "\n", "\n", "\r\n"])
-        content = ending.join(lines).encode() + self.one([b"\n", b"\n", b"", b"\r\n", b"\r"[: kind == "cut"]])
+        last = self.one(["\n", "\n", "", "\r\n", "\r" * (kind == "cut")])
+        content = (ending.join(lines) + last).encode()
         if kind == "bytes":
             content = self.put(content, self.one(ODD_BYTES + [it.encode() for it in ODD]))
         elif kind == "cut":
@@ -340,7 +350,8 @@ class Generator:
         numbers = [(it.start(), it.end()) for it in re.finditer("[0-9]+", lines[at])]
         if kind == "number" and numbers:
             first, after = self.one(numbers)
-            lines[at] = lines[at][:first] + self.one([*NUMBERS, "+1", "-1", "1.0", ""]) + lines[at][after:]
+            number = self.one([*NUMBERS, "+1", "-1", "1.0", ""])
+            lines[at] = lines[at][:first] + number + lines[at][after:]
             return
         change = self.one(["drop", "double", "swap", "blank", "case", "word", "odd", "none"])
         if change == "drop":
@@ -358,7 +369,8 @@ class Generator:
             lines[at] = self.put(lines[at], self.one(ODD))
         elif change == "word":
             words = lines[at].split(" ")
-            words[self.random.randrange(len(words))] = self.one(["step", "known", "growing", "x", "1", ""])
+            others = ["step", "known", "growing", "x", "1", ""]
+            words[self.random.randrange(len(words))] = self.one(others)
             lines[at] = " ".join(words)
         if not lines:
             lines.append("")
