@@ -254,9 +254,9 @@ class Generator:
         """Chooses the numbers of a header."""
         nodes = self.one([1, 2, 2, 3, 3, 4, 5, 7, 16])
         rounds = self.one([1, 2, 3, 4, 5, 6, 8, 40, 4096])
-        delta = self.one([1, 1, 2, 3, None, None, 7, 1024])
+        delta = self.one([1, 1, 1, 2, 2, 3, None, None, 7, 1024])
         inputs = [self.random.randrange(values) for _ in range(nodes)]
-        return nodes, self.one([0, 0, 1, 1, 2, 15]), inputs, rounds, delta
+        return nodes, self.one([0, 0, 0, 1, 1, 2, 15]), inputs, rounds, delta
 
     def header(self, nodes, faults, inputs, rounds, delta):
         plan = "plan growing" if delta is None else f"plan known {delta}"
@@ -319,7 +319,7 @@ class Generator:
         """Returns the bytes of a schedule and its count of nodes."""
         nodes, faults, inputs, rounds, delta = self.setup(values)
         head = self.header(nodes, faults, inputs, rounds, delta)
-        count = self.random.randrange(self.one([1, 20, 100, 300, 900]))
+        count = self.random.randrange(self.one([10, 100, 200, 400, 900]))
         lines = head + self.events(nodes, rounds, delta, count)
         kind = self.one(["line", "line", "number", "event", "bytes", "cut", "comments", "plain"])
         if self.often(0.65):
@@ -341,7 +341,7 @@ class Generator:
             content = self.put(content, self.one(ODD_BYTES + [it.encode() for it in ODD]))
         elif kind == "cut":
             content = content[: self.random.randrange(len(content) + 1)]
-        elif self.often(0.001):
+        elif self.often(0.0002):
             content = self.padded(content, 16777216, b"#")
         return content, nodes
 
