@@ -191,6 +191,7 @@ class Run:
             else:
                 self.network[tuple(numbers[:3])].append((place, kind, numbers[3]))
         self.received = [self.receives(it) for it in self.nodes]
+        self.received_at = [[place for _, place, _ in it] for it in self.received]
         self.states = {(node, 0): algorithm.begin(node) for node in self.nodes}
         self.rows = [self.close(*it) for it in self.due()]
 
@@ -248,7 +249,7 @@ class Run:
     def is_carried(self, sender, to, number):
         """Whether the receive that took a copy was in the message's round or one shortly before."""
         for place in self.released(sender, to, number):
-            behind = bisect.bisect(self.received[to], place, key=lambda it: it[1])
+            behind = bisect.bisect(self.received_at[to], place)
             if behind < len(self.received[to]):
                 if number - EARLY <= self.received[to][behind][2] <= number:
                     return True
@@ -366,7 +367,7 @@ def read_words(words):
     sources, options, is_behind = [], {}, False
     while rest:
         word = rest.popleft()
-        name, equals, given = word.removeprefix("--").partition("=")
+        name, equals, given = word[2:].partition("=")
         if is_behind or not word.startswith("-") or word == "-":
             sources.append(word)
         elif word == "--":
