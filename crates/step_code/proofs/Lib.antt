@@ -2,6 +2,8 @@ pub mod Runs
 pub mod Steps
 pub mod Holding
 pub mod Ops
+pub mod Changing
+pub mod Visiting
 pub mod Correct
 pub mod Patch
 pub mod Typing

@@ -1,5 +1,6 @@
 pub mod Machine
 pub mod Going
+pub mod Changes
 pub mod Code
 pub mod Where
 pub mod Assignments

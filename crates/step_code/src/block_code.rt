@@ -1,9 +1,11 @@
 //! The code of a block.
 ghost use Rattle.std.specs.Prelude.{◌≡◌, ◌++◌, IfOk, OnOk, map};
-ghost use Rattle.step_code.specs.Assignments.{body_code, body_top, values_code, values_top, BodyNumbers, ValuesNumbers};
+ghost use Rattle.step_code.specs.Assignments.{body_code, body_top, values_code, values_top};
+ghost use Rattle.step_code.specs.Assignments.{BodyNumbers, ValuesNumbers};
 ghost use Rattle.step_code.specs.Code.{code_of, place_of, top_of, HasSmallNumbers};
 ghost use Rattle.step_code.specs.Compiled.{block_view, BlockNumbers, BlocksNumbers};
-ghost use Rattle.step_code.specs.Layout.{block_code, block_top, blocks_top, free_place, message_names, message_place, state_names, state_place};
+ghost use Rattle.step_code.specs.Layout.{block_code, block_top, blocks_top, free_place};
+ghost use Rattle.step_code.specs.Layout.{message_names, message_place, state_names, state_place};
 
 use crate::emit::emit;
 use crate::instr::Instr;

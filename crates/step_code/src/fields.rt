@@ -1,5 +1,6 @@
 //! The fields of a message, brought into the room.
-ghost use Rattle.std.specs.Prelude.{◌≡◌, ◌≤◌, ◌+◌, ◌<◌, ◌^◌, ℕ, List, drop, length, map, slice_index};
+ghost use Rattle.std.specs.Prelude.{◌≡◌, ◌≤◌, ◌+◌, ◌<◌, ◌^◌, ℕ, List, drop, length, map};
+ghost use Rattle.std.specs.Prelude.{slice_index};
 ghost use Rattle.std.specs.List.{AllByRecursion};
 ghost use Rattle.round_lang.specs.declared.value.Value.{Value};
 ghost use Rattle.round_lang.specs.Values.{at, flag, num, row, set};

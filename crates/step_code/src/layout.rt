@@ -1,7 +1,8 @@
 //! Where a program's values stand in its room.
 ghost use Rattle.std.specs.Prelude.{◌≡◌, ◌++◌, IfOk, OnOk};
 ghost use Rattle.round_check.specs.Types.{kind_type};
-ghost use Rattle.step_code.specs.Layout.{behind, field_types, fields_at, variable_types, variables_at};
+ghost use Rattle.step_code.specs.Layout.{behind, field_types, fields_at, variable_types};
+ghost use Rattle.step_code.specs.Layout.{variables_at};
 
 use crate::names::Known;
 use crate::single::{further, size_of};

@@ -2,6 +2,7 @@
 #![tactic(auto)]
 
 mod block_code;
+mod changes;
 mod emit;
 mod fields;
 mod instr;

@@ -1,10 +1,13 @@
 //! Compiled programs.
-ghost use Rattle.std.specs.Prelude.{◌≡◌, ◌≤◌, ◌<◌, ◌^◌, ◌+◌, ◌-◌, ◌%◌, ◌↔◌, true, IsTrue, IfOk, IfSome, IsNone, None, OnOk, Some, length, option_copied, slice_get};
+ghost use Rattle.std.specs.Prelude.{◌≡◌, ◌≤◌, ◌<◌, ◌^◌, ◌+◌, ◌-◌, ◌%◌, ◌↔◌, true, IsTrue, IfOk};
+ghost use Rattle.std.specs.Prelude.{IfSome, IsNone, None, OnOk, Some, length, option_copied};
+ghost use Rattle.std.specs.Prelude.{slice_get};
 ghost use Rattle.round_check.specs.Shapes.{block_kinds};
 ghost use Rattle.round_check.specs.Causes.{is_typed};
 ghost use Rattle.round_meaning.specs.Turn.{block_at};
 ghost use Rattle.step_code.specs.Assignments.{StartsNumbers, starts_top};
-ghost use Rattle.step_code.specs.Layout.{init_code, message_place, room_of, start_names, state_place};
+ghost use Rattle.step_code.specs.Layout.{init_code, message_place, room_of, start_names};
+ghost use Rattle.step_code.specs.Layout.{state_place};
 ghost use Rattle.step_code.specs.Machine.{Fine};
 ghost use Rattle.step_code.specs.Turns.{IsOfRound, IsOfState, IsPart};
 

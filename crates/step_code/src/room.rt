@@ -1,5 +1,6 @@
 //! The room of a program.
-ghost use Rattle.std.specs.Prelude.{◌≡◌, ◌≤◌, ◌<◌, ◌+◌, ◌-◌, ℕ, IfOk, length, take, drop, slice_index, slice_set};
+ghost use Rattle.std.specs.Prelude.{◌≡◌, ◌≤◌, ◌<◌, ◌+◌, ◌-◌, ℕ, IfOk, length, take, drop};
+ghost use Rattle.std.specs.Prelude.{slice_index, slice_set};
 ghost use Rattle.round_lang.specs.Words.{kind_of, values_of, IsSpelled};
 ghost use Rattle.std.specs.Prelude.{map};
 ghost use Rattle.step_code.specs.Machine.{run, Fine};

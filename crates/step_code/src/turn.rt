@@ -1,5 +1,6 @@
 //! A program's code at work: the initial state, what is sent, and a round's end.
-ghost use Rattle.std.specs.Prelude.{◌≡◌, ◌+◌, ◌++◌, ◌<◌, ◌≤◌, ◌^◌, [], ◌∷◌, ℕ, List, IfOk, IfSome, IsNone, Some, length, map, slice_index};
+ghost use Rattle.std.specs.Prelude.{◌≡◌, ◌+◌, ◌++◌, ◌<◌, ◌≤◌, ◌^◌, [], ◌∷◌, ℕ, List, IfOk, IfSome};
+ghost use Rattle.std.specs.Prelude.{IsNone, Some, length, map, slice_index};
 ghost use Rattle.round_lang.specs.declared.value.Value.{Value};
 ghost use Rattle.round_lang.specs.Tree.{Tree};
 ghost use Rattle.round_meaning.specs.declared.received.Received.{Received};
@@ -12,7 +13,8 @@ ghost use Rattle.round_lang.specs.Values.{flag};
 ghost use Rattle.step_code.specs.Layout.{room_of};
 ghost use Rattle.step_code.specs.Relation.{Filled};
 ghost use Rattle.step_code.specs.Rooms.{IsRoomOf};
-ghost use Rattle.step_code.specs.Turns.{env_words, HasState, HasTurn, InTurn, IsOfRound, IsOfState, IsPart, Loaded, Sending};
+ghost use Rattle.step_code.specs.Turns.{env_words, HasState, HasTurn, InTurn, IsOfRound, IsOfState};
+ghost use Rattle.step_code.specs.Turns.{IsPart, Loaded, Sending};
 
 use crate::block_code::BlockCode;
 use crate::fields::{Fields, load_fields};
