@@ -1,5 +1,6 @@
 -- The tokens of `values K` and what follows.
-use Rattle.std.proofs.Common.{◌≡◌, ℕ, suc, ◌+◌, ◌*◌, ◌-◌, ◌^◌, ◌<◌, ◌≤◌, true, false, List, [], ◌∷◌, ◌++◌, length, take, drop, Some, refl, sym, ap, subst, arith, rules}
+use Rattle.std.proofs.Common.{◌≡◌, ℕ, suc, ◌+◌, ◌*◌, ◌-◌, ◌^◌, ◌<◌, ◌≤◌, true, false, List, [], ◌∷◌}
+use Rattle.std.proofs.Common.{◌++◌, length, take, drop, Some, refl, sym, ap, subst, arith, rules}
 use Rattle.std.specs.Prelude.{codes}
 use Rattle.std.specs.Char.{is_ascii_digit}
 use Rattle.std.specs.Fmt.{decimal}
@@ -11,7 +12,8 @@ use Rattle.std.proofs.lemmas.Fmt.{digits_decimal, digits_value-decimal, decimal_
 use Rattle.std.proofs.lemmas.Str.Parse.{IsNumeralModel, numerals_by_fold}
 use Rattle.round_lang.specs.declared.token.Mark.TheVariants as m
 use Rattle.round_lang.specs.Grammar.{value_of}
-use Rattle.round_lang.specs.Keywords.{keyword, frame_word, choice_word, type_word, operator_word, constant_word, call_word}
+use Rattle.round_lang.specs.Keywords.{keyword, frame_word, choice_word, type_word, operator_word}
+use Rattle.round_lang.specs.Keywords.{constant_word, call_word}
 use Rattle.round_lang.specs.Lexemes.{Lexeme, mark, number}
 use Rattle.round_lang.specs.Reading.{number_at, value_within}
 use Rattle.round_lang.specs.Scanning.{step, token}

@@ -1,5 +1,6 @@
 -- Tokens by computing.
-use Rattle.std.proofs.Common.{◌≡◌, ℕ, zero, suc, List, [], ◌∷◌, drop, Option, Some, None, option_map, refl, subst, arith}
+use Rattle.std.proofs.Common.{◌≡◌, ℕ, zero, suc, List, [], ◌∷◌, drop, Option, Some, None}
+use Rattle.std.proofs.Common.{option_map, refl, subst, arith}
 use Rattle.round_lang.specs.Lexemes.{Lexeme}
 use Rattle.round_lang.specs.Scanning.{Step, skip, token, bad, step}
 use Rattle.round_lang.specs.Tokens.{IsLongest, Tokens}

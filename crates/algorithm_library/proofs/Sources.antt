@@ -1,11 +1,15 @@
 -- The texts are the programs.
-use Rattle.std.proofs.Common.{◌≡◌, true, ℕ, ◌^◌, ◌<◌, ◌≤◌, List, ◌∷◌, drop, length, Option, Some, None, refl, ap, ◌∙◌, arith}
+use Rattle.std.proofs.Common.{◌≡◌, true, ℕ, ◌^◌, ◌<◌, ◌≤◌, List, ◌∷◌, drop, length, Option, Some}
+use Rattle.std.proofs.Common.{None, refl, ap, ◌∙◌, arith}
 use Rattle.std.specs.Fmt.{decimal}
 use Rattle.std.proofs.lemmas.Fmt.{length-decimal-le_succ}
 use Rattle.std.proofs.lemmas.List.{length-append}
-use Rattle.round_check.specs.Causes.{fault_of, is_typed, double_name, no_input, no_decision, missing_round, unknown_name, not_allowed_here, field_count, wrong_type}
+use Rattle.round_check.specs.Causes.{fault_of, is_typed, double_name, no_input, no_decision}
+use Rattle.round_check.specs.Causes.{missing_round, unknown_name, not_allowed_here, field_count}
+use Rattle.round_check.specs.Causes.{wrong_type}
 use Rattle.round_lang.specs.declared.token.Mark.TheVariants as m
-use Rattle.round_lang.specs.Keywords.{keyword, frame_word, choice_word, type_word, operator_word, constant_word, call_word, short_symbol, long_symbol}
+use Rattle.round_lang.specs.Keywords.{keyword, frame_word, choice_word, type_word, operator_word}
+use Rattle.round_lang.specs.Keywords.{constant_word, call_word, short_symbol, long_symbol}
 use Rattle.round_lang.specs.Lexemes.{Lexeme, mark, same_mark}
 use Rattle.round_lang.specs.Limits.{max_period, max_values}
 use Rattle.round_lang.specs.Parts.{all_read, blocks, declared, program}
@@ -19,7 +23,8 @@ use Rattle.round_lang.proofs.Whole.{source_of}
 use Rattle.round_meaning.specs.Algorithm1.{dls1}
 use Rattle.algorithm_library.specs.Programs.{count_votes_tree, gather_tree}
 use Rattle.algorithm_library.specs.Refusals.{IsCount}
-use Rattle.algorithm_library.specs.Texts.{IsProgramText, count_votes_rest, dls1_rest, gather_rest, text_of}
+use Rattle.algorithm_library.specs.Texts.{IsProgramText, count_votes_rest, dls1_rest, gather_rest}
+use Rattle.algorithm_library.specs.Texts.{text_of}
 use Rattle.algorithm_library.proofs.Headers.{count_read, header}
 use Rattle.algorithm_library.proofs.Scans.{scanned, scanned_good}
 

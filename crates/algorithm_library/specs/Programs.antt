@@ -1,13 +1,15 @@
 -- The programs that come with the product, over the values 0 to k-1. Algorithm 1 stands in
 -- round_meaning.
 use Rattle.std.specs.Prelude.{ℕ, [], ◌∷◌, codes}
-use Rattle.round_lang.specs.declared.expr.BinaryOperator.TheVariants.{Add, Div, Entry, Equal, More, Union}
+use Rattle.round_lang.specs.declared.expr.BinaryOperator.TheVariants.{Add, Div, Entry, Equal, More}
+use Rattle.round_lang.specs.declared.expr.BinaryOperator.TheVariants.{Union}
 use Rattle.round_lang.specs.declared.expr.Constant.TheVariants.{Empty, Nodes, True, Zero}
 use Rattle.round_lang.specs.declared.expr.Ty.TheVariants as ty
 use Rattle.round_lang.specs.declared.expr.UnaryOperator.TheVariants.{Single}
 use Rattle.round_lang.specs.declared.program.VariableKind.TheVariants.{Input, State}
 use Rattle.round_lang.specs.Syntax.{BlockTree, ProgramTree}
-use Rattle.round_lang.specs.Tree.{Tree, TBinary, TFixed, TIf, TNamed, TNumber, TRowOf, TSetOf, TUnary}
+use Rattle.round_lang.specs.Tree.{Tree, TBinary, TFixed, TIf, TNamed, TNumber, TRowOf, TSetOf}
+use Rattle.round_lang.specs.Tree.{TUnary}
 
 -- a variable, by its name
 abbrev pub x : Tree
@@ -30,7 +32,8 @@ gather_round = record {
   fields = record { name = codes "s"; ty = ty.Set } ∷ [];
   condition = TFixed True;
   sent = seen ∷ [];
-  on_message = record { target = codes "seen"; formula = TBinary Union seen (TNamed (codes "s")) } ∷ [];
+  on_message =
+      record { target = codes "seen"; formula = TBinary Union seen (TNamed (codes "s")) } ∷ [];
   end = [];
 }
 
@@ -49,7 +52,8 @@ gather_tree k = record {
 -- [w : if w = v then votes[w] + 1 else votes[w]]
 abbrev pub one_vote_more : Tree
 one_vote_more =
-    TRowOf (codes "w") (TIf (TBinary Equal (TNamed (codes "w")) (TNamed (codes "v"))) (TBinary Add votes_for (TNumber 1)) votes_for)
+    TRowOf (codes "w") (TIf (TBinary Equal (TNamed (codes "w")) (TNamed (codes "v")))
+    (TBinary Add votes_for (TNumber 1)) votes_for)
 
 -- {w : votes[w] > n div 2}
 abbrev pub winners : Tree
