@@ -1,5 +1,6 @@
 -- A node and its run after a closed round.
-use Rattle.std.proofs.Common.{◌≡◌, ℕ, suc, ◌+◌, ◌-◌, ◌<◌, ◌≤◌, List, [], ◌∷◌, ◌++◌, length, get_or, Option, Some, None, subst, sym, ap, refl, ◌∙◌, arith, ◌⊎◌, inl, inr, length-append}
+use Rattle.std.proofs.Common.{◌≡◌, ℕ, suc, ◌+◌, ◌-◌, ◌<◌, ◌≤◌, List, [], ◌∷◌, ◌++◌, length, get_or}
+use Rattle.std.proofs.Common.{subst, sym, ap, refl, ◌∙◌, arith, ◌⊎◌, inl, inr, length-append}
 use Rattle.std.proofs.lemmas.Bool.{cases_lt}
 use Rattle.std.proofs.lemmas.List.{get_or_past, get_or_push, get_or-set_same}
 use Rattle.std.proofs.lemmas.Option.{same_Some}
@@ -7,13 +8,15 @@ use Rattle.round_lang.specs.declared.value.Value.{Value}
 use Rattle.round_lang.specs.Syntax.{ProgramTree}
 use Rattle.round_meaning.specs.declared.setup.Setup.{Setup}
 use Rattle.round_meaning.specs.Rounds.{algorithm_of}
-use Rattle.step_journal.proofs.Hearing.{held_begins}
-use Rattle.step_journal.specs.Agreement.{row}
-use Rattle.step_journal.specs.Work.{AreCarried}
-use Rattle.step_journal.specs.World.{earliest}
-use Rattle.step_journal.specs.Log.{Log, closed, count_of, ended, history, round_of, state_before, world_of}
+use Rattle.step_book.proofs.Hearing.{held_begins}
+use Rattle.step_book.specs.Agreement.{row}
+use Rattle.step_book.specs.Work.{AreCarried}
+use Rattle.step_book.specs.World.{earliest}
+use Rattle.step_book.specs.Log.{Log, closed, count_of, end_state, history, round_of, state_before}
+use Rattle.step_book.specs.Log.{world_of}
 use Rattle.step_machine.specs.Frames.{HeldRow, held_at}
-use Rattle.step_machine.specs.Nodes.{HasPlaces, HasSettled, IsEnd, IsSameTurn, NodeView, ahead, held_now, held_of, inbox_of}
+use Rattle.step_machine.specs.Nodes.{HasPlaces, HasSettled, IsEnd, IsSameTurn, NodeView, ahead}
+use Rattle.step_machine.specs.Nodes.{held_now, held_of, inbox_of}
 use Rattle.adversary.specs.Driving.{IsNodeOf}
 
 -- a node with a round has a row
@@ -22,23 +25,23 @@ row_in v i h (inl l) = l
 row_in v i h (inr past) = let none : length (row v.rows i) ≡ 0 = ap length (get_or_past v.rows i [] past) in absurd (omega arith)
 
 -- the row of the node that ended a round has one state more
-row_closed : (v : Log) (f : NodeView) → 0 < round_of v f.me → row (closed v f).rows f.me ≡ row v.rows f.me ++ ended f ∷ []
-row_closed v f h = get_or-set_same v.rows f.me (row v.rows f.me ++ ended f ∷ []) [] (row_in v f.me h (cases_lt _ _))
+row_closed : (v : Log) (f : NodeView) → 0 < round_of v f.me → row (closed v f).rows f.me ≡ row v.rows f.me ++ end_state f ∷ []
+row_closed v f h = get_or-set_same v.rows f.me (row v.rows f.me ++ end_state f ∷ []) [] (row_in v f.me h (cases_lt _ _))
 
 round-closed : (v : Log) (f : NodeView) → 0 < round_of v f.me → round_of (closed v f) f.me ≡ round_of v f.me + 1
-round-closed v f h = ap length (row_closed v f h) ∙ length-append (row v.rows f.me) (ended f ∷ [])
+round-closed v f h = ap length (row_closed v f h) ∙ length-append (row v.rows f.me) (end_state f ∷ [])
 
 -- which is the last
-state-closed : (v : Log) (f : NodeView) → 0 < round_of v f.me → state_before (closed v f) f.me (round_of (closed v f) f.me) ≡ ended f
+state-closed : (v : Log) (f : NodeView) → 0 < round_of v f.me → state_before (closed v f) f.me (round_of (closed v f) f.me) ≡ end_state f
 state-closed v f h =
     let last : length (row v.rows f.me) ≡ round_of (closed v f) f.me - 1 = omega (arith, round-closed v f h) in
-    ap (λ x. get_or x (round_of (closed v f) f.me - 1) []) (row_closed v f h) ∙ get_or_push (row v.rows f.me) (ended f) [] (round_of (closed v f) f.me - 1) last
+    ap (λ x. get_or x (round_of (closed v f) f.me - 1) []) (row_closed v f h) ∙ get_or_push (row v.rows f.me) (end_state f) [] (round_of (closed v f) f.me - 1) last
 
 end_of_same : (p q : ProgramTree) (s t : Setup) (a b i j : ℕ) (h k : HeldRow) (x y : List Value) → p ≡ q → s ≡ t → a ≡ b → i ≡ j → h ≡ k → x ≡ y → (algorithm_of p s).end a i (inbox_of h) x ≡ (algorithm_of q t).end b j (inbox_of k) y
 end_of_same p q s t a b i j h k x y ps ss rounds nodes helds states = rw (ps, ss, rounds, nodes, helds, states) refl
 
 -- a turn ends alike wherever it's looked at
-ended_same : (n f : NodeView) → IsSameTurn n f → ended f ≡ ended n
+ended_same : (n f : NodeView) → IsSameTurn n f → end_state f ≡ end_state n
 ended_same n f h =
     end_of_same f.program n.program f.setup n.setup f.round n.round f.me n.me (held_now f) (held_now n) f.state n.state h.program h.setup h.round h.me (ap (λ x. get_or x 0 []) h.held) h.state
 
@@ -63,14 +66,15 @@ module _ (start : ℕ → ℕ) (v : Log) (n f : NodeView) (turn : IsSameTurn n f
         setup = settled.setup ∙ same.setup ∙ own.setup;
         me = settled.me ∙ same.me ∙ own.me;
         round = settled.round ∙ ap (λ x. x + 1) (same.round ∙ own.round) ∙ sym (round-closed v f some);
-        state = same_Some m.state (ended r) (settled.state ∙ end) ∙ ended_same n r same ∙ sym (ended_same n f turn) ∙ sym (state-closed v f some);
+        state = same_Some m.state (end_state r) (settled.state ∙ end) ∙ ended_same n r same ∙ sym (ended_same n f turn) ∙ sym (state-closed v f some);
         places = settled.places v.setup.nodes (subst (λ x. HasPlaces v.setup.nodes x) (sym same.held) own.places);
         held = λ k q b at l.
             let next : round_of v f.me + 1 + k ≡ suc q = omega (arith, at, round-closed v f some) in
             held_after k q b next l (cases_lt k ahead);
       })
     where
-      -- what was held of the rounds after the one that ended, and nothing of the last that it keeps now
+      -- what was held of the rounds after the one that ended, and nothing of the last that it keeps
+      -- now
       held_after : (k q : ℕ) → k ≤ ahead → round_of v f.me + 1 + k ≡ suc q → q < v.setup.rounds → (k < ahead) ⊎ (ahead ≤ k) → AreCarried (world_of start v) (history v) f.me q (held_of m k)
       held_after k q b next l (inl before) =
           let own : AreCarried (world_of start v) (history v) f.me q (held_of n (k + 1)) = at_own.held (k + 1) q (omega arith) (omega arith) l in

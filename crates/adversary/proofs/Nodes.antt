@@ -1,23 +1,24 @@
 -- A node of a run as the run goes on.
-use Rattle.std.proofs.Common.{◌≡◌, ℕ, suc, ◌+◌, ◌-◌, ◌<◌, ◌≤◌, false, ◌&&◌, List, [], ◌∷◌, Option, length, get_or, refl, sym, ap, subst, ◌∙◌, arith}
+use Rattle.std.proofs.Common.{◌≡◌, ℕ, suc, ◌+◌, ◌-◌, ◌<◌, ◌≤◌, false, ◌&&◌, List, [], ◌∷◌, Option}
+use Rattle.std.proofs.Common.{length, get_or, refl, sym, ap, subst, ◌∙◌, arith}
 use Rattle.std.specs.Prelude.{All}
 use Rattle.std.proofs.lemmas.Bool.{and_left, and_right, le-leb, lt-leb}
 use Rattle.round_lang.specs.declared.value.Value.{Value}
 use Rattle.round_meaning.specs.declared.setup.Setup.{Setup}
 use Rattle.round_meaning.specs.Rounds.{algorithm_of}
-use Rattle.step_journal.proofs.Hearing.{IsTold, held_on, held_received}
-use Rattle.step_journal.proofs.Leaves.{happened_first}
-use Rattle.step_journal.proofs.Plans.{is_receive_at}
-use Rattle.step_journal.proofs.Reading.{nodes_are}
-use Rattle.step_journal.specs.Agreed.{IsSaid}
-use Rattle.step_journal.specs.Agreement.{IsBuffer, Row, row}
-use Rattle.step_journal.specs.Causes.{IsReceiveFit}
-use Rattle.step_journal.specs.Log.{IsReceive, Log, count_of, happened, history, round_of, world_of}
-use Rattle.step_journal.specs.Stock.{IsMail, names_in}
-use Rattle.step_journal.specs.Taking.{HasTaken}
-use Rattle.step_journal.specs.Trace.{is_step}
-use Rattle.step_journal.specs.Work.{AreCarried}
-use Rattle.step_journal.specs.World.{IsPlan, World, is_receive, nodes_of}
+use Rattle.step_book.proofs.Hearing.{IsTold, held_on, held_received}
+use Rattle.step_book.proofs.Leaves.{happened_first}
+use Rattle.step_book.proofs.Plans.{is_receive_at}
+use Rattle.step_book.proofs.Reading.{nodes_are}
+use Rattle.step_book.specs.Agreed.{IsSaid}
+use Rattle.step_book.specs.Agreement.{IsBuffer, Row, row}
+use Rattle.step_book.specs.Causes.{IsReceiveFit}
+use Rattle.step_book.specs.Log.{IsReceive, Log, count_of, happened, history, round_of, world_of}
+use Rattle.step_book.specs.Stock.{IsMail, names_in}
+use Rattle.step_book.specs.Taking.{HasTaken}
+use Rattle.step_book.specs.Trace.{is_step}
+use Rattle.step_book.specs.Work.{AreCarried}
+use Rattle.step_book.specs.World.{IsPlan, World, is_receive, nodes_of}
 use Rattle.step_machine.specs.declared.event.Event.{Event}
 use Rattle.step_machine.specs.declared.event.Event.TheVariants.{Step}
 use Rattle.step_machine.specs.Frames.{Frame}

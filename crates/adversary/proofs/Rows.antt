@@ -1,4 +1,5 @@
--- Schedules whose runs compute from the definitions: which messages are carried, the states after the rounds, and the releases' answers.
+-- Schedules whose runs compute from the definitions: which messages are carried, the states after
+-- the rounds, and the releases' answers.
 use Rattle.std.proofs.Common.{◌≡◌, ℕ, ◌-◌, ◌*◌, true, false, List, [], ◌∷◌, ◌++◌, refl, map}
 use Rattle.std.specs.Prelude.{codes, replicate, slice_index, reverse}
 use Rattle.round_lang.specs.declared.expr.BinaryOperator.TheVariants.{Equal, Union}
@@ -17,11 +18,11 @@ use Rattle.slot_plans.specs.Known.{known_start}
 use Rattle.step_machine.specs.declared.event.Event.{Event}
 use Rattle.step_machine.specs.declared.event.Event.TheVariants.{Step, Release, Drop, Copy}
 use Rattle.step_machine.specs.declared.event.Name.{Name}
-use Rattle.step_journal.specs.declared.mark.Mark.TheVariants.{Silent}
-use Rattle.step_journal.specs.History.{mark_of, state, answers_of}
-use Rattle.step_journal.specs.Fates.{carried, fate}
-use Rattle.step_journal.specs.Trace.{steps}
-use Rattle.step_journal.specs.World.{World}
+use Rattle.step_book.specs.declared.mark.Mark.TheVariants.{Silent}
+use Rattle.step_book.specs.History.{mark_of, state, answers_of}
+use Rattle.step_book.specs.Fates.{carried, fate}
+use Rattle.step_book.specs.Trace.{steps}
+use Rattle.step_book.specs.World.{World}
 
 -- a run of `gather` under the known plan with one receive a round
 abbrev world : List ℕ → ℕ → ℕ → World

@@ -1,33 +1,26 @@
 -- What holds after each event of a schedule.
-use Rattle.std.proofs.Common.{◌≡◌, ◌≢◌, ℕ, ◌+◌, ◌<◌, false, List, [], ◌∷◌, ◌++◌, length, get_or, set, take, refl, sym, ap, subst, ◌∙◌, arith, ◌⊎◌, inl, inr, length-set}
+use Rattle.std.proofs.Common.{◌≡◌, ◌≢◌, ℕ, ◌<◌, false, List, [], ◌∷◌, length, get_or, set, sym, ap}
+use Rattle.std.proofs.Common.{subst, ◌∙◌, arith, ◌⊎◌, inl, inr, length-set}
 use Rattle.std.proofs.lemmas.Bool.{and_left, cases_eq}
-use Rattle.std.specs.Prelude.{All}
-use Rattle.std.proofs.lemmas.List.{get_or-set_same, get_or-set_other, take_more}
+use Rattle.std.proofs.lemmas.List.{get_or-set_same, get_or-set_other}
 use Rattle.round_lang.specs.Syntax.{ProgramTree}
 use Rattle.round_meaning.specs.declared.setup.Setup.{Setup}
 use Rattle.slot_plans.specs.Plan.{PlanLaws}
-use Rattle.step_journal.proofs.Starts.{plan_is}
-use Rattle.step_journal.specs.Log.{Log, Recorded, happened, opened, world_of}
-use Rattle.step_journal.specs.Trace.{is_step}
-use Rattle.step_journal.specs.World.{IsPlan}
+use Rattle.step_book.proofs.Starts.{plan_is}
+use Rattle.step_book.specs.Log.{Log, Recorded, happened, opened, world_of}
+use Rattle.step_book.specs.Trace.{is_step}
+use Rattle.step_book.specs.World.{IsPlan}
 use Rattle.step_machine.specs.declared.event.Event.{Event}
 use Rattle.step_machine.specs.declared.event.Event.TheVariants.{Step}
 use Rattle.step_machine.specs.Nodes.{NodeView}
-use Rattle.adversary.specs.Driving.{AreNodesOf, GoesOn, IsKnown, IsNodeOf}
+use Rattle.adversary.specs.Driving.{AreNodesOf, AreSettled, GoesOn, IsDriven, IsKnown, IsNodeOf}
+use Rattle.adversary.specs.Driving.{IsSettled}
+use Rattle.adversary.proofs.Settled.{settled_rest, settled_step}
 use Rattle.adversary.proofs.Nodes.{node_on, node_other, noted}
 
--- the journal is that of these events, and the nodes are its nodes
-pub record IsRun {P : Type 0} (start : P → ℕ → ℕ) (p : ProgramTree) (s : Setup) (plan : P) (j : Recorded P) (events : List Event) (nodes : List NodeView) : Type 0 where
-  pub program : j.log.program ≡ p
-  pub setup : j.log.setup ≡ s
-  pub planned : j.plan ≡ plan
-  pub trace : j.log.trace ≡ events
-  pub matching : AreNodesOf (start j.plan) j.log nodes
-
--- its plan keeps the laws
-pub run_plan : {P : Type 0} (start receives : P → ℕ → ℕ) (nodes_of : P → ℕ) (p : ProgramTree) (s : Setup) (plan : P) (j : Recorded P) (events : List Event) (nodes : List NodeView) → ((q : P) → PlanLaws (nodes_of q) (receives q) (start q)) → nodes_of plan ≡ s.nodes → IsRun start p s plan j events nodes → IsPlan (world_of (start j.plan) j.log)
-run_plan start receives nodes_of p s plan j events nodes laws sized h =
-    plan_is (start j.plan) (receives j.plan) (nodes_of j.plan) j.log (laws j.plan) (ap nodes_of h.planned ∙ sized ∙ sym (ap (λ (x : Setup). x.nodes) h.setup))
+-- the plan of a run keeps the laws
+pub plan_kept : {P : Type 0} (start receives : P → ℕ → ℕ) (nodes_of : P → ℕ) (j : Recorded P) → ((q : P) → PlanLaws (nodes_of q) (receives q) (start q)) → nodes_of j.plan ≡ j.log.setup.nodes → IsPlan (world_of (start j.plan) j.log)
+plan_kept start receives nodes_of j laws sized = plan_is (start j.plan) (receives j.plan) (nodes_of j.plan) j.log (laws j.plan) sized
 
 -- a node took a step
 nodes_step : (start : ℕ → ℕ) (old new : Log) (i : ℕ) (nodes : List NodeView) (n : NodeView) → IsPlan (world_of start old) → i < length nodes → GoesOn old new i (Step i ∷ []) → IsNodeOf start new i n → AreNodesOf start old nodes → AreNodesOf start new (set nodes i n)
@@ -42,26 +35,6 @@ nodes_step start old new i nodes n p l g is h = record {
         let ne : j ≢ i = apart in
         subst (IsNodeOf start new j) (sym (get_or-set_other nodes i j n d ne)) (node_other start old new i j _ p g apart (h.each j d (omega (arith, m, h.sized))))
 
--- the run that begins
-pub run_begins : {P : Type 0} (start : P → ℕ → ℕ) (p : ProgramTree) (s : Setup) (plan : P) (j : Recorded P) (nodes : List NodeView) → j ≡ record { plan = plan; log = opened p s } → AreNodesOf (start j.plan) (opened p s) nodes → IsRun start p s plan j [] nodes
-run_begins start p s plan j nodes e h = record {
-  program = ap (λ z. z.log.program) e;
-  setup = ap (λ z. z.log.setup) e;
-  planned = ap (λ z. z.plan) e;
-  trace = ap (λ z. z.log.trace) e;
-  matching = subst (λ (v : Log). AreNodesOf (start j.plan) v nodes) (sym (ap (λ z. z.log) e)) h;
-}
-
-pub run_steps : {P : Type 0} (start : P → ℕ → ℕ) (p : ProgramTree) (s : Setup) (plan : P) (j k : Recorded P) (before after : List Event) (i : ℕ) (nodes next : List NodeView) (n : NodeView) → IsPlan (world_of (start j.plan) j.log) → IsRun start p s plan j before nodes → i < length nodes → k.plan ≡ j.plan → GoesOn j.log k.log i (Step i ∷ []) → IsNodeOf (start k.plan) k.log i n → next ≡ set nodes i n → after ≡ before ++ Step i ∷ [] → IsRun start p s plan k after next
-run_steps {P} start p s plan j k before after i nodes next n planned h l same g is set_is more = record {
-  program = g.program ∙ h.program;
-  setup = g.setup ∙ h.setup;
-  planned = same ∙ h.planned;
-  trace = g.trace ∙ ap (λ t. t ++ Step i ∷ []) h.trace ∙ sym more;
-  matching = subst (AreNodesOf (start k.plan) k.log) (sym set_is) (subst (λ (q : P). AreNodesOf (start q) k.log (set nodes i n)) (sym same)
-      (nodes_step (start j.plan) j.log k.log i nodes n planned l g (subst (λ (q : P). IsNodeOf (start q) k.log i n) same is) h.matching));
-}
-
 nodes_rest : (start : ℕ → ℕ) (v : Log) (e : Event) (nodes : List NodeView) → IsPlan (world_of start v) → ((i : ℕ) → is_step i e ≡ false) → AreNodesOf start v nodes → AreNodesOf start (happened v e) nodes
 nodes_rest start v e nodes p quiet h = record {
   sized = h.sized;
@@ -69,22 +42,37 @@ nodes_rest start v e nodes p quiet h = record {
       node_on start v (happened v e) i e (get_or nodes i d) p (noted v i e) (λ k. and_left _ _ (quiet i)) (h.each i d l);
 }
 
--- an event of the network
-pub run_rests : {P : Type 0} (start : P → ℕ → ℕ) (p : ProgramTree) (s : Setup) (plan : P) (j k : Recorded P) (before after : List Event) (e : Event) (nodes : List NodeView) → IsPlan (world_of (start j.plan) j.log) → ((i : ℕ) → is_step i e ≡ false) → IsRun start p s plan j before nodes → k ≡ record { plan = j.plan; log = happened j.log e } → after ≡ before ++ e ∷ [] → IsRun start p s plan k after nodes
-run_rests {P} start p s plan j k before after e nodes planned quiet h is more = record {
-  program = ap (λ z. z.log.program) is ∙ h.program;
-  setup = ap (λ z. z.log.setup) is ∙ h.setup;
-  planned = ap (λ z. z.plan) is ∙ h.planned;
-  trace = ap (λ z. z.log.trace) is ∙ ap (λ t. t ++ e ∷ []) h.trace ∙ sym more;
-  matching = subst (λ (z : Recorded P). AreNodesOf (start z.plan) z.log nodes) (sym is) (nodes_rest (start j.plan) j.log e nodes planned quiet h.matching);
+-- a run that begins is driven
+pub driven_first : {P : Type 0} (start : P → ℕ → ℕ) (p : ProgramTree) (s : Setup) (plan : P) (j : Recorded P) (nodes : List NodeView) → j ≡ record { plan = plan; log = opened p s } → AreNodesOf (start j.plan) (opened p s) nodes → AreSettled (start j.plan) j.log → IsDriven (start j.plan) j.log nodes
+driven_first start p s plan j nodes e h settled = record {
+  matching = subst (λ (v : Log). AreNodesOf (start j.plan) v nodes) (sym (ap (λ z. z.log) e)) h;
+  settled = settled;
 }
 
--- a step that a run may have is one of its nodes'
-pub known_step : (s t : Setup) (events : List Event) (k i : ℕ) (d : Event) → t ≡ s → All (IsKnown s) events → k < length events → get_or events k d ≡ Step i → i < t.nodes
-known_step s t events k i d same h l e =
-    let here : i < s.nodes = subst (IsKnown s) e (h k d l) in
-    omega (arith, here, ap (λ (x : Setup). x.nodes) same)
+-- a node of the run took a step
+pub driven_step : {P : Type 0} (start : P → ℕ → ℕ) (j k : Recorded P) (i : ℕ) (nodes next : List NodeView) (n : NodeView) → IsPlan (world_of (start j.plan) j.log) → IsDriven (start j.plan) j.log nodes → i < length nodes → k.plan ≡ j.plan → GoesOn j.log k.log i (Step i ∷ []) → IsNodeOf (start k.plan) k.log i n → IsSettled (start k.plan) k.log i → next ≡ set nodes i n → IsDriven (start k.plan) k.log next
+driven_step {P} start j k i nodes next n planned h l same g is settled set_is = record {
+  matching = subst (AreNodesOf (start k.plan) k.log) (sym set_is) (subst (λ (q : P). AreNodesOf (start q) k.log (set nodes i n)) (sym same)
+      (nodes_step (start j.plan) j.log k.log i nodes n planned l g (subst (λ (q : P). IsNodeOf (start q) k.log i n) same is) h.matching));
+  settled = settled_step (start k.plan) j.log k.log i g (subst (λ (q : P). AreSettled (start q) j.log) (sym same) h.settled) settled;
+}
 
--- one event more of a schedule
-pub one_event : (events : List Event) (k : ℕ) (d e : Event) → k < length events → get_or events k d ≡ e → take (k + 1) events ≡ take k events ++ e ∷ []
-one_event events k d e l is = take_more events k d l ∙ ap (λ x. take k events ++ x ∷ []) is
+-- an event of the network
+pub driven_rest : {P : Type 0} (start : P → ℕ → ℕ) (j k : Recorded P) (e : Event) (nodes : List NodeView) → IsPlan (world_of (start j.plan) j.log) → ((i : ℕ) → is_step i e ≡ false) → IsDriven (start j.plan) j.log nodes → k ≡ record { plan = j.plan; log = happened j.log e } → IsDriven (start k.plan) k.log nodes
+driven_rest {P} start j k e nodes planned quiet h is = record {
+  matching = subst (λ (z : Recorded P). AreNodesOf (start z.plan) z.log nodes) (sym is) (nodes_rest (start j.plan) j.log e nodes planned quiet h.matching);
+  settled = settled_rest (start k.plan) j.log k.log e quiet (ap (λ z. z.log) is) (subst (λ (q : P). AreSettled (start q) j.log) (sym (ap (λ z. z.plan) is)) h.settled);
+}
+
+-- the journal is that of these events
+pub record IsRun {P : Type 0} (p : ProgramTree) (s : Setup) (plan : P) (j : Recorded P) (events : List Event) : Type 0 where
+  pub program : j.log.program ≡ p
+  pub setup : j.log.setup ≡ s
+  pub planned : j.plan ≡ plan
+  pub trace : j.log.trace ≡ events
+
+-- a step that a run may have is one of its nodes'
+pub known_step : (s t : Setup) (e : Event) (i : ℕ) → s ≡ t → IsKnown s e → e ≡ Step i → i < t.nodes
+known_step s t e i same known is =
+    let here : i < s.nodes = subst (IsKnown s) is known in
+    omega (arith, here, ap (λ (x : Setup). x.nodes) same)

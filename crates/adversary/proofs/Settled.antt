@@ -1,14 +1,16 @@
 -- No due round stays open.
-use Rattle.std.proofs.Common.{◌≡◌, ◌≢◌, ℕ, zero, suc, ◌+◌, ◌-◌, ◌<◌, ◌≤◌, [], ◌∷◌, Result, Ok, Err, OnOk, true, false, length, reverse, refl, sym, ap, ◌∙◌, subst, arith, inl, inr, append-nil}
+use Rattle.std.proofs.Common.{◌≡◌, ◌≢◌, ℕ, zero, suc, ◌+◌, ◌-◌, ◌<◌, ◌≤◌, [], ◌∷◌, Result, Ok, Err}
+use Rattle.std.proofs.Common.{OnOk, true, false, length, reverse, sym, ap, ◌∙◌, subst, arith, inl}
+use Rattle.std.proofs.Common.{inr, append-nil}
 use Rattle.std.proofs.lemmas.Bool.{cases_eq, cases_lt}
 use Rattle.std.proofs.lemmas.Bool.Decides.{nat_tests}
 use Rattle.slot_plans.specs.Plan.{PlanLaws}
 use Rattle.round_meaning.specs.declared.setup.Setup.{Setup}
-use Rattle.step_journal.proofs.Leaves.{happened_first}
-use Rattle.step_journal.proofs.Places.{steps_at, steps_other}
-use Rattle.step_journal.specs.Agreement.{row}
-use Rattle.step_journal.specs.Log.{IsDue, IsFaithful, Log, count_of, happened, history, round_of}
-use Rattle.step_journal.specs.Trace.{is_step, steps}
+use Rattle.step_book.proofs.Leaves.{happened_first}
+use Rattle.step_book.proofs.Places.{steps_at, steps_other}
+use Rattle.step_book.specs.Agreement.{row}
+use Rattle.step_book.specs.Log.{IsDue, IsFaithful, Log, count_of, happened, history, round_of}
+use Rattle.step_book.specs.Trace.{is_step, steps}
 use Rattle.step_machine.specs.declared.event.Event.{Event}
 use Rattle.step_machine.specs.declared.event.Event.TheVariants.{Step}
 use Rattle.adversary.specs.Driving.{AreSettled, ClosedAreDue, GoesOn, IsInRound, IsSettled}

@@ -1,16 +1,17 @@
 -- The nodes of a run before their first round.
-use Rattle.std.proofs.Common.{◌≡◌, ℕ, suc, ◌+◌, ◌-◌, ◌<◌, ◌≤◌, List, [], ◌∷◌, ◌++◌, length, get_or, None, sym, ap, subst, ◌∙◌, arith, ◌⊎◌, inl, inr, length-append}
+use Rattle.std.proofs.Common.{◌≡◌, ℕ, suc, ◌+◌, ◌-◌, ◌<◌, ◌≤◌, List, [], ◌∷◌, ◌++◌, length, get_or}
+use Rattle.std.proofs.Common.{None, sym, ap, subst, ◌∙◌, arith, ◌⊎◌, inl, inr, length-append}
 use Rattle.std.specs.Prelude.{replicate}
 use Rattle.std.proofs.lemmas.Bool.{cases_lt}
-use Rattle.std.proofs.lemmas.List.{get_or-replicate, get_or_append_left, get_or_push, length-replicate}
+use Rattle.std.proofs.lemmas.List.{get_or-replicate, get_or_append_left, get_or_push}
 use Rattle.std.proofs.lemmas.List.FromFn.{get_or-map-range_with_len}
 use Rattle.round_lang.specs.Syntax.{ProgramTree}
 use Rattle.round_meaning.specs.declared.setup.Setup.{Setup}
 use Rattle.round_meaning.specs.Rounds.{algorithm_of}
-use Rattle.step_journal.proofs.Hearing.{held_first}
-use Rattle.step_journal.proofs.Reading.{nodes_are}
-use Rattle.step_journal.specs.Agreement.{Row, row}
-use Rattle.step_journal.specs.Log.{Log, opened, world_of}
+use Rattle.step_book.proofs.Hearing.{held_first}
+use Rattle.step_book.proofs.Reading.{nodes_are}
+use Rattle.step_book.specs.Agreement.{Row, row}
+use Rattle.step_book.specs.Log.{Log, opened, world_of}
 use Rattle.step_machine.proofs.HeldFrames.{no_rows, none_at}
 use Rattle.step_machine.specs.Frames.{held_at}
 use Rattle.step_machine.specs.Nodes.{HasPlaces, NodeView, ahead, held_of}

@@ -1,9 +1,10 @@
 -- What holds while a schedule is run, and which events it may have.
-use Rattle.std.specs.Prelude.{◌≡◌, ◌≢◌, ◌↔◌, ℕ, ◌+◌, ◌<◌, ◌≤◌, List, ◌++◌, length, slice_index_or, All}
-use Rattle.step_journal.specs.Agreement.{row}
-use Rattle.step_journal.specs.Log.{Log, IsDue, count_of, history, round_of, state_before, world_of}
-use Rattle.step_journal.specs.Names.{IsName}
-use Rattle.step_journal.specs.Work.{AreCarried}
+use Rattle.std.specs.Prelude.{◌≡◌, ◌≢◌, ◌↔◌, ℕ, ◌+◌, ◌<◌, ◌≤◌, List, [], ◌∷◌, ◌++◌, length}
+use Rattle.std.specs.Prelude.{slice_index_or, All}
+use Rattle.step_book.specs.Agreement.{row}
+use Rattle.step_book.specs.Log.{Log, IsDue, count_of, history, round_of, state_before, world_of}
+use Rattle.step_book.specs.Names.{IsName}
+use Rattle.step_book.specs.Work.{AreCarried}
 use Rattle.round_meaning.specs.declared.setup.Setup.{Setup}
 use Rattle.step_machine.specs.declared.event.Event.{Event}
 use Rattle.step_machine.specs.declared.event.Event.TheVariants.{Step, Release, Drop, Copy}
@@ -20,7 +21,8 @@ pub record IsNodeOf (start : ℕ → ℕ) (v : Log) (i : ℕ) (n : NodeView) : T
   pub round : n.round ≡ round_of v i
   pub state : n.state ≡ state_before v i (round_of v i)
   pub places : HasPlaces v.setup.nodes n.held
-  pub held : (k q : ℕ) → k ≤ ahead → q + 1 ≡ round_of v i + k → q < v.setup.rounds → AreCarried (world_of start v) (history v) i q (held_of n k)
+  pub held : (k q : ℕ) → k ≤ ahead → q + 1 ≡ round_of v i + k → q < v.setup.rounds
+      → AreCarried (world_of start v) (history v) i q (held_of n k)
 
 -- the next step of node i is one of its round
 pub record IsInRound (start : ℕ → ℕ) (v : Log) (i : ℕ) : Type 0 where
@@ -29,7 +31,8 @@ pub record IsInRound (start : ℕ → ℕ) (v : Log) (i : ℕ) : Type 0 where
   pub begun : start (round_of v i) ≤ count_of v i
   pub within : count_of v i < start (round_of v i + 1)
 
--- the event names a node, or a copy of a message, of the run; copy 0 is made by no event of the network
+-- the event names a node, or a copy of a message, of the run; copy 0 is made by no event of the
+-- network
 abbrev pub IsKnown : Setup → Event → Type 0
 IsKnown s (Step i) = i < s.nodes
 IsKnown s (Release n) = IsName s n
@@ -43,6 +46,12 @@ pub record GoesOn (old new : Log) (i : ℕ) (events : List Event) : Type 0 where
   pub trace : new.trace ≡ old.trace ++ events
   pub others : (j : ℕ) → j ≢ i → row new.rows j ≡ row old.rows j
 
+-- the run went on by one event
+pub record IsOneMore (old new : Log) (e : Event) : Type 0 where
+  pub program : new.program ≡ old.program
+  pub setup : new.setup ≡ old.setup
+  pub trace : new.trace ≡ old.trace ++ e ∷ []
+
 -- no round of the node is due and open
 abbrev pub IsSettled : (ℕ → ℕ) → Log → ℕ → Type 0
 IsSettled start v i = ¬ (IsDue start v i)
@@ -54,12 +63,19 @@ AreSettled start v = (i : ℕ) → i < v.setup.nodes → IsSettled start v i
 -- a round of a node is closed exactly where the node has taken all its steps
 abbrev pub ClosedAreDue : (ℕ → ℕ) → Log → Type 0
 ClosedAreDue start v =
-    (i r : ℕ) → i < v.setup.nodes → 0 < r → r ≤ v.setup.rounds → (r < round_of v i) ↔ (start (r + 1) ≤ count_of v i)
+    (i r : ℕ) → i < v.setup.nodes → 0 < r → r ≤ v.setup.rounds
+    → (r < round_of v i) ↔ (start (r + 1) ≤ count_of v i)
 
 -- the nodes are those of the run
 pub record AreNodesOf (start : ℕ → ℕ) (v : Log) (nodes : List NodeView) : Type 0 where
   pub sized : length nodes ≡ v.setup.nodes
-  pub each : (i : ℕ) (d : NodeView) → i < v.setup.nodes → IsNodeOf start v i (slice_index_or nodes i d)
+  pub each : (i : ℕ) (d : NodeView) → i < v.setup.nodes
+      → IsNodeOf start v i (slice_index_or nodes i d)
+
+-- they are, and no due round is open
+pub record IsDriven (start : ℕ → ℕ) (v : Log) (nodes : List NodeView) : Type 0 where
+  pub matching : AreNodesOf start v nodes
+  pub settled : AreSettled start v
 
 abbrev pub IsStep : Event → Type 0
 IsStep (Step i) = Unit {0}
@@ -77,12 +93,15 @@ IsOfMessage (Copy n) = Unit {0}
 -- an event at this place names a node or a message that the run hasn't, and none before it does
 abbrev pub IsFirstAt : Setup → List Event → ℕ → Type 0
 IsFirstAt s events k =
-    (k < length events) × ((d : Event) → ¬ IsKnown s (slice_index_or events k d)) × ((j : ℕ) (d : Event) → j < k → IsKnown s (slice_index_or events j d))
+    (k < length events) × ((d : Event) → ¬ IsKnown s (slice_index_or events k d))
+    × ((j : ℕ) (d : Event) → j < k → IsKnown s (slice_index_or events j d))
 
 -- the fault says of which kind the event at its place is
 abbrev pub IsUnknownAt : Setup → List Event → RunFault → Type 0
-IsUnknownAt s events (fault.UnknownNode k) = IsFirstAt s events k × ((d : Event) → IsStep (slice_index_or events k d))
-IsUnknownAt s events (fault.UnknownMessage k) = IsFirstAt s events k × ((d : Event) → IsOfMessage (slice_index_or events k d))
+IsUnknownAt s events (fault.UnknownNode k) =
+    IsFirstAt s events k × ((d : Event) → IsStep (slice_index_or events k d))
+IsUnknownAt s events (fault.UnknownMessage k) =
+    IsFirstAt s events k × ((d : Event) → IsOfMessage (slice_index_or events k d))
 IsUnknownAt s events f = ⊥
 
 -- why a lawful setup isn't run: the first event that names what the run hasn't;

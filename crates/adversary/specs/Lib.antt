@@ -1,2 +1,2 @@
-pub use Rattle.step_journal.specs.Log
+pub use Rattle.step_book.specs.Log
 pub mod Driving

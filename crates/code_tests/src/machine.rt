@@ -57,7 +57,8 @@ pub fn ended(
 }
 
 fn are_messages(code: &StepProgram, round: u32, inbox: &[Received]) -> bool
-    ensures { IsTrue result ↔ All (λ (it : OneReceived). IsOfRound code.now round it.message) inbox.now }
+    ensures { IsTrue result
+        ↔ All (λ (it : OneReceived). IsOfRound code.now round it.message) inbox.now }
 {
     inbox.iter().all(|it| code.is_message(round, &it.message))
 }

@@ -1,13 +1,18 @@
 -- From what each layer refuses to the causes of a command's refusal.
-use Rattle.std.proofs.Common.{◌≡◌, ◌≢◌, ◌⊎◌, inl, inr, ℕ, ◌+◌, ◌<◌, ◌≤◌, All, List, [], Option, Some, None, Result, Ok, Err, length, take, refl, sym, ap, ◌∙◌, subst, arith}
+use Rattle.std.proofs.Common.{◌≡◌, ◌≢◌, ◌⊎◌, inl, inr, ℕ, ◌+◌, ◌<◌, ◌≤◌, All, List, [], Option}
+use Rattle.std.proofs.Common.{Some, None, Result, Ok, Err, length, take, refl, sym, ap, ◌∙◌, subst}
+use Rattle.std.proofs.Common.{arith}
 use Rattle.std.specs.Prelude.{◌↔◌, IfErr, IfSome, IsErrAnd, true}
 use Rattle.std.specs.Str.{IsUtf8}
 use Rattle.adversary.specs.Driving.{IsUnknownAt, RunCause}
 use Rattle.adversary.specs.declared.fault.RunFault.{RunFault}
 use Rattle.adversary.specs.declared.fault.RunFault.TheVariants as run
-use Rattle.command_runs.specs.Refused.{IsBadSchedule, IsNoProgram, IsNoSchedule, IsNoSource, IsNotRun, IsPlan, IsRunnable, of_check, of_run, of_schedule, of_source}
+use Rattle.command_runs.specs.Refused.{IsBadSchedule, IsNoProgram, IsNoSchedule, IsNoSource}
+use Rattle.command_runs.specs.Refused.{IsNotRun, IsPlan, IsRunnable, of_check, of_run, of_schedule}
+use Rattle.command_runs.specs.Refused.{of_source}
 use Rattle.command_runs.specs.Served.{IsCheckedSource, IsSchedule}
-use Rattle.command_runs.specs.Stages.{IsNoProgramIn, IsNoProgramOf, IsNoScheduleIn, IsNoScheduleOf, IsNotRunAs, IsProgramIn, IsScheduleIn}
+use Rattle.command_runs.specs.Stages.{IsNoProgramIn, IsNoProgramOf, IsNoScheduleIn, IsNoScheduleOf}
+use Rattle.command_runs.specs.Stages.{IsNotRunAs, IsProgramIn, IsScheduleIn}
 use Rattle.command_runs.specs.Texts.{BeginsUtf8, IsLongText, IsNoText, IsText, IsTextOf}
 use Rattle.command_runs.specs.declared.refusal.Refusal.{Refusal}
 use Rattle.command_runs.specs.declared.refusal.Refusal.TheVariants as refusal
@@ -40,7 +45,8 @@ pub err_then : {T E : Type 0} (r : Result T E) (Q P : E → Type 0) → IsErrAnd
 err_then (Ok x) Q P h f = tt
 err_then (Err y) Q P h f = f y h
 
--- a file that fits and isn't UTF-8 is no text, and neither is a longer one that doesn't begin as one
+-- a file that fits and isn't UTF-8 is no text, and neither is a longer one that doesn't begin as
+-- one
 no_whole_text : (limit : ℕ) (held bytes : List ℕ) → length held ≤ limit → bytes ≡ held → ¬ (IsUtf8 bytes) → IsNoText limit held
 no_whole_text limit held bytes short same none =
     (λ t. none (subst IsUtf8 (sym same) t.utf8), λ t. let long : limit < length held = t.long in absurd (omega arith))

@@ -1,5 +1,6 @@
 -- From what each layer answers to what a command prints.
-use Rattle.std.proofs.Common.{◌≡◌, ℕ, List, Option, Some, None, Result, Ok, Err, sym, ap, ◌∙◌, subst}
+use Rattle.std.proofs.Common.{◌≡◌, ℕ, List, Option, Some, None, Result, Ok, Err, sym, ap, ◌∙◌}
+use Rattle.std.proofs.Common.{subst}
 use Rattle.std.specs.Prelude.{IfSome, IsOk, OnOk}
 use Rattle.std.specs.Io.KnownBytes.{Appends, Keeps}
 use Rattle.schedule_text.specs.declared.reading.Schedule.{Schedule}
@@ -9,7 +10,9 @@ use Rattle.round_lang.specs.Syntax.{ProgramTree}
 use Rattle.slot_plans.specs.declared.kind.PlanKind.{PlanKind}
 use Rattle.command_runs.specs.Explained.{IsReportOf, IsVerdictOf}
 use Rattle.command_runs.specs.Library.{Offers}
-use Rattle.command_runs.specs.Served.{Answered, AnswersRun, Holds, IsCheckedSource, IsProgramOf, IsSchedule, Opens, file_name, receives_of, start_of}
+use Rattle.command_runs.specs.Served.{Answered, AnswersRun, HoldsProgram, IsCheckedSource}
+use Rattle.command_runs.specs.Served.{IsProgramOf, IsSchedule, Opens, file_name, receives_of}
+use Rattle.command_runs.specs.Served.{start_of}
 use Rattle.command_runs.specs.Texts.{Files}
 use Rattle.command_runs.specs.declared.asking.Answer.{Answer}
 use Rattle.command_runs.specs.declared.asking.Answer.TheVariants as answer
@@ -19,7 +22,7 @@ use Rattle.command_runs.specs.declared.sources.Opened.{Opened}
 use Rattle.command_runs.specs.declared.sources.Opened.TheVariants as opened
 
 -- the program of what was opened is the source's
-pub program_of : (s : Source) (files : Files) (o : Opened) (n t : ℕ) (p : ProgramTree) → Opens s files o → Holds o n t p → IsProgramOf s files n t p
+pub program_of : (s : Source) (files : Files) (o : Opened) (n t : ℕ) (p : ProgramTree) → Opens s files o → HoldsProgram o n t p → IsProgramOf s files n t p
 program_of (source.File name) files (opened.File q) n t p opens holds =
     subst (λ (r : ProgramTree). IfSome (files (file_name name.now)) (λ text. IsCheckedSource text r)) (sym holds) opens
 program_of (source.Library name values) files (opened.Library m k) n t p opens holds =

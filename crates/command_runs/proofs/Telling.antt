@@ -1,10 +1,13 @@
 -- From what the parts of a command answer to what the command does.
-use Rattle.std.proofs.Common.{Bool, Bor, ◌++◌, ◌≡◌, ◌⊎◌, inl, inr, ℕ, List, [], Option, Some, None, Result, Ok, Err, refl, sym, ap, ◌∙◌, subst}
+use Rattle.std.proofs.Common.{Bool, Bor, ◌++◌, ◌≡◌, ◌⊎◌, inl, inr, ℕ, List, [], Option, Some, None}
+use Rattle.std.proofs.Common.{Result, Ok, Err, refl, sym, ap, ◌∙◌, subst}
 use Rattle.std.specs.Prelude.{IfErr, IfOk, IfSome, IsOk, OnOk, codes}
 use Rattle.std.specs.Global.{Vec}
 use Rattle.std.specs.Io.KnownBytes.{Appends, Keeps}
-use Rattle.command_runs.specs.Refused.{IsNotOpened, IsNotOffered, IsOpened, IsRefusedCommand, IsSilent, IsUnanswered, IsUnchecked}
-use Rattle.command_runs.specs.Served.{AnswersRun, IsCheckedSource, IsProgramOf, JudgesRun, Opens, Serves, answer_text, file_name, summary_text, told_text}
+use Rattle.command_runs.specs.Refused.{IsNotOpened, IsNotOffered, IsOpened, IsRefusedCommand}
+use Rattle.command_runs.specs.Refused.{IsSilent, IsUnanswered, IsUnchecked}
+use Rattle.command_runs.specs.Served.{AnswersRun, IsCheckedSource, IsProgramOf, JudgesRun, Opens}
+use Rattle.command_runs.specs.Served.{Serves, answer_text, file_name, summary_text, told_text}
 use Rattle.command_runs.specs.Stages.{IsHeldBack, IsRefusedAnswer, TellsAnswer, listed_by}
 use Rattle.command_runs.specs.Texts.{Files}
 use Rattle.command_runs.specs.declared.asking.Answer.{Answer}

@@ -3,13 +3,14 @@ use Rattle.std.specs.Prelude.{◌≡◌, ◌<◌, ◌↔◌, ℕ, List, All, IfS
 use Rattle.std.specs.List.{list_any}
 use Rattle.adversary.specs.Driving.{ClosedAreDue}
 use Rattle.omission_explainer.specs.InRounds.{IsOfRounds, printed_omits}
-use Rattle.omission_explainer.specs.Reported.{IsReported, closed_rounds, counts_in, names_in, place, types_in}
+use Rattle.omission_explainer.specs.Reported.{IsReported, closed_rounds, counts_in, declared_names}
+use Rattle.omission_explainer.specs.Reported.{place, declared_types}
 use Rattle.omission_explainer.specs.declared.report.Report.{Report}
 use Rattle.round_lang.specs.Syntax.{ProgramTree}
 use Rattle.round_meaning.specs.Rounds.{algorithm_of}
 use Rattle.round_meaning.specs.declared.setup.Setup.{Setup}
-use Rattle.step_journal.specs.Agreed.{JournalAgrees}
-use Rattle.step_journal.specs.Log.{Log, mark_in, waiting_in}
+use Rattle.step_book.specs.Agreed.{JournalAgrees}
+use Rattle.step_book.specs.Log.{Log, mark_in, waiting_in}
 use Rattle.step_machine.specs.declared.event.Event.{Event}
 use Rattle.slot_plans.specs.Plan.{IsClearRound}
 use Rattle.omission_explainer.specs.Verdict.{AreNodes, HearsFrom, IsDelayBound, IsLockstep}
@@ -21,7 +22,8 @@ use Rattle.round_lang.specs.Sets.{is_in}
 -- steps, and the report has a row for each closed round. A row's sets are those of the events, and
 -- its state is that of the node after that round in the run in rounds under the omissions that the
 -- rows print.
-pub record IsReportOf (start : ℕ → ℕ) (p : ProgramTree) (s : Setup) (events : List Event) (report : Report) : Type 0 where
+pub record IsReportOf (start : ℕ → ℕ) (p : ProgramTree) (s : Setup) (events : List Event)
+    (report : Report) : Type 0 where
   pub run : Log
   pub program : run.program ≡ p
   pub setup : run.setup ≡ s
@@ -29,8 +31,8 @@ pub record IsReportOf (start : ℕ → ℕ) (p : ProgramTree) (s : Setup) (event
   pub agrees : JournalAgrees start run (mark_in start run) (waiting_in start run)
   pub closed : ClosedAreDue start run
   pub values : report.values ≡ p.values
-  pub names : report.names ≡ names_in p
-  pub types : report.types ≡ types_in p
+  pub names : report.names ≡ declared_names p
+  pub types : report.types ≡ declared_types p
   pub listed : map place report.rows ≡ closed_rounds run
   pub reported : All (IsReported start run) report.rows
   pub in_rounds : All (IsOfRounds (algorithm_of p s) (printed_omits report.rows)) report.rows
@@ -45,7 +47,8 @@ pub record AreListed (nodes : ℕ) (list : List ℕ) (members : ℕ) : Type 0 wh
 -- took all its steps: whether the listed nodes step in lockstep, whether messages between them keep
 -- the bound, and the first round of the plan from which, where both is so, none of their messages
 -- is omitted.
-pub record IsVerdictOf (start receives : ℕ → ℕ) (p : ProgramTree) (s : Setup) (events : List Event) (list : List ℕ) (delta gst : ℕ) (verdict : Verdict) : Type 0 where
+pub record IsVerdictOf (start receives : ℕ → ℕ) (p : ProgramTree) (s : Setup) (events : List Event)
+    (list : List ℕ) (delta gst : ℕ) (verdict : Verdict) : Type 0 where
   pub run : Log
   pub program : run.program ≡ p
   pub setup : run.setup ≡ s
@@ -57,4 +60,5 @@ pub record IsVerdictOf (start receives : ℕ → ℕ) (p : ProgramTree) (s : Set
   pub lockstep : IsTrue verdict.lockstep ↔ IsLockstep run.trace correct
   pub bound : IsTrue verdict.bound ↔ IsDelayBound start run correct delta gst
   pub clear : IsClearRound receives start delta gst verdict.clear
-  pub hears : IsTrue verdict.lockstep → IsTrue verdict.bound → IfSome verdict.clear (HearsFrom start run correct)
+  pub hears : IsTrue verdict.lockstep → IsTrue verdict.bound
+      → IfSome verdict.clear (HearsFrom start run correct)

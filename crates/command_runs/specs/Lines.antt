@@ -6,7 +6,10 @@ use Rattle.adversary.specs.declared.fault.RunFault.TheVariants as run
 use Rattle.algorithm_library.specs.declared.fault.LibraryFault.{LibraryFault}
 use Rattle.algorithm_library.specs.declared.fault.LibraryFault.TheVariants as library
 use Rattle.command_runs.specs.declared.refusal.Refusal.{Refusal}
-use Rattle.command_runs.specs.declared.refusal.Refusal.TheVariants.{Words, File, Source, Check, Schedule, Library, NoSuchProgram, Run, Write, NoMemory}
+use Rattle.command_runs.specs.declared.refusal.Refusal.TheVariants.{Words, File, Source, Check}
+use Rattle.command_runs.specs.declared.refusal.Refusal.TheVariants.{Schedule, Library}
+use Rattle.command_runs.specs.declared.refusal.Refusal.TheVariants.{NoSuchProgram, Run, Write}
+use Rattle.command_runs.specs.declared.refusal.Refusal.TheVariants.{NoMemory}
 use Rattle.command_words.specs.declared.words.WordsFault.{WordsFault}
 use Rattle.command_words.specs.declared.words.WordsFault.TheVariants as words
 use Rattle.round_check.specs.declared.fault.CheckFault.{CheckFault}
@@ -25,18 +28,22 @@ abbrev pub words_line : WordsFault → Option (List ℕ)
 words_line (words.Refused error) = None
 words_line words.Missing = Some (codes "error: a value is missing\n")
 words_line words.Source = Some (codes "error: SOURCE is a file, or `@`, a name, `:` and digits\n")
-words_line words.List = Some (codes "error: LIST is node numbers of 0 to 4294967295 with commas between them\n")
+words_line words.List =
+    Some (codes "error: LIST is node numbers of 0 to 4294967295 with commas between them\n")
 words_line words.Delta = Some (codes "error: D is a number of 1 to 1024\n")
 words_line words.Gst = Some (codes "error: G is a number of 0 to 4294967295\n")
 words_line words.NoMemory = Some memory_line
 
 -- a text that is no program, with the place of what is wrong
 abbrev pub source_line : LangFault → List ℕ
-source_line (lang.BadToken span) = codes "refused source 1 at " ++ decimal span.first ++ codes " " ++ decimal span.after ++ codes "\n"
-source_line (lang.Unexpected span) = codes "refused source 2 at " ++ decimal span.first ++ codes " " ++ decimal span.after ++ codes "\n"
+source_line (lang.BadToken span) = codes "refused source 1 at " ++ decimal span.first ++ codes " "
+    ++ decimal span.after ++ codes "\n"
+source_line (lang.Unexpected span) = codes "refused source 2 at " ++ decimal span.first ++ codes " "
+    ++ decimal span.after ++ codes "\n"
 source_line lang.TooDeep = codes "refused source 3\n"
 source_line lang.TooLong = codes "refused source 4\n"
-source_line (lang.LimitPassed span) = codes "refused source 5 at " ++ decimal span.first ++ codes " " ++ decimal span.after ++ codes "\n"
+source_line (lang.LimitPassed span) = codes "refused source 5 at " ++ decimal span.first
+    ++ codes " " ++ decimal span.after ++ codes "\n"
 source_line lang.NoMemory = memory_line
 
 -- the causes of a program that isn't typed, by their numbers
@@ -54,7 +61,8 @@ check_line check.NoMemory = memory_line
 -- a text that is no schedule, with the number of its line
 abbrev pub schedule_line : ScheduleFault → List ℕ
 schedule_line (schedule.BadLine n) = codes "refused schedule 1 at " ++ decimal n ++ codes "\n"
-schedule_line (schedule.NumberTooLarge n) = codes "refused schedule 2 at " ++ decimal n ++ codes "\n"
+schedule_line (schedule.NumberTooLarge n) =
+    codes "refused schedule 2 at " ++ decimal n ++ codes "\n"
 schedule_line schedule.TooLong = codes "refused schedule 3\n"
 schedule_line schedule.NoMemory = memory_line
 

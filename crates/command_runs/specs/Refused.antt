@@ -8,7 +8,8 @@ use Rattle.algorithm_library.specs.Refusals.{IsCount, IsTooFew, IsWithin}
 use Rattle.algorithm_library.specs.declared.fault.LibraryFault.{LibraryFault}
 use Rattle.algorithm_library.specs.declared.fault.LibraryFault.TheVariants as library
 use Rattle.command_runs.specs.Lines.{status_of}
-use Rattle.command_runs.specs.Served.{AsksForHelp, IsCheckedSource, IsProgramOf, IsSchedule, Prints, file_name}
+use Rattle.command_runs.specs.Served.{AsksForHelp, IsCheckedSource, IsProgramOf, IsSchedule, Prints}
+use Rattle.command_runs.specs.Served.{file_name}
 use Rattle.command_runs.specs.Texts.{Files, IsLongText, IsNoText, IsText}
 use Rattle.command_runs.specs.declared.desk.DeskFault.{DeskFault}
 use Rattle.command_runs.specs.declared.desk.DeskFault.TheVariants as desk
@@ -77,7 +78,8 @@ IsNoSource held fault = IsText max_text held × ((p : ProgramTree) → ¬ (IsSou
 
 -- a text is a program that isn't typed, for this cause
 abbrev pub IsUntyped : List ℕ → CheckFault → Type 0
-IsUntyped held fault = IsText max_text held × ((p : ProgramTree) × IsSource held p × (fault_of p ≡ Some fault))
+IsUntyped held fault =
+    IsText max_text held × ((p : ProgramTree) × IsSource held p × (fault_of p ≡ Some fault))
 
 -- why there is no program in a file, where the desk says what it has: no text, none that is a
 -- program, or none that is typed
@@ -95,7 +97,8 @@ IsNotOpened (Library name values) files r = ⊥
 
 -- a source that is opened
 abbrev pub IsOpened : Source → Files → Type 0
-IsOpened (File name) files = IfSome (files (file_name name.now)) (λ held. (p : ProgramTree) × IsCheckedSource held p)
+IsOpened (File name) files =
+    IfSome (files (file_name name.now)) (λ held. (p : ProgramTree) × IsCheckedSource held p)
 IsOpened (Library name values) files = ⊤
 
 -- a text is too long to be a schedule, or this is the first line at fault
@@ -123,7 +126,8 @@ abbrev pub IsNoOffer : List ℕ → (values nodes faults : ℕ) → Refusal → 
 IsNoOffer name k n t refusal.NoSuchProgram = (¬ (IsPlain name)) × (¬ (IsAlgorithm1 name))
 IsNoOffer name k n t (refusal.Library library.BadValues) =
     (IsPlain name × (¬ (IsCount k))) ⊎ (IsAlgorithm1 name × (¬ (IsWithin n t k)))
-IsNoOffer name k n t (refusal.Library library.TooFew) = IsAlgorithm1 name × IsWithin n t k × IsTooFew n t
+IsNoOffer name k n t (refusal.Library library.TooFew) =
+    IsAlgorithm1 name × IsWithin n t k × IsTooFew n t
 IsNoOffer name k n t refusal.NoMemory = ⊤
 IsNoOffer name k n t _ = ⊥
 
@@ -149,23 +153,26 @@ IsBadSetup p s k correct = ¬ (IsRunnable p s k correct)
 -- why a schedule isn't run: a bad setup, else the first event that names what the setup hasn't
 abbrev pub IsNotRun : ProgramTree → Setup → PlanKind → List Event → List ℕ → Refusal → Type 0
 IsNotRun p s k events correct (refusal.Run run.BadSetup) = IsBadSetup p s k correct
-IsNotRun p s k events correct (refusal.Run fault) = (¬ (IsBadSetup p s k correct)) × IsUnknownAt s events fault
+IsNotRun p s k events correct (refusal.Run fault) =
+    (¬ (IsBadSetup p s k correct)) × IsUnknownAt s events fault
 IsNotRun p s k events correct refusal.NoMemory = ⊤
 IsNotRun p s k events correct _ = ⊥
 
 -- a schedule and a program for it are there, and the program isn't run by it
 abbrev pub IsRefusedRun : Source → Files → Setup → PlanKind → List Event → List ℕ → Refusal → Type 0
 IsRefusedRun source files s k events correct r =
-    (p : ProgramTree) × IsProgramOf source files s.nodes s.faults p × IsNotRun p s k events correct r
+    (p : ProgramTree) × IsProgramOf source files s.nodes s.faults p
+    × IsNotRun p s k events correct r
 
 -- a schedule is there, and there is no program for it, or it isn't run
 abbrev pub IsRefusedFor : Source → Files → Option (List ℕ) → List ℕ → Refusal → Type 0
 IsRefusedFor source files file correct r =
-    (s : Setup) × (k : PlanKind) × (events : List Event) × IfSome file (λ held. IsSchedule held s k events)
+    (s : Setup) × (k : PlanKind) × (events : List Event)
+    × IfSome file (λ held. IsSchedule held s k events)
     × (IsNotOffered source s.nodes s.faults r ⊎ IsRefusedRun source files s k events correct r)
 
--- why a source isn't run by the schedule in a file: first the source's file, then the schedule's, then
--- the library, then the run
+-- why a source isn't run by the schedule in a file: first the source's file, then the schedule's,
+-- then the library, then the run
 abbrev pub IsUnanswered : Source → Files → Option (List ℕ) → List ℕ → Refusal → Type 0
 IsUnanswered source files file correct r =
     IsNotOpened source files r
@@ -188,12 +195,13 @@ abbrev pub IsRefusedCommand : Words → Files → Refusal → Type 0
 IsRefusedCommand w files refusal.Write = (text : List ℕ) × Prints w files text
 IsRefusedCommand w files r = IsUnserved w files r
 
--- the cause of a refusal: the words are no command, or the command that they mean is refused; `out` may
--- also not take the help that the words ask for, and of memory nothing is said
+-- the cause of a refusal: the words are no command, or the command that they mean is refused; `out`
+-- may also not take the help that the words ask for, and of memory nothing is said
 abbrev pub IsCause : List (List ℕ) → Files → Refusal → Type 0
 IsCause ws files (refusal.Words fault) = Explains ws fault
 IsCause ws files refusal.NoMemory = ⊤
-IsCause ws files refusal.Write = AsksForHelp ws ⊎ ((w : Words) × Means ws w × IsRefusedCommand w files refusal.Write)
+IsCause ws files refusal.Write =
+    AsksForHelp ws ⊎ ((w : Words) × Means ws w × IsRefusedCommand w files refusal.Write)
 IsCause ws files r = (w : Words) × Means ws w × IsRefusedCommand w files r
 
 -- known bytes of `out` stay as they were, unless it takes no more
@@ -202,7 +210,8 @@ IsSilent old new refusal.Write = ⊤
 IsSilent old new r = Keeps old new
 
 -- a command was refused for a cause that stands, and `out` gained nothing, unless it takes no more
-pub record IsRefused (ws : List (List ℕ)) (files : Files) (status : ℕ) (old new : Option (List ℕ)) : Type 0 where
+pub record IsRefused (ws : List (List ℕ)) (files : Files) (status : ℕ)
+    (old new : Option (List ℕ)) : Type 0 where
   pub refusal : Refusal
   pub cause : IsCause ws files refusal
   pub exit : status ≡ status_of refusal

@@ -1,5 +1,6 @@
 -- What the program writes, as a relation of its words to the files on the desk.
-use Rattle.std.specs.Prelude.{◌≡◌, ◌++◌, ◌⊎◌, ℕ, Bool, List, Option, IfSome, codes, length, true, if◌then◌else◌}
+use Rattle.std.specs.Prelude.{◌≡◌, ◌++◌, ◌⊎◌, ℕ, Bool, List, Option, IfSome, codes, length, true}
+use Rattle.std.specs.Prelude.{if◌then◌else◌}
 use Rattle.std.specs.Fmt.{decimal}
 use Rattle.std.specs.Io.KnownBytes.{Appends}
 use Rattle.std.specs.Str.{bytes_eq}
@@ -50,19 +51,21 @@ pub record IsCheckedSource (text : List ℕ) (p : ProgramTree) : Type 0 where
 
 -- the program of a source, for so many nodes and faults: what the file's text is, or the library's
 abbrev pub IsProgramOf : Source → Files → (nodes faults : ℕ) → ProgramTree → Type 0
-IsProgramOf (File name) files nodes faults p = IfSome (files (file_name name.now)) (λ text. IsCheckedSource text p)
+IsProgramOf (File name) files nodes faults p =
+    IfSome (files (file_name name.now)) (λ text. IsCheckedSource text p)
 IsProgramOf (Library name values) files nodes faults p = Offers name.now values nodes faults p
 
 -- a source that was opened: the program of its file, or what it names of the library
 abbrev pub Opens : Source → Files → Opened → Type 0
-Opens (File name) files (opened.File p) = IfSome (files (file_name name.now)) (λ text. IsCheckedSource text p)
+Opens (File name) files (opened.File p) =
+    IfSome (files (file_name name.now)) (λ text. IsCheckedSource text p)
 Opens (Library name values) files (opened.Library n k) = (n ≡ name) × (k ≡ values)
 Opens _ files _ = ⊥
 
 -- the program of an opened source, for so many nodes and faults
-abbrev pub Holds : Opened → (nodes faults : ℕ) → ProgramTree → Type 0
-Holds (opened.File q) nodes faults p = p ≡ q
-Holds (opened.Library name values) nodes faults p = Offers name.now values nodes faults p
+abbrev pub HoldsProgram : Opened → (nodes faults : ℕ) → ProgramTree → Type 0
+HoldsProgram (opened.File q) nodes faults p = p ≡ q
+HoldsProgram (opened.Library name values) nodes faults p = Offers name.now values nodes faults p
 
 -- at which step each round starts, by the plan's name
 abbrev pub start_of : PlanKind → ℕ → ℕ → ℕ
@@ -75,30 +78,35 @@ receives_of (Known delta) r = delta
 receives_of Growing r = r
 
 -- the text is this schedule
-pub record IsSchedule (text : List ℕ) (s : Setup) (k : PlanKind) (events : List Event) : Type 0 where
+pub record IsSchedule (text : List ℕ) (s : Setup) (k : PlanKind)
+    (events : List Event) : Type 0 where
   pub fits : IsText max_schedule text
   pub says : Says text s k events
 
 -- `ok values K period P variables M`
 abbrev pub summary_text : ProgramTree → List ℕ
 summary_text p =
-    codes "ok values " ++ decimal p.values ++ codes " period " ++ decimal p.period ++ codes " variables "
-    ++ decimal (length p.variables) ++ codes "\n"
+    codes "ok values " ++ decimal p.values ++ codes " period " ++ decimal p.period
+    ++ codes " variables " ++ decimal (length p.variables) ++ codes "\n"
 
 -- the report of the source's run under the schedule in a file
 abbrev pub ReportsRun : Source → Files → Option (List ℕ) → Report → Type 0
-ReportsRun source files file report = IfSome file (λ text. (s : Setup) × (k : PlanKind) × (events : List Event) × (p : ProgramTree)
-    × IsSchedule text s k events × IsProgramOf source files s.nodes s.faults p × IsReportOf (start_of k s.nodes) p s events report)
+ReportsRun source files file report =
+    IfSome file (λ text. (s : Setup) × (k : PlanKind) × (events : List Event) × (p : ProgramTree)
+    × IsSchedule text s k events × IsProgramOf source files s.nodes s.faults p
+    × IsReportOf (start_of k s.nodes) p s events report)
 
 -- the verdict on the source's run under the schedule in a file
 abbrev pub JudgesRun : Source → Files → Option (List ℕ) → List ℕ → ℕ → ℕ → Verdict → Type 0
-JudgesRun source files file correct delta gst verdict = IfSome file (λ text. (s : Setup) × (k : PlanKind) × (events : List Event) × (p : ProgramTree)
+JudgesRun source files file correct delta gst verdict =
+    IfSome file (λ text. (s : Setup) × (k : PlanKind) × (events : List Event) × (p : ProgramTree)
     × IsSchedule text s k events × IsProgramOf source files s.nodes s.faults p
     × IsVerdictOf (start_of k s.nodes) (receives_of k) p s events correct delta gst verdict)
 
 -- the answer to a question on a run
 abbrev pub AnswersRun : Source → Files → Option (List ℕ) → Question → Answer → Type 0
-AnswersRun source files file (question.Report told) (answer.Report report shown) = (shown ≡ told) × ReportsRun source files file report
+AnswersRun source files file (question.Report told) (answer.Report report shown) =
+    (shown ≡ told) × ReportsRun source files file report
 AnswersRun source files file (question.Verdict terms) (answer.Verdict verdict) =
     JudgesRun source files file terms.correct.now terms.delta terms.gst verdict
 AnswersRun source files file _ _ = ⊥
@@ -108,7 +116,8 @@ abbrev pub Answered : (start receives : ℕ → ℕ) → ProgramTree → Schedul
 Answered start receives p s (question.Report told) (answer.Report report shown) =
     (shown ≡ told) × IsReportOf start p s.setup s.events.items report
 Answered start receives p s (question.Verdict terms) (answer.Verdict verdict) =
-    IsVerdictOf start receives p s.setup s.events.items terms.correct.now terms.delta terms.gst verdict
+    IsVerdictOf start receives p s.setup s.events.items terms.correct.now
+    terms.delta terms.gst verdict
 Answered start receives p s _ _ = ⊥
 
 -- the report, with what all decisions in it come to where that was asked for
@@ -121,11 +130,15 @@ answer_text (answer.Verdict verdict) = verdict_text verdict ++ codes "\n"
 
 -- what a command prints; a program is checked as for one node without faults
 abbrev pub Prints : Words → Files → List ℕ → Type 0
-Prints (Check source) files text = (p : ProgramTree) × IsProgramOf source files 1 0 p × (text ≡ summary_text p)
+Prints (Check source) files text =
+    (p : ProgramTree) × IsProgramOf source files 1 0 p × (text ≡ summary_text p)
 Prints (Run source schedule told) files text =
-    (report : Report) × ReportsRun source files (files schedule.now) report × (text ≡ told_text report told)
+    (report : Report) × ReportsRun source files (files schedule.now) report
+    × (text ≡ told_text report told)
 Prints (Judge source schedule correct delta gst) files text =
-    (verdict : Verdict) × JudgesRun source files (files schedule.now) correct.items delta gst verdict × (text ≡ verdict_text verdict ++ codes "\n")
+    (verdict : Verdict)
+    × JudgesRun source files (files schedule.now) correct.items delta gst verdict
+    × (text ≡ verdict_text verdict ++ codes "\n")
 
 -- `out` gained what the command prints
 abbrev pub Serves : Words → Files → Option (List ℕ) → Option (List ℕ) → Type 0
@@ -137,4 +150,5 @@ IsServed words files old new = (w : Words) × Means words w × Serves w files ol
 
 -- `clap` finds in the words a call for help or for the version
 abbrev pub AsksForHelp : List (List ℕ) → Type 0
-AsksForHelp words = IsAmong kind.DisplayHelp (fault_of roundc_app words) ⊎ IsAmong kind.DisplayVersion (fault_of roundc_app words)
+AsksForHelp words = IsAmong kind.DisplayHelp (fault_of roundc_app words)
+    ⊎ IsAmong kind.DisplayVersion (fault_of roundc_app words)

@@ -35,7 +35,8 @@ abbrev pub IsNoProgramOf : List ℕ → Refusal → Type 0
 IsNoProgramOf held (refusal.Source lang.TooLong) = max_text < length held
 IsNoProgramOf held (refusal.Source lang.NoMemory) = ⊥
 IsNoProgramOf held (refusal.Source fault) = (p : ProgramTree) → ¬ (IsSource held p)
-IsNoProgramOf held (refusal.Check fault) = (p : ProgramTree) × IsSource held p × (fault_of p ≡ Some fault)
+IsNoProgramOf held (refusal.Check fault) =
+    (p : ProgramTree) × IsSource held p × (fault_of p ≡ Some fault)
 IsNoProgramOf held refusal.NoMemory = ⊤
 IsNoProgramOf held _ = ⊥
 
@@ -61,7 +62,8 @@ IsNoScheduleOf held _ = ⊥
 
 -- the schedule of what was read, and why there is none
 abbrev pub IsScheduleIn : Text → Schedule → Type 0
-IsScheduleIn (text.Whole bytes) s = IsUtf8 bytes.items × Says bytes.items s.setup s.plan s.events.items
+IsScheduleIn (text.Whole bytes) s =
+    IsUtf8 bytes.items × Says bytes.items s.setup s.plan s.events.items
 IsScheduleIn (text.Longer bytes) s = ⊥
 
 abbrev pub IsNoScheduleIn : Text → Refusal → Type 0
@@ -83,15 +85,18 @@ listed_by (question.Verdict terms) = terms.correct.now
 
 -- why a schedule isn't run under a plan
 abbrev pub IsNotRunAs : ProgramTree → Setup → List Event → List ℕ → Refusal → Type 0
-IsNotRunAs p s events correct (refusal.Run run.BadSetup) = ¬ (IsLawful p.values s × All (λ n. n < s.nodes) correct)
+IsNotRunAs p s events correct (refusal.Run run.BadSetup) =
+    ¬ (IsLawful p.values s × All (λ n. n < s.nodes) correct)
 IsNotRunAs p s events correct (refusal.Run fault) =
     (¬ ¬ (IsLawful p.values s × All (λ n. n < s.nodes) correct)) × IsUnknownAt s events fault
 IsNotRunAs p s events correct refusal.NoMemory = ⊤
 IsNotRunAs p s events correct _ = ⊥
 
 -- `out` gained the answer to a question on a run
-abbrev pub TellsAnswer : Source → Files → Option (List ℕ) → Question → Option (List ℕ) → Option (List ℕ) → Type 0
-TellsAnswer source files file q old new = (a : Answer) × AnswersRun source files file q a × Appends old new (answer_text a)
+abbrev pub TellsAnswer : Source → Files → Option (List ℕ) → Question
+    → Option (List ℕ) → Option (List ℕ) → Type 0
+TellsAnswer source files file q old new =
+    (a : Answer) × AnswersRun source files file q a × Appends old new (answer_text a)
 
 -- why an answer isn't told
 abbrev pub IsRefusedAnswer : Source → Files → Option (List ℕ) → Question → Refusal → Type 0

@@ -12,7 +12,8 @@ Files = List ℕ → Option (List ℕ)
 -- what was read of a file: all that it has, or its first bytes where it is longer than its limit
 abbrev pub IsTextOf : ℕ → Text → List ℕ → Type 0
 IsTextOf limit (text.Whole bytes) held = (length held ≤ limit) × (bytes.items ≡ held)
-IsTextOf limit (text.Longer bytes) held = (limit < length held) × (bytes.items ≡ take (limit + 1) held)
+IsTextOf limit (text.Longer bytes) held =
+    (limit < length held) × (bytes.items ≡ take (limit + 1) held)
 
 -- the bytes begin a text in UTF-8: what is behind the last whole character could begin one
 abbrev pub BeginsUtf8 : List ℕ → Type 0

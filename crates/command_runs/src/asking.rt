@@ -1,7 +1,8 @@
 //! What is asked of the run of a schedule.
 ghost use Rattle.std.specs.Prelude.{◌≡◌, IfErr, IfOk, IfSome};
 ghost use Rattle.command_runs.specs.Refused.{IsNoSchedule, IsNotRun, IsUnanswered};
-ghost use Rattle.command_runs.specs.Served.{Answered, AnswersRun, IsSchedule, receives_of, start_of};
+ghost use Rattle.command_runs.specs.Served.{Answered, AnswersRun, IsSchedule, receives_of};
+ghost use Rattle.command_runs.specs.Served.{start_of};
 ghost use Rattle.command_runs.specs.Stages.{IsNoScheduleIn, IsNotRunAs, IsScheduleIn, listed_by};
 
 use crate::desk::Desk;

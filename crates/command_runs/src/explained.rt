@@ -57,8 +57,8 @@ pub struct Terms<'a> {
 
 /// The verdict on running a schedule's events in single steps.
 ///
-/// Refusals are those of `run_schedule`; `BadSetup` is also answered where a node of `correct` isn't
-/// one of the run's.
+/// Refusals are those of `run_schedule`; `BadSetup` is also answered where a node of `correct`
+/// isn't one of the run's.
 pub fn judged_run<P: Plan>(
     alloc: Global,
     program: &Checked,

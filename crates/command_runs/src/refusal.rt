@@ -2,7 +2,9 @@
 ghost use Rattle.std.specs.Prelude.{◌≡◌, IfSome, OnOk};
 ghost use Rattle.std.specs.Io.KnownBytes.{Appends};
 ghost use Rattle.std.specs.Fmt.{DisplaysOnOk, WritesOnOk};
-ghost use Rattle.command_runs.specs.Lines.{check_line, library_line, line_of, memory_line, run_line, schedule_line, source_line, status_of, words_line};
+ghost use Rattle.command_runs.specs.Lines.{check_line, library_line, line_of, memory_line};
+ghost use Rattle.command_runs.specs.Lines.{run_line, schedule_line, source_line, status_of};
+ghost use Rattle.command_runs.specs.Lines.{words_line};
 
 use crate::desk::DeskFault;
 use adversary::{RunFault, ScheduleFault};

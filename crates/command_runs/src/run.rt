@@ -2,7 +2,8 @@
 ghost use Rattle.std.specs.Prelude.{◌≡◌, ◌<◌, ◌≤◌, ◌⊎◌, IfErr, IsOk, OnOk, map};
 ghost use Rattle.std.specs.Io.KnownBytes.{Appends, Keeps};
 ghost use Rattle.command_runs.specs.Refused.{IsCause, IsRefused, IsRefusedCommand, IsSilent};
-ghost use Rattle.command_runs.specs.Served.{AsksForHelp, IsServed, Serves, answer_text, summary_text};
+ghost use Rattle.command_runs.specs.Served.{AsksForHelp, IsServed, Serves, answer_text};
+ghost use Rattle.command_runs.specs.Served.{summary_text};
 ghost use Rattle.command_runs.specs.Stages.{IsRefusedAnswer, TellsAnswer};
 
 use crate::asking::{Answer, Question, Run};
@@ -58,7 +59,8 @@ fn serve<'a, D: Desk, O: Write>(
     out: &mut O,
 ) -> Result<(), Refusal>
     ensures served { OnOk result (IsServed (map (λ s. s.now) words.entry.now) (D.files desk.old)
-        (O.contents out.old) (O.contents out.new) ⊎ AsksForHelp (map (λ s. s.now) words.entry.now)) }
+        (O.contents out.old) (O.contents out.new)
+        ⊎ AsksForHelp (map (λ s. s.now) words.entry.now)) }
     ensures refused { IfErr result (IsCause (map (λ s. s.now) words.entry.now) (D.files desk.old)) }
     ensures silent { IfErr result (IsSilent (O.contents out.old) (O.contents out.new)) }
     ensures written { D.written desk.new ≡ D.written desk.old }

@@ -2,7 +2,7 @@
 ghost use Rattle.std.specs.Prelude.{◌≡◌, ℕ, List, IfErr, IfOk, IfSome, true};
 ghost use Rattle.command_runs.specs.Library.{Offers};
 ghost use Rattle.command_runs.specs.Refused.{IsNoOffer, IsNoProgram, IsNotOpened};
-ghost use Rattle.command_runs.specs.Served.{Holds, IsCheckedSource, Opens, file_name};
+ghost use Rattle.command_runs.specs.Served.{HoldsProgram, IsCheckedSource, Opens, file_name};
 ghost use Rattle.command_runs.specs.Stages.{IsHeldBack, IsNoProgramIn, IsNoProgramOf, IsProgramIn};
 ghost use Rattle.round_check.specs.Causes.{is_typed};
 ghost use Rattle.round_lang.specs.Source.{IsSource};
@@ -45,7 +45,7 @@ impl<'a> Opened<'a> {
 
     /// The program, for a run on so many nodes of which up to `faults` may fail.
     pub fn program(self, alloc: Global, nodes: u32, faults: u32) -> Result<Checked, Refusal>
-        ensures program { IfOk result (Holds self.entry nodes faults) }
+        ensures program { IfOk result (HoldsProgram self.entry nodes faults) }
         ensures refused { IfErr result (IsHeldBack self.entry nodes faults) }
     {
         match self {

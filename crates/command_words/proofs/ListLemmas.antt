@@ -1,10 +1,12 @@
 -- The loop over the texts between commas.
-use Rattle.std.proofs.Common.{◌≡◌, ◌++◌, ◌<◌, ◌≤◌, ◌+◌, ℕ, List, [], ◌∷◌, length, drop, get_or, sym, subst}
+use Rattle.std.proofs.Common.{◌≡◌, ◌++◌, ◌<◌, ◌≤◌, ◌+◌, ℕ, List, [], ◌∷◌, length, drop, get_or, sym}
+use Rattle.std.proofs.Common.{subst}
 use Rattle.std.proofs.lemmas.List.{append_assoc, append-nil, drop_all, drop_more}
 use Rattle.clap.specs.Words.{Text}
 use Rattle.command_words.specs.Values.{AreNumbers, NumberText}
 
--- The first i texts are these numbers': what the others are follows them, and there are such where all are numbers'.
+-- The first i texts are these numbers': what the others are follows them, and there are such where
+-- all are numbers'.
 pub record IsReadTo (texts : List Text) (i : ℕ) (ns : List ℕ) : Type 0 where
   pub goes_on : (more : List ℕ) → AreNumbers (drop i texts) more → AreNumbers texts (ns ++ more)
   pub came : (all : List ℕ) → AreNumbers texts all → (more : List ℕ) × AreNumbers (drop i texts) more

@@ -1,5 +1,6 @@
 -- The parts of a library source, and the tests that read them.
-use Rattle.std.proofs.Common.{◌≡◌, ◌≢◌, ◌++◌, ℕ, List, [], ◌∷◌, Bool, true, false, length, arith, zero, suc, ap, sym, refl, ◌∙◌, subst}
+use Rattle.std.proofs.Common.{◌≡◌, ◌≢◌, ◌++◌, ℕ, List, [], ◌∷◌, Bool, true, false, length, arith}
+use Rattle.std.proofs.Common.{zero, suc, ap, sym, refl, ◌∙◌, subst}
 use borrow.Author.Tests.{le-leb, leb-true}
 use Rattle.std.specs.Prelude.{nat_le, ◌↔◌, ◌≤◌}
 use Rattle.std.specs.Char.{is_ascii_digit}
@@ -10,7 +11,8 @@ use Rattle.std.proofs.lemmas.Str.{digit_value_digit}
 use Rattle.std.proofs.lemmas.Str.Parse.{digit_from_value}
 use Rattle.clap.proofs.CutLemmas.{Lacks, after_first-at, before_first-at}
 use Rattle.clap.specs.Words.{Text}
-use Rattle.command_words.specs.Values.{SourceText, begins_name, colon, continues_name, is_colon, is_name}
+use Rattle.command_words.specs.Values.{SourceText, begins_name, colon, continues_name, is_colon}
+use Rattle.command_words.specs.Values.{is_name}
 use Rattle.command_words.specs.declared.values.Source.{Source}
 use Rattle.command_words.specs.declared.values.Source.TheVariants.{File, Library}
 

@@ -16,12 +16,14 @@ text_rule name =
 
 -- `--decided`, which stands there or not
 abbrev pub decided_rule : Rule
-decided_rule = record (new_rule (codes "decided")) { long = Some (codes "decided"); action = Some SetTrue }
+decided_rule =
+    record (new_rule (codes "decided")) { long = Some (codes "decided"); action = Some SetTrue }
 
 -- `run SOURCE --schedule FILE [--decided]`
 abbrev pub run_app : App
 run_app =
-    with_rule (with_rule (with_rule (new_app (codes "run")) source_rule) (text_rule (codes "schedule"))) decided_rule
+    with_rule (with_rule (with_rule (new_app (codes "run")) source_rule)
+    (text_rule (codes "schedule"))) decided_rule
 
 -- `check SOURCE`
 abbrev pub check_app : App
@@ -31,7 +33,8 @@ check_app = with_rule (new_app (codes "check")) source_rule
 abbrev pub judge_app : App
 judge_app =
     with_rule (with_rule (with_rule (with_rule (with_rule (new_app (codes "judge")) source_rule)
-    (text_rule (codes "schedule"))) (text_rule (codes "correct"))) (text_rule (codes "delta"))) (text_rule (codes "gst"))
+    (text_rule (codes "schedule"))) (text_rule (codes "correct"))) (text_rule (codes "delta")))
+    (text_rule (codes "gst"))
 
 -- the command line with no command in it yet
 abbrev pub bare_app : App
@@ -45,7 +48,8 @@ bare_app = let new = new_app (codes "roundc") in record new {
 
 -- the whole command line
 abbrev pub roundc_app : App
-roundc_app = with_subcommand (with_subcommand (with_subcommand bare_app check_app.top) run_app.top) judge_app.top
+roundc_app = with_subcommand
+    (with_subcommand (with_subcommand bare_app check_app.top) run_app.top) judge_app.top
 
 -- what a parse reads of the command is this, and none of its arguments is global
 abbrev pub IsCommandOf : App → Command → Type 0

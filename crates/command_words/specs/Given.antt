@@ -1,11 +1,13 @@
 -- What the words of a command line say, by `clap`'s own definition of a simple command's matches.
-use Rattle.std.specs.Prelude.{◌≡◌, ◌≢◌, ◌≤◌, ◌⊎◌, ◌↔◌, ◌∷◌, ◌&&◌, ◌||◌, ℕ, Bool, IsTrue, List, None, Some, codes, [], false, true, ⊤}
+use Rattle.std.specs.Prelude.{◌≡◌, ◌≢◌, ◌≤◌, ◌⊎◌, ◌↔◌, ◌∷◌, ◌&&◌, ◌||◌, ℕ, Bool, IsTrue, List, None}
+use Rattle.std.specs.Prelude.{Some, codes, [], false, true, ⊤}
 use Rattle.std.specs.Str.{bytes_eq}
 use Rattle.clap.specs.Words.{Row, Text, first_of, subcommand_of, fault_of, IsAmong, kind_of}
 use Rattle.clap.specs.declared.error.Error.{Error}
 use Rattle.clap.specs.declared.error.kind.ErrorKind.TheVariants.{OutOfMemory}
 use Rattle.command_words.specs.Commands.{roundc_app}
-use Rattle.command_words.specs.Values.{IsNoList, ListText, NumberText, SourceText, is_negative, max_delta}
+use Rattle.command_words.specs.Values.{IsNoList, ListText, NumberText, SourceText, is_negative}
+use Rattle.command_words.specs.Values.{max_delta}
 use Rattle.command_words.specs.declared.values.Source.{Source}
 use Rattle.command_words.specs.declared.words.Words.{Words}
 use Rattle.command_words.specs.declared.words.Words.TheVariants.{Check, Judge, Run}
@@ -20,11 +22,13 @@ GivesSource rows source =
 
 -- the argument has a value, and it is the text of the list
 abbrev pub GivesList : List Row → List ℕ → Type 0
-GivesList rows list = (text : Text) × (first_of (codes "correct") rows ≡ Some text) × ListText text list
+GivesList rows list =
+    (text : Text) × (first_of (codes "correct") rows ≡ Some text) × ListText text list
 
 -- the argument has a value, and it is the text of a number of 1 to 1,024
 abbrev pub GivesDelta : List Row → ℕ → Type 0
-GivesDelta rows n = (text : Text) × (first_of (codes "delta") rows ≡ Some text) × NumberText text n × (1 ≤ n) × (n ≤ max_delta)
+GivesDelta rows n = (text : Text) × (first_of (codes "delta") rows ≡ Some text)
+    × NumberText text n × (1 ≤ n) × (n ≤ max_delta)
 
 -- the argument has a value, and it is the text of the number
 abbrev pub GivesGst : List Row → ℕ → Type 0
@@ -39,8 +43,9 @@ abbrev pub Gives : Text → List Row → Words → Type 0
 Gives name rows (Check source) = (name ≡ codes "check") × GivesSource rows source
 Gives name rows (Run source schedule decided) = (name ≡ codes "run") × GivesSource rows source
     × (first_of (codes "schedule") rows ≡ Some schedule.now) × (IsTrue decided ↔ HasFlag rows)
-Gives name rows (Judge source schedule correct delta gst) = (name ≡ codes "judge") × GivesSource rows source
-    × (first_of (codes "schedule") rows ≡ Some schedule.now) × GivesList rows correct.items × GivesDelta rows delta
+Gives name rows (Judge source schedule correct delta gst) = (name ≡ codes "judge")
+    × GivesSource rows source × (first_of (codes "schedule") rows ≡ Some schedule.now)
+    × GivesList rows correct.items × GivesDelta rows delta
     × GivesGst rows gst
 
 -- the words name a command, and give it its values
@@ -60,10 +65,12 @@ abbrev pub FailsByFile : List Row → WordsFault → Type 0
 FailsByFile rows Missing = first_of (codes "schedule") rows ≡ None
 FailsByFile rows _ = ⊥
 
--- the fault of LIST: it has no value, or one that is the text of no list, or there was no memory for the list
+-- the fault of LIST: it has no value, or one that is the text of no list, or there was no memory
+-- for the list
 abbrev pub FailsByList : List Row → WordsFault → Type 0
 FailsByList rows Missing = first_of (codes "correct") rows ≡ None
-FailsByList rows fault.List = (text : Text) × (first_of (codes "correct") rows ≡ Some text) × IsNoList text fault.List
+FailsByList rows fault.List =
+    (text : Text) × (first_of (codes "correct") rows ≡ Some text) × IsNoList text fault.List
 FailsByList rows NoMemory = ⊤
 FailsByList rows _ = ⊥
 
@@ -77,7 +84,8 @@ FailsByDelta rows _ = ⊥
 -- the fault of G: it has no value, or one that is the text of no number
 abbrev pub FailsByGst : List Row → WordsFault → Type 0
 FailsByGst rows Missing = first_of (codes "gst") rows ≡ None
-FailsByGst rows fault.Gst = (text : Text) × (first_of (codes "gst") rows ≡ Some text) × ((n : ℕ) → ¬ (NumberText text n))
+FailsByGst rows fault.Gst =
+    (text : Text) × (first_of (codes "gst") rows ≡ Some text) × ((n : ℕ) → ¬ (NumberText text n))
 FailsByGst rows _ = ⊥
 
 -- the fault of a value of `run`
@@ -87,14 +95,17 @@ FailsByRun rows fault = FailsBySource rows fault ⊎ FailsByFile rows fault
 -- the fault of a value of `judge`
 abbrev pub FailsByJudge : List Row → WordsFault → Type 0
 FailsByJudge rows fault =
-    FailsByRun rows fault ⊎ (FailsByList rows fault ⊎ (FailsByDelta rows fault ⊎ FailsByGst rows fault))
+    FailsByRun rows fault
+    ⊎ (FailsByList rows fault ⊎ (FailsByDelta rows fault ⊎ FailsByGst rows fault))
 
 -- the fault of a command's values; a command of another name lacks all
 abbrev pub FailsByValue : Text → List Row → WordsFault → Type 0
 FailsByValue name rows fault =
-    ((name ≡ codes "check") × FailsBySource rows fault) ⊎ (((name ≡ codes "run") × FailsByRun rows fault)
+    ((name ≡ codes "check") × FailsBySource rows fault)
+    ⊎ (((name ≡ codes "run") × FailsByRun rows fault)
     ⊎ (((name ≡ codes "judge") × FailsByJudge rows fault)
-    ⊎ (((name ≢ codes "check") × (name ≢ codes "run") × (name ≢ codes "judge")) × (fault ≡ Missing))))
+    ⊎ (((name ≢ codes "check") × (name ≢ codes "run") × (name ≢ codes "judge"))
+    × (fault ≡ Missing))))
 
 -- `clap` finds no mistake in the words, and a value of the command that they name has the fault
 abbrev pub HasBadValue : List Text → WordsFault → Type 0
@@ -108,7 +119,8 @@ begins_negative (word ∷ rest) = is_negative word
 
 abbrev pub has_negative : Text → List Text → Bool
 has_negative option [] = false
-has_negative option (word ∷ rest) = (bytes_eq word option && begins_negative rest) || has_negative option rest
+has_negative option (word ∷ rest) =
+    (bytes_eq word option && begins_negative rest) || has_negative option rest
 
 -- a value isn't of its form, or is a number below 0
 abbrev pub HasBadNumber : Text → List Text → WordsFault → Type 0

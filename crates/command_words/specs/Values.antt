@@ -1,5 +1,6 @@
 -- The texts of SOURCE, LIST and numbers, which `clap` passes on as they were written.
-use Rattle.std.specs.Prelude.{◌≡◌, ◌≢◌, ◌++◌, ◌∷◌, ◌==◌, ◌&&◌, ◌||◌, ◌<◌, ◌^◌, [], ℕ, Bool, IsTrue, List, false, min, ⊤}
+use Rattle.std.specs.Prelude.{◌≡◌, ◌≢◌, ◌++◌, ◌∷◌, ◌==◌, ◌&&◌, ◌||◌, ◌<◌, ◌^◌, [], ℕ, Bool, IsTrue}
+use Rattle.std.specs.Prelude.{List, false, min, ⊤}
 use Rattle.std.specs.Char.{is_ascii_alphabetic, is_ascii_alphanumeric, is_ascii_digit}
 use Rattle.std.specs.List.{list_all, slice_split}
 use Rattle.std.specs.Str.Parse.{IsNumeral, digits_value}

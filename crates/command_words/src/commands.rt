@@ -1,7 +1,8 @@
 //! The commands, made by `clap`'s builders: one function for each argument and each command.
 ghost use Rattle.std.specs.Prelude.{◌≡◌, IfOk, codes, false};
 ghost use Rattle.clap.specs.Words.{rule_of};
-ghost use Rattle.command_words.specs.Commands.{IsCommandOf, check_app, decided_rule, judge_app, roundc_app, run_app, source_rule, text_rule};
+ghost use Rattle.command_words.specs.Commands.{IsCommandOf, check_app, decided_rule, judge_app};
+ghost use Rattle.command_words.specs.Commands.{roundc_app, run_app, source_rule, text_rule};
 
 use clap::{Arg, ArgAction, Command};
 use std::alloc::{AllocError, Global};

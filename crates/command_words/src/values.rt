@@ -1,9 +1,11 @@
 //! The values SOURCE, LIST, D and G, which `clap` passes on as any text.
-ghost use Rattle.std.specs.Prelude.{◌≡◌, ◌≢◌, ◌↔◌, ◌∷◌, ◌++◌, [], ℕ, List, IfErr, IfNone, IfOk, IfSome, IsTrue, MatchOption, min};
+ghost use Rattle.std.specs.Prelude.{◌≡◌, ◌≢◌, ◌↔◌, ◌∷◌, ◌++◌, [], ℕ, List, IfErr, IfNone, IfOk};
+ghost use Rattle.std.specs.Prelude.{IfSome, IsTrue, MatchOption, min};
 ghost use Rattle.std.specs.Char.{is_ascii_digit};
 ghost use Rattle.std.specs.List.{after_first, before_first, list_all};
 ghost use Rattle.std.specs.Str.Parse.{IsNumeral, digits_value};
-ghost use Rattle.command_words.specs.Values.{IsNoList, ListText, NumberText, SourceText, at_sign, begins_name, colon, continues_name, is_colon, is_name};
+ghost use Rattle.command_words.specs.Values.{IsNoList, ListText, NumberText, SourceText, at_sign};
+ghost use Rattle.command_words.specs.Values.{begins_name, colon, continues_name, is_colon, is_name};
 
 use crate::words::WordsFault;
 use std::alloc::Global;

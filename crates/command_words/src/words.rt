@@ -1,8 +1,12 @@
 //! What the words say.
-ghost use Rattle.std.specs.Prelude.{◌≡◌, ◌≢◌, ◌⊎◌, ◌↔◌, [], IfErr, IfOk, IsTrue, OnErr, OnOk, codes, map};
+ghost use Rattle.std.specs.Prelude.{◌≡◌, ◌≢◌, ◌⊎◌, ◌↔◌, [], IfErr, IfOk, IsTrue, OnErr, OnOk};
+ghost use Rattle.std.specs.Prelude.{codes, map};
 ghost use Rattle.clap.specs.Words.{fault_of, first_of, found_of, kind_of, rows_of};
 ghost use Rattle.command_words.specs.Commands.{roundc_app};
-ghost use Rattle.command_words.specs.Given.{Explains, FailsByDelta, FailsByGst, FailsByJudge, FailsByList, FailsBySource, FailsByValue, Gives, GivesDelta, GivesGst, GivesList, GivesSource, HasFlag, IsMistake, Means, begins_negative, has_negative};
+ghost use Rattle.command_words.specs.Given.{Explains, FailsByDelta, FailsByGst, FailsByJudge};
+ghost use Rattle.command_words.specs.Given.{FailsByList, FailsBySource, FailsByValue, Gives};
+ghost use Rattle.command_words.specs.Given.{GivesDelta, GivesGst, GivesList, GivesSource, HasFlag};
+ghost use Rattle.command_words.specs.Given.{IsMistake, Means, begins_negative, has_negative};
 ghost use Rattle.command_words.specs.Values.{is_negative};
 ghost use Rattle.command_words.specs.declared.words.WordsFault.TheVariants.{NoMemory};
 
@@ -19,14 +23,15 @@ pub enum Words<'a> {
     Check {
         source: Source<'a>,
     },
-    /// `run SOURCE --schedule FILE [--decided]`; `schedule` is FILE as it was written, `-` included.
+    /// `run SOURCE --schedule FILE [--decided]`; `schedule` is FILE as it was written, `-`
+    /// included.
     Run {
         source: Source<'a>,
         schedule: &'a str,
         decided: bool,
     },
-    /// `judge SOURCE --schedule FILE --correct LIST --delta D --gst G`; `correct` has the numbers of
-    /// LIST in their order, also those that are there twice.
+    /// `judge SOURCE --schedule FILE --correct LIST --delta D --gst G`; `correct` has the numbers
+    /// of LIST in their order, also those that are there twice.
     Judge {
         source: Source<'a>,
         schedule: &'a str,
@@ -218,8 +223,8 @@ fn command_of<'a>(
 ///
 /// A value that is missing, a repeated option, an unknown word, no word at all and a call for help
 /// or the version are `WordsFault::Refused`, with `clap`'s error. Where SOURCE has a fault too,
-/// `clap`'s goes first. Where `clap` refuses the words and an option of `judge` has a number below 0
-/// behind it, that is told.
+/// `clap`'s goes first. Where `clap` refuses the words and an option of `judge` has a number below
+/// 0 behind it, that is told.
 pub fn read_words<'a>(alloc: Global, words: &'a [&'a str]) -> Result<Words<'a>, WordsFault>
     // The command and its values are those of `clap`'s definition of a simple command's matches,
     // in which it finds no mistake.

@@ -1,5 +1,7 @@
 -- A field that is read is the field that was written, and what was written is read again.
-use Rattle.std.proofs.Common.{◌≡◌, ℕ, zero, suc, ◌+◌, ◌*◌, ◌^◌, ◌<◌, ◌≤◌, Bool, true, false, cond, ltb, List, [], ◌∷◌, ◌++◌, length, get_or, drop, Option, Some, None, arith, refl, sym, ap, subst, ◌∙◌, eqb, append_assoc}
+use Rattle.std.proofs.Common.{◌≡◌, ℕ, zero, suc, ◌+◌, ◌*◌, ◌^◌, ◌<◌, ◌≤◌, Bool, true, false, cond}
+use Rattle.std.proofs.Common.{ltb, List, [], ◌∷◌, ◌++◌, length, get_or, drop, Option, Some, None}
+use Rattle.std.proofs.Common.{arith, refl, sym, ap, subst, ◌∙◌, eqb, append_assoc}
 use Rattle.std.specs.Prelude.{not}
 use Rattle.std.specs.List.{flat_map, All}
 use Rattle.std.proofs.lemmas.Bool.Decides.{nat_tests}
@@ -19,7 +21,8 @@ use Rattle.frame_format.specs.Formats.{width, size}
 use Rattle.frame_format.specs.Spelling.{IsOf, AreOf, field, flag_byte}
 use Rattle.frame_format.specs.Faults.{is_bad, bad_field}
 use Rattle.frame_format.specs.Reading.{field_at, fields_at}
-use Rattle.frame_format.proofs.Numbers.{IsBytes, IsBytes-drop, number_front, wide4, wide8, numbers_front, numbers_again}
+use Rattle.frame_format.proofs.Numbers.{IsBytes, IsBytes-drop, number_front, wide4, wide8}
+use Rattle.frame_format.proofs.Numbers.{numbers_front, numbers_again}
 
 -- what a field gives when it's read again
 pub record IsAgain (k : ℕ) (t : Kind) (v : Value) (rest : List ℕ) : Type 0 where

@@ -1,5 +1,7 @@
 -- The bytes with no fault are those that spell a frame, and the frame is the one that is read.
-use Rattle.std.proofs.Common.{◌≡◌, ℕ, zero, suc, ◌+◌, ◌-◌, ◌^◌, ◌<◌, ◌≤◌, false, cond, eqb, ltb, List, [], ◌∷◌, ◌++◌, length, get_or, drop, None, arith, refl, sym, ap, subst, ◌∙◌}
+use Rattle.std.proofs.Common.{◌≡◌, ℕ, zero, suc, ◌+◌, ◌-◌, ◌^◌, ◌<◌, ◌≤◌, false, cond, eqb, ltb}
+use Rattle.std.proofs.Common.{List, [], ◌∷◌, ◌++◌, length, get_or, drop, None, arith, refl, sym, ap}
+use Rattle.std.proofs.Common.{subst, ◌∙◌}
 use Rattle.std.specs.Prelude.{not, ◌&&◌, ◌||◌}
 use Rattle.std.specs.List.{flat_map}
 use Rattle.std.proofs.lemmas.Bool.Decides.{nat_tests}
@@ -7,14 +9,17 @@ use Rattle.std.proofs.lemmas.List.{length-drop, drop_all, drop_more, append-nil}
 use Rattle.byteorder.specs.Endian.{big_bytes, big_number}
 use Rattle.byteorder.specs.Numbers.{big_number-reads_back}
 use Rattle.round_lang.specs.declared.value.Value.{Value}
-use Rattle.frame_format.specs.declared.fault.FrameFault.TheVariants.{Short, BadMark, BadVersion, BadNode, BadRound, BadPosition, BadCopy, BadLength}
+use Rattle.frame_format.specs.declared.fault.FrameFault.TheVariants.{Short, BadMark, BadVersion}
+use Rattle.frame_format.specs.declared.fault.FrameFault.TheVariants.{BadNode, BadRound, BadPosition}
+use Rattle.frame_format.specs.declared.fault.FrameFault.TheVariants.{BadCopy, BadLength}
 use Rattle.frame_format.specs.declared.frame.Frame.{Frame}
 use Rattle.frame_format.specs.declared.version.FrameVersion.{FrameVersion}
 use Rattle.frame_format.specs.declared.version.FrameVersion.TheVariants.{V1, V2}
 use Rattle.frame_format.specs.Formats.{Format, IsFormat, position, kinds_at, size}
 use Rattle.frame_format.specs.Headers.{header, header_size, length_bytes, version_byte}
 use Rattle.frame_format.specs.Spelling.{Spells, OneSpelling, IsCopy, field}
-use Rattle.frame_format.specs.Places.{copy_at, copy_in, from_at, head_at, round_at, to_at, version_at}
+use Rattle.frame_format.specs.Places.{copy_at, copy_in, from_at, head_at, round_at, to_at}
+use Rattle.frame_format.specs.Places.{version_at}
 use Rattle.frame_format.specs.Faults.{first_fault, round_fault, length_fault, has_length, bad_field}
 use Rattle.frame_format.specs.Reading.{fields_at, frame_at, IsFrame, IsReadAs, SpelledIsRead}
 use Rattle.frame_format.proofs.Numbers.{IsBytes, IsBytes-drop, number_at, wide2, wide4}

@@ -1,7 +1,10 @@
 -- The numbers by which faults are reported.
 use Rattle.std.specs.Prelude.{ℕ}
 use Rattle.frame_format.specs.declared.fault.FrameFault.{FrameFault}
-use Rattle.frame_format.specs.declared.fault.FrameFault.TheVariants.{Short, BadMark, BadVersion, BadNode, BadRound, BadPosition, BadCopy, BadLength, BadField, NoMemory}
+use Rattle.frame_format.specs.declared.fault.FrameFault.TheVariants.{Short, BadMark, BadVersion}
+use Rattle.frame_format.specs.declared.fault.FrameFault.TheVariants.{BadNode, BadRound, BadPosition}
+use Rattle.frame_format.specs.declared.fault.FrameFault.TheVariants.{BadCopy, BadLength, BadField}
+use Rattle.frame_format.specs.declared.fault.FrameFault.TheVariants.{NoMemory}
 
 -- the number of a fault
 abbrev pub fault_number : FrameFault → ℕ

@@ -1,10 +1,13 @@
 -- The faults of bytes that spell no frame, in their order.
-use Rattle.std.specs.Prelude.{ℕ, ◌+◌, ◌-◌, ◌^◌, Bool, false, ◌&&◌, ◌||◌, not, List, [], ◌∷◌, length, drop, slice_index, Option, Some, None, nat_lt, ◌==◌, if◌then◌else◌}
+use Rattle.std.specs.Prelude.{ℕ, ◌+◌, ◌-◌, ◌^◌, Bool, false, ◌&&◌, ◌||◌, not, List, [], ◌∷◌, length}
+use Rattle.std.specs.Prelude.{drop, slice_index, Option, Some, None, nat_lt, ◌==◌, if◌then◌else◌}
 use Rattle.byteorder.specs.Endian.{big_number}
 use Rattle.round_lang.specs.declared.kind.Kind.{Kind}
 use Rattle.round_lang.specs.declared.kind.Kind.TheVariants.{Num, Flag, Set, Row}
 use Rattle.frame_format.specs.declared.fault.FrameFault.{FrameFault}
-use Rattle.frame_format.specs.declared.fault.FrameFault.TheVariants.{Short, BadMark, BadVersion, BadNode, BadRound, BadPosition, BadCopy, BadLength, BadField}
+use Rattle.frame_format.specs.declared.fault.FrameFault.TheVariants.{Short, BadMark, BadVersion}
+use Rattle.frame_format.specs.declared.fault.FrameFault.TheVariants.{BadNode, BadRound, BadPosition}
+use Rattle.frame_format.specs.declared.fault.FrameFault.TheVariants.{BadCopy, BadLength, BadField}
 use Rattle.frame_format.specs.Formats.{Format, kinds_at, position, size, width}
 use Rattle.frame_format.specs.Places.{copy_at, from_at, head_at, round_at, to_at}
 

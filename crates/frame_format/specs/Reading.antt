@@ -1,5 +1,6 @@
 -- What bytes say, read at their places.
-use Rattle.std.specs.Prelude.{◌≡◌, ◌≤◌, ℕ, zero, suc, ◌+◌, List, [], ◌∷◌, length, drop, slice_index, None, ◌==◌}
+use Rattle.std.specs.Prelude.{◌≡◌, ◌≤◌, ℕ, zero, suc, ◌+◌, List, [], ◌∷◌, length, drop, slice_index}
+use Rattle.std.specs.Prelude.{None, ◌==◌}
 use Rattle.byteorder.specs.Endian.{big_number}
 use Rattle.round_lang.specs.declared.kind.Kind.{Kind}
 use Rattle.round_lang.specs.declared.kind.Kind.TheVariants as kind

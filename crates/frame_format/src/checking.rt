@@ -1,6 +1,7 @@
 //! The first fault of bytes that are offered as a frame.
 ghost use Rattle.std.specs.Prelude.{◌≡◌, ◌≤◌, length, IfNone, IsNone};
-ghost use Rattle.frame_format.specs.Faults.{bad_field, first_fault, has_length, is_bad, length_fault, round_fault};
+ghost use Rattle.frame_format.specs.Faults.{bad_field, first_fault, has_length, is_bad};
+ghost use Rattle.frame_format.specs.Faults.{length_fault, round_fault};
 ghost use Rattle.frame_format.specs.Formats.{size, width, IsBlock};
 ghost use Rattle.frame_format.specs.Places.{head_at};
 ghost use Rattle.frame_format.specs.Reading.{IsFrame, IsReadAs};

@@ -1,5 +1,6 @@
 //! Frames from bytes.
-ghost use Rattle.std.specs.Prelude.{◌⊎◌, ◌≡◌, ◌≤◌, ◌*◌, ◌++◌, [], length, IfOk, IfErr, IfSome, IsErrOf, MatchResult, None, Some};
+ghost use Rattle.std.specs.Prelude.{◌⊎◌, ◌≡◌, ◌≤◌, ◌*◌, ◌++◌, [], length, IfOk, IfErr, IfSome};
+ghost use Rattle.std.specs.Prelude.{IsErrOf, MatchResult, None, Some};
 ghost use Rattle.frame_format.specs.Faults.{first_fault};
 ghost use Rattle.frame_format.specs.Formats.{size, width, IsBlock, kinds_at};
 ghost use Rattle.frame_format.specs.Reading.{field_at, fields_at, numbers};

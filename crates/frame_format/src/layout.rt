@@ -1,7 +1,9 @@
 //! What frames the messages of a program have.
-ghost use Rattle.std.specs.Prelude.{ℕ, ◌≡◌, ◌≤◌, ◌<◌, ◌+◌, ◌-◌, ◌%◌, [], length, slice_get, slice_index_or, option_copied, unwrap_or, IfOk, Some};
+ghost use Rattle.std.specs.Prelude.{ℕ, ◌≡◌, ◌≤◌, ◌<◌, ◌+◌, ◌-◌, ◌%◌, [], length, slice_get};
+ghost use Rattle.std.specs.Prelude.{slice_index_or, option_copied, unwrap_or, IfOk, Some};
 ghost use Rattle.round_check.specs.Shapes.{message_kinds};
-ghost use Rattle.frame_format.specs.Formats.{format_of, kinds_at, position, size, IsBlock, IsFormat};
+ghost use Rattle.frame_format.specs.Formats.{format_of, kinds_at, position, size, IsBlock};
+ghost use Rattle.frame_format.specs.Formats.{IsFormat};
 
 use crate::block::BlockLayout;
 use round_check::Checked;

@@ -1,7 +1,9 @@
 -- Rows and sets that are written.
-use Rattle.std.proofs.Common.{◌≡◌, ℕ, ◌+◌, ◌*◌, ◌%◌, ◌^◌, ◌<◌, ◌≤◌, List, [], ◌∷◌, ◌++◌, length, get_or, take, drop, arith, sym, ap, subst, ◌∙◌, append_assoc}
+use Rattle.std.proofs.Common.{◌≡◌, ℕ, ◌+◌, ◌*◌, ◌%◌, ◌^◌, ◌<◌, ◌≤◌, List, [], ◌∷◌, ◌++◌, length}
+use Rattle.std.proofs.Common.{get_or, take, drop, arith, sym, ap, subst, ◌∙◌, append_assoc}
 use Rattle.std.specs.List.{flat_map, All}
-use Rattle.std.proofs.lemmas.List.{take_at, length-append, length-take, length-drop, take_more, drop_more, flat_map_more}
+use Rattle.std.proofs.lemmas.List.{take_at, length-append, length-take, length-drop, take_more}
+use Rattle.std.proofs.lemmas.List.{drop_more, flat_map_more}
 use Rattle.std.proofs.lemmas.List.Elements.{All-cons}
 use Rattle.std.proofs.Math.Nat.{mod-eq_of_lt}
 use Rattle.byteorder.specs.Endian.{big_bytes}
@@ -36,7 +38,8 @@ set_stays k (Flag b) h = absurd h
 set_stays k (Set s) h = ap (big_bytes 8) (mod-eq_of_lt h)
 set_stays k (Row r) h = absurd h
 
--- the numbers of a message from a place on are small where those of the field there are, and of the rest
+-- the numbers of a message from a place on are small where those of the field there are, and of the
+-- rest
 pub small_more : (k : ℕ) (ts : List Kind) (vs : List Value) (i : ℕ) → 0 < length ts → AreOf k ts (drop i vs) → IsSmall (at vs i) → All IsSmall (drop (i + 1) vs) → All IsSmall (drop i vs)
 small_more k ts vs i some kinds here rest =
     let len : length (drop i vs) ≡ length ts = length-values k ts (drop i vs) kinds in

@@ -1,5 +1,6 @@
 -- An inbox, one place on.
-use Rattle.std.proofs.Common.{◌≡◌, ℕ, ◌+◌, ◌<◌, ◌≤◌, List, [], ◌∷◌, ◌++◌, length, get_or, drop, Option, Some, None, refl, subst}
+use Rattle.std.proofs.Common.{◌≡◌, ℕ, ◌+◌, ◌<◌, ◌≤◌, List, [], ◌∷◌, ◌++◌, length, get_or, drop}
+use Rattle.std.proofs.Common.{Option, Some, None, refl, subst}
 use Rattle.std.proofs.lemmas.List.{drop_more, drop_all}
 use Rattle.frame_format.specs.Formats.{Format}
 use Rattle.frame_format.specs.Reading.{frame_at}

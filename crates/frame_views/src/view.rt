@@ -1,5 +1,6 @@
 //! Frames that are read where they lie.
-ghost use Rattle.std.specs.Prelude.{◌≡◌, ◌≤◌, length, IfOk, IfErr, IfSome, MatchResult, None, Some, slice_index};
+ghost use Rattle.std.specs.Prelude.{◌≡◌, ◌≤◌, length, IfOk, IfErr, IfSome, MatchResult, None, Some};
+ghost use Rattle.std.specs.Prelude.{slice_index};
 ghost use Rattle.round_lang.specs.Values.{at, flag, num, row, set};
 ghost use Rattle.frame_format.specs.Faults.{first_fault};
 ghost use Rattle.frame_format.specs.Formats.{size, width, IsBlock};

@@ -11,9 +11,9 @@
 //! language_tests library NAME VALUES NODES FAULTS ROUNDS INPUT ..
 //! ```
 //!
-//! FILE has a program; `library` does with a program of the library what `rounds` does with a file's.
-//! But for `program` and `checked`, each line of standard input is an act, and a line of standard
-//! output its answer.
+//! FILE has a program; `library` does with a program of the library what `rounds` does with a
+//! file's. But for `program` and `checked`, each line of standard input is an act, and a line of
+//! standard output its answer.
 #![tactic(auto)]
 
 mod acts;

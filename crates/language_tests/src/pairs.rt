@@ -84,8 +84,8 @@ fn show_texts(alloc: Global, one: &str, other: &str, out: &mut String) -> Result
     }
 }
 
-/// Compares a program with others, each of which an act makes: `values 2 | values 3` puts the second
-/// text in the place of the first.
+/// Compares a program with others, each of which an act makes: `values 2 | values 3` puts the
+/// second text in the place of the first.
 #[derive(Clone, Copy)]
 pub struct Changes<'a> {
     pub text: &'a str,

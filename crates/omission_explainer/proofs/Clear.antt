@@ -1,5 +1,8 @@
--- Where correct nodes step in lockstep and the bound on the delay holds, no closed round from the clear round on omits a message between them.
-use Rattle.std.proofs.Common.{◌≡◌, ℕ, zero, suc, ◌+◌, ◌-◌, ◌<◌, ◌≤◌, Bool, true, false, not, ◌&&◌, List, [], ◌∷◌, length, Option, None, Some, sym, subst, refl, ap, ◌∙◌, arith}
+-- Where correct nodes step in lockstep and the bound on the delay holds, no closed round from the
+-- clear round on omits a message between them.
+use Rattle.std.proofs.Common.{◌≡◌, ℕ, zero, suc, ◌+◌, ◌-◌, ◌<◌, ◌≤◌, Bool, true, false, not, ◌&&◌}
+use Rattle.std.proofs.Common.{List, [], ◌∷◌, length, Option, None, Some, sym, subst, refl, ap, ◌∙◌}
+use Rattle.std.proofs.Common.{arith}
 use Rattle.std.specs.Prelude.{IfSome, is_some, nat_lt, reverse}
 use Rattle.std.proofs.lemmas.Bool.{and_right, lt-ltb}
 use Rattle.round_lang.specs.Sets.{is_in}
@@ -7,18 +10,18 @@ use Rattle.round_lang.specs.declared.value.Value.{Value}
 use Rattle.slot_plans.specs.Plan.{IsClearRound, PlanLaws}
 use Rattle.step_machine.specs.declared.event.Event.{Event}
 use Rattle.step_machine.specs.declared.event.Event.TheVariants.{Step, Release}
-use Rattle.step_journal.specs.Fates.{carried, fate}
-use Rattle.step_journal.specs.History.{message}
-use Rattle.step_journal.specs.Log.{Log, IsFaithful, history, round_of, world_of}
-use Rattle.step_journal.specs.Trace.{steps}
-use Rattle.step_journal.specs.Work.{sent_name}
-use Rattle.step_journal.specs.World.{World, IsPlan, is_receive, lies_near, nodes_of}
-use Rattle.step_journal.proofs.Fates.{carried_is, copy_to, let_near, some_of}
-use Rattle.step_journal.proofs.Moments.{At, Newest, Older, at_longer, at_within, step_rises}
-use Rattle.step_journal.proofs.Plans.{last_is_receive, lies_within, start_le, starts_early}
-use Rattle.step_journal.proofs.Reading.{nodes_are}
-use Rattle.step_journal.proofs.Starts.{plan_is}
-use Rattle.omission_explainer.specs.Printed.{is_omitted}
+use Rattle.step_book.specs.Fates.{carried, fate}
+use Rattle.step_book.specs.History.{message}
+use Rattle.step_book.specs.Log.{Log, IsFaithful, history, round_of, world_of}
+use Rattle.step_book.specs.Trace.{steps}
+use Rattle.step_book.specs.Work.{sent_name}
+use Rattle.step_book.specs.World.{World, IsPlan, is_receive, lies_near, nodes_of}
+use Rattle.step_book.proofs.Fates.{carried_is, copy_to, let_near, some_of}
+use Rattle.step_book.proofs.Moments.{At, Newest, Older, at_longer, at_within, step_rises}
+use Rattle.step_book.proofs.Plans.{last_is_receive, lies_within, start_le, starts_early}
+use Rattle.step_book.proofs.Reading.{nodes_are}
+use Rattle.step_book.proofs.Starts.{plan_is}
+use Rattle.omission_explainer.specs.Printed.{prints_omitted}
 use Rattle.omission_explainer.specs.Reported.{carried_in, sends_in, stands_in}
 use Rattle.omission_explainer.specs.Verdict.{AreNodes, HearsFrom, IsLetInBetween}
 use Rattle.omission_explainer.proofs.Delays.{let_in_moment}
@@ -89,7 +92,7 @@ module _ (w : World) (t : List Event) (correct delta gst : ℕ) (plan : IsPlan w
       ∙ some_of (λ k. let_near w r (fate w t (copy_to j i r k))) between.copy between.few
       (near_by w r (steps i at.moment) (fate w t (copy_to j i r between.copy)) found ∙ near)
 
-  pub not_omitted : is_omitted (carried w t i r) (λ k. is_some (message w t (sent_name k i r))) (λ k. nat_lt (w.start r + i) (steps k t)) j ≡ false
+  pub not_omitted : prints_omitted (carried w t i r) (λ k. is_some (message w t (sent_name k i r))) (λ k. nat_lt (w.start r + i) (steps k t)) j ≡ false
   not_omitted = heard_or_silent (carried w t i r j) (nat_lt (w.start r + i) (steps j t)) (message w t (sent_name j i r)) slot_taken is_carried
 
 -- receives never fall
@@ -117,7 +120,7 @@ hears_from start receives nodes v correct delta gst r0 laws sized faithful withi
     let same = ap receives again in
     let nodes_in : AreNodes (nodes_of w) correct = λ k h. (let l = within k h in omega arith) in
     let out = not_omitted w (history v) correct delta gst plan nodes_in paced bound i j r here there (omega arith) (omega (arith, most, closed)) (omega (arith, stable, up)) (omega (arith, next, rises, same, lasts, n, sized)) (omega (arith, past, over)) in
-    is_in-set_of v.setup.nodes (is_omitted (carried_in start v r i) (sends_in start v r i) (stands_in start v r i)) j
+    is_in-set_of v.setup.nodes (prints_omitted (carried_in start v r i) (sends_in start v r i) (stands_in start v r i)) j
     ∙ and_right (nat_lt j v.setup.nodes) _ out
 
 -- from the clear round on, if there is one

@@ -1,5 +1,6 @@
 -- The delay bound by places, and by the receiver's own step counts.
-use Rattle.std.proofs.Common.{◌≡◌, ℕ, ◌+◌, ◌<◌, ◌≤◌, true, false, max, List, length, Option, Some, None, sym, subst, refl, ap, ◌∙◌, leb, arith, ◌⊎◌, inl, inr}
+use Rattle.std.proofs.Common.{◌≡◌, ℕ, ◌+◌, ◌<◌, ◌≤◌, true, false, max, List, length, Option, Some}
+use Rattle.std.proofs.Common.{None, sym, subst, refl, ap, ◌∙◌, leb, arith, ◌⊎◌, inl, inr}
 use Rattle.std.specs.Prelude.{is_some, reverse}
 use Rattle.std.specs.Option.{unwrap_or}
 use Rattle.std.proofs.lemmas.Bool.{cases_lt, cases_order, lt-leb}
@@ -8,17 +9,21 @@ use Rattle.step_machine.specs.declared.event.Event.{Event}
 use Rattle.step_machine.specs.declared.event.Event.TheVariants.{Step, Release}
 use Rattle.step_machine.specs.declared.event.Name.{Name}
 use Rattle.step_machine.specs.Frames.{original}
-use Rattle.step_journal.specs.Fates.{Unmade, fate}
-use Rattle.step_journal.specs.History.{message}
-use Rattle.step_journal.specs.Places.{IsSlotAt, Sent, steps_before}
-use Rattle.step_journal.specs.Trace.{steps}
-use Rattle.step_journal.specs.World.{World, IsPlan, is_receive, nodes_of}
-use Rattle.step_journal.proofs.Moments.{At, at_place, at_same, at_steps, at_within, place_at, step_rises}
-use Rattle.step_journal.proofs.Placed.{made_found}
-use Rattle.step_journal.proofs.Plans.{is_receive_at}
-use Rattle.omission_explainer.specs.Lateness.{HasReceive, copy_open_until, least_copy, marks_of, open_until}
+use Rattle.step_book.specs.Fates.{Unmade, fate}
+use Rattle.step_book.specs.History.{message}
+use Rattle.step_book.specs.Places.{IsSlotAt, Sent, steps_before}
+use Rattle.step_book.specs.Trace.{steps}
+use Rattle.step_book.specs.World.{World, IsPlan, is_receive, nodes_of}
+use Rattle.step_book.proofs.Moments.{At, at_place, at_same, at_steps, at_within, place_at}
+use Rattle.step_book.proofs.Moments.{step_rises}
+use Rattle.step_book.proofs.Placed.{made_found}
+use Rattle.step_book.proofs.Plans.{is_receive_at}
+use Rattle.omission_explainer.specs.Lateness.{HasReceive, copy_open_until, least_copy, marks_of}
+use Rattle.omission_explainer.specs.Lateness.{open_until}
 use Rattle.omission_explainer.specs.Verdict.{IsLetInAt, IsLetInBetween}
-use Rattle.omission_explainer.proofs.Releases.{copy_open_is, least_below, least_found, let_in_after, let_in_few, let_in_found, let_in_of, let_in_place, open_silent, open_spoken}
+use Rattle.omission_explainer.proofs.Releases.{copy_open_is, least_below, least_found, let_in_after}
+use Rattle.omission_explainer.proofs.Releases.{let_in_few, let_in_found, let_in_of, let_in_place}
+use Rattle.omission_explainer.proofs.Releases.{open_silent, open_spoken}
 use Rattle.omission_explainer.proofs.Moments.{StepAt, step_at, steps_up_to}
 
 -- the moment at which a copy is let in

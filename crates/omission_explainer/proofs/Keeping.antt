@@ -1,17 +1,19 @@
 -- When the step that a node takes next keeps the bound.
-use Rattle.std.proofs.Common.{◌≡◌, ℕ, suc, ◌+◌, ◌-◌, ◌^◌, ◌<◌, ◌≤◌, ◌↔◌, Bool, true, false, not, max, List, get_or, sym, subst, refl, ap, ◌∙◌, arith}
+use Rattle.std.proofs.Common.{◌≡◌, ℕ, suc, ◌+◌, ◌-◌, ◌^◌, ◌<◌, ◌≤◌, ◌↔◌, Bool, true, false, not}
+use Rattle.std.proofs.Common.{max, List, get_or, sym, subst, refl, ap, ◌∙◌, arith}
 use Rattle.std.proofs.lemmas.Bool.{and_from, and_parts, lt-ltb, both_ways}
 use Rattle.round_lang.specs.Sets.{is_in}
 use Rattle.round_meaning.specs.Nodes.{has_node}
 use Rattle.slot_plans.specs.Plan.{PlanLaws}
 use Rattle.step_machine.specs.declared.event.Event.{Event}
 use Rattle.step_machine.specs.declared.event.Name.{Name}
-use Rattle.step_journal.specs.Log.{Log, world_of}
-use Rattle.step_journal.specs.Trace.{steps}
-use Rattle.step_journal.specs.World.{World, IsPlan}
-use Rattle.step_journal.proofs.Keeps.{round_same}
-use Rattle.step_journal.proofs.Names.{name_same}
-use Rattle.omission_explainer.specs.Lateness.{HasReceive, IsNoOwnSlot, IsOwnSlot, KeepsBound, marks_of, open_until}
+use Rattle.step_book.specs.Log.{Log, world_of}
+use Rattle.step_book.specs.Trace.{steps}
+use Rattle.step_book.specs.World.{World, IsPlan}
+use Rattle.step_book.proofs.Keeps.{round_same}
+use Rattle.step_book.proofs.Names.{name_same}
+use Rattle.omission_explainer.specs.Lateness.{HasReceive, IsNoOwnSlot, IsOwnSlot, KeepsBound}
+use Rattle.omission_explainer.specs.Lateness.{marks_of, open_until}
 use Rattle.omission_explainer.proofs.Slots.{sends_small}
 
 -- a member that may be a node is found

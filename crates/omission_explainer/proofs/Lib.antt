@@ -13,3 +13,4 @@ pub mod PrintedRounds
 pub mod Verdicts
 pub mod Clear
 pub mod Summaries
+pub mod Agreeing

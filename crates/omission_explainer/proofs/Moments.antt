@@ -1,13 +1,16 @@
 -- The moments of a history: their order, and how many steps they have.
-use Rattle.std.proofs.Common.{◌≡◌, ℕ, ◌+◌, ◌<◌, ◌≤◌, true, false, List, [], ◌∷◌, ◌++◌, length, get_or, take, drop, reverse, sym, subst, refl, ap, ◌∙◌, arith, ◌⊎◌, inl, inr}
+use Rattle.std.proofs.Common.{◌≡◌, ℕ, ◌+◌, ◌<◌, ◌≤◌, true, false, List, [], ◌∷◌, ◌++◌, length}
+use Rattle.std.proofs.Common.{get_or, take, drop, reverse, sym, subst, refl, ap, ◌∙◌, arith, ◌⊎◌}
+use Rattle.std.proofs.Common.{inl, inr}
 use Rattle.std.proofs.lemmas.Bool.{cases_Bool, cases_lt, eqb-true}
-use Rattle.std.proofs.lemmas.List.{length-reverse, length-take-le, reverse-append, take-append-drop, take_more}
+use Rattle.std.proofs.lemmas.List.{length-reverse, length-take-le, reverse-append, take-append-drop}
+use Rattle.std.proofs.lemmas.List.{take_more}
 use Rattle.step_machine.specs.declared.event.Event.{Event}
 use Rattle.step_machine.specs.declared.event.Event.TheVariants.{Step, Release, Drop, Copy}
-use Rattle.step_journal.specs.Trace.{is_step, steps}
-use Rattle.step_journal.proofs.Events.{pushed}
-use Rattle.step_journal.proofs.Moments.{At, Newest, Older}
-use Rattle.step_journal.proofs.Places.{steps_at, steps_other, steps_grow}
+use Rattle.step_book.specs.Trace.{is_step, steps}
+use Rattle.step_book.proofs.Events.{pushed}
+use Rattle.step_book.proofs.Moments.{At, Newest, Older}
+use Rattle.step_book.proofs.Places.{steps_at, steps_other, steps_grow}
 
 -- the steps up to an event are steps of the history
 steps_to : (i : ℕ) (e : Event) (m t : List Event) → At m e t → steps i (e ∷ m) ≤ steps i t

@@ -1,34 +1,38 @@
 -- What the marks say of a closed round, and how a loop over the senders makes the three sets.
-use Rattle.std.proofs.Common.{◌≡◌, ℕ, suc, ◌+◌, ◌-◌, ◌^◌, ◌<◌, ◌≤◌, Bool, true, false, cond, if◌then◌else◌, List, length, Option, None, Some, refl, sym, ap, ◌∙◌, subst, arith, ◌⊎◌, inl, inr}
+use Rattle.std.proofs.Common.{◌≡◌, ℕ, suc, ◌+◌, ◌-◌, ◌^◌, ◌<◌, ◌≤◌, Bool, true, false, cond}
+use Rattle.std.proofs.Common.{if◌then◌else◌, List, length, Option, None, Some, refl, sym, ap, ◌∙◌}
+use Rattle.std.proofs.Common.{subst, arith, ◌⊎◌, inl, inr}
 use Rattle.std.specs.Prelude.{◌&&◌, not, is_some, bit_or, nat_lt, reverse}
 use Rattle.std.proofs.lemmas.Bool.{cases_lt, le-ltb, lt-ltb}
 use Rattle.round_lang.specs.Sets.{set_of, union, only}
 use Rattle.round_lang.specs.declared.value.Value.{Value}
-use Rattle.round_lang.proofs.SetLaws.{bit-set_of, is-set_of, is-union, is-only, set_of-lt, set_of-set, set_of-kept, small_pow}
+use Rattle.round_lang.proofs.SetLaws.{bit-set_of, is-set_of, is-union, is-only, set_of-lt}
+use Rattle.round_lang.proofs.SetLaws.{set_of-set, set_of-kept, small_pow}
 use Rattle.round_meaning.specs.declared.setup.Setup.{Setup}
 use Rattle.slot_plans.specs.Plan.{PlanLaws}
 use Rattle.step_machine.specs.declared.event.Event.{Event}
 use Rattle.step_machine.specs.declared.event.Event.TheVariants.{Step}
 use Rattle.step_machine.specs.declared.event.Name.{Name}
-use Rattle.step_journal.specs.declared.mark.Mark.{Mark}
-use Rattle.step_journal.specs.declared.mark.Mark.TheVariants.{Unsent, Silent, Flying, Released, Lost}
-use Rattle.step_journal.specs.Fates.{Fate, Unmade, Moving, Waiting, Taken, carried, fate}
-use Rattle.step_journal.specs.Fates as fates
-use Rattle.step_journal.specs.History.{mark_of, marked, message, state}
-use Rattle.step_journal.specs.Log.{Log, IsFaithful, count_of, history, round_of, world_of}
-use Rattle.step_journal.specs.Places.{IsSlotAt, Sent}
-use Rattle.step_journal.specs.Trace.{steps}
-use Rattle.step_journal.specs.Work.{any_within, sent_name, tag_by}
-use Rattle.step_journal.specs.World.{World, IsPlan, earliest}
-use Rattle.step_journal.proofs.Fates.{copy_to, unmade_before}
-use Rattle.step_journal.proofs.Heard.{heard_is, tagged}
-use Rattle.step_journal.proofs.Kept.{mark_is}
-use Rattle.step_journal.proofs.Moments.{at_place, at_steps}
-use Rattle.step_journal.proofs.Placed.{made_found}
-use Rattle.step_journal.proofs.Plans.{start_le}
-use Rattle.step_journal.proofs.Starts.{plan_is}
+use Rattle.step_book.specs.declared.mark.Mark.{Mark}
+use Rattle.step_book.specs.declared.mark.Mark.TheVariants.{Unsent, Silent, Flying, Released, Lost}
+use Rattle.step_book.specs.Fates.{Fate, Unmade, Moving, Waiting, Taken, carried, fate}
+use Rattle.step_book.specs.Fates as fates
+use Rattle.step_book.specs.History.{mark_of, marked, message, state}
+use Rattle.step_book.specs.Log.{Log, IsFaithful, count_of, history, round_of, world_of}
+use Rattle.step_book.specs.Places.{IsSlotAt, Sent}
+use Rattle.step_book.specs.Trace.{steps}
+use Rattle.step_book.specs.Work.{any_within, sent_name, tag_by}
+use Rattle.step_book.specs.World.{World, IsPlan, earliest}
+use Rattle.step_book.proofs.Fates.{copy_to, unmade_before}
+use Rattle.step_book.proofs.Heard.{heard_is, tagged}
+use Rattle.step_book.proofs.Kept.{mark_is}
+use Rattle.step_book.proofs.Moments.{at_place, at_steps}
+use Rattle.step_book.proofs.Placed.{made_found}
+use Rattle.step_book.proofs.Plans.{start_le}
+use Rattle.step_book.proofs.Starts.{plan_is}
 use Rattle.omission_explainer.specs.Printed.{is_heard, is_silent}
-use Rattle.omission_explainer.specs.Reported.{carried_in, heard_in, omitted_in, sends_in, silent_in, stands_in}
+use Rattle.omission_explainer.specs.Reported.{carried_in, heard_in, omitted_in, sends_in, silent_in}
+use Rattle.omission_explainer.specs.Reported.{stands_in}
 use Rattle.omission_explainer.proofs.Moments.{step_at}
 use Rattle.omission_explainer.proofs.Parts.{small_set}
 

@@ -1,5 +1,6 @@
 -- The three sets of a closed round part the nodes, and give the inbox.
-use Rattle.std.proofs.Common.{◌≡◌, ℕ, zero, suc, ◌+◌, ◌^◌, ◌<◌, ◌≤◌, Bool, true, false, cond, List, Option, None, Some, refl, sym, ap, ◌∙◌, ◌⊎◌, inl, inr, arith}
+use Rattle.std.proofs.Common.{◌≡◌, ℕ, zero, suc, ◌+◌, ◌^◌, ◌<◌, ◌≤◌, Bool, true, false, cond, List}
+use Rattle.std.proofs.Common.{Option, None, Some, refl, sym, ap, ◌∙◌, ◌⊎◌, inl, inr, arith}
 use Rattle.std.specs.Prelude.{◌&&◌, ◌||◌, not, nat_eq, nat_lt, is_some}
 use Rattle.std.specs.List.{range_with_len, filter_map, cons_option}
 use Rattle.std.proofs.lemmas.Bool.{and_parts, eqb-true, or_cases}
@@ -11,7 +12,8 @@ use Rattle.round_lang.specs.declared.value.Value.{Value}
 use Rattle.round_lang.proofs.SetLaws.{bit-is_in, is_in-set_of, is_in-wide, set_of-lt}
 use Rattle.round_meaning.specs.Rounds.{Algorithm, inbox, received}
 use Rattle.omission_explainer.specs.Verdict.{AreNodes}
-use Rattle.omission_explainer.specs.Printed.{is_heard, is_silent, is_omitted, heard_set, silent_set, omitted_set, PartsNodes}
+use Rattle.omission_explainer.specs.Printed.{is_heard, is_silent, prints_omitted, heard_set}
+use Rattle.omission_explainer.specs.Printed.{silent_set, omitted_set, PartsNodes}
 
 -- the members of the empty set are nodes
 pub nodes_none : (nodes members : ℕ) → members ≡ 0 → AreNodes nodes members
@@ -92,15 +94,15 @@ sets_part n carried sends stands few =
           ∙ ap (λ b. b || is_in omitted i) (is_in-wide _ i h)
           ∙ ap (λ b. (b || is_in silent i) || is_in omitted i) (is_in-set_of n (is_heard carried sends) i)
           ∙ ap (λ b. ((nat_lt i n && is_heard carried sends i) || b) || is_in omitted i) (is_in-set_of n (is_silent sends stands) i)
-          ∙ ap (λ b. ((nat_lt i n && is_heard carried sends i) || (nat_lt i n && is_silent sends stands i)) || b) (is_in-set_of n (is_omitted carried sends stands) i)
+          ∙ ap (λ b. ((nat_lt i n && is_heard carried sends i) || (nat_lt i n && is_silent sends stands i)) || b) (is_in-set_of n (prints_omitted carried sends stands) i)
           ∙ one_of_three (nat_lt i n) (is_heard carried sends i) (is_silent sends stands i)
           ∙ sym (is_in-set_of n (λ v. true) i));
       first_two_apart =
           none_in_common heard silent (λ i. both n i (is_heard carried sends) (is_silent sends stands) ∙ heard_or_silent (nat_lt i n) (carried i) (sends i) (stands i));
       outer_two_apart =
-          none_in_common heard omitted (λ i. both n i (is_heard carried sends) (is_omitted carried sends stands) ∙ first_or_neither (nat_lt i n) (is_heard carried sends i) (is_silent sends stands i));
+          none_in_common heard omitted (λ i. both n i (is_heard carried sends) (prints_omitted carried sends stands) ∙ first_or_neither (nat_lt i n) (is_heard carried sends i) (is_silent sends stands i));
       last_two_apart =
-          none_in_common silent omitted (λ i. both n i (is_silent sends stands) (is_omitted carried sends stands) ∙ second_or_neither (nat_lt i n) (is_heard carried sends i) (is_silent sends stands i));
+          none_in_common silent omitted (λ i. both n i (is_silent sends stands) (prints_omitted carried sends stands) ∙ second_or_neither (nat_lt i n) (is_heard carried sends i) (is_silent sends stands i));
     }
 
 -- functions that agree below n give one list
@@ -129,5 +131,5 @@ same_inbox a carried stands states r i few =
     let sends = λ (k : ℕ). is_some (a.send r (states k) k i) in
     let below : nat_lt j a.nodes ≡ true = grind (arith, nat_tests) in
     ap (λ b. cond b None (received j (a.send r (states j) j i)))
-    (is_in-set_of a.nodes (is_omitted carried sends stands) j ∙ ap (λ b. b && is_omitted carried sends stands j) below)
+    (is_in-set_of a.nodes (prints_omitted carried sends stands) j ∙ ap (λ b. b && prints_omitted carried sends stands j) below)
     ∙ one_sender j (carried j) (stands j) (a.send r (states j) j i))

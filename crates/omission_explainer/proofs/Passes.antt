@@ -1,18 +1,22 @@
 -- One pass over a trace: the step counts of the correct nodes, and what they tell of each event.
-use Rattle.std.proofs.Common.{◌≡◌, ◌≢◌, ℕ, ◌+◌, ◌<◌, ◌≤◌, ◌↔◌, Bool, true, false, max, List, [], ◌∷◌, length, get_or, set, replicate, sym, subst, refl, ap, ◌∙◌, arith, ◌⊎◌, inl, inr}
+use Rattle.std.proofs.Common.{◌≡◌, ◌≢◌, ℕ, ◌+◌, ◌<◌, ◌≤◌, ◌↔◌, Bool, true, false, max, List, []}
+use Rattle.std.proofs.Common.{◌∷◌, length, get_or, set, replicate, sym, subst, refl, ap, ◌∙◌, arith}
+use Rattle.std.proofs.Common.{◌⊎◌, inl, inr}
 use Rattle.std.specs.Prelude.{is_some, reverse}
 use Rattle.std.proofs.lemmas.Bool.{both_ways, cases_eq, cases_lt, eq-eqb, ne_eqb}
-use Rattle.std.proofs.lemmas.List.{get_or-replicate, get_or_past, length-replicate, get_or-set_same, get_or-set_other, length-set}
+use Rattle.std.proofs.lemmas.List.{get_or-replicate, get_or_past, length-replicate, get_or-set_same}
+use Rattle.std.proofs.lemmas.List.{get_or-set_other, length-set}
 use Rattle.round_lang.specs.Sets.{is_in}
 use Rattle.step_machine.specs.declared.event.Event.{Event}
 use Rattle.step_machine.specs.declared.event.Event.TheVariants.{Step}
 use Rattle.step_machine.specs.declared.event.Name.{Name}
-use Rattle.step_journal.specs.History.{message}
-use Rattle.step_journal.specs.Trace.{is_step, steps}
-use Rattle.step_journal.specs.World.{World, IsPlan, is_receive, nodes_of}
-use Rattle.step_journal.proofs.Moments.{At, Newest, Older}
-use Rattle.step_journal.proofs.Places.{steps_at, steps_other, steps_le}
-use Rattle.omission_explainer.specs.Lateness.{HasReceive, IsOwnSlot, KeepsBound, KeepsPace, marks_of, open_until}
+use Rattle.step_book.specs.History.{message}
+use Rattle.step_book.specs.Trace.{is_step, steps}
+use Rattle.step_book.specs.World.{World, IsPlan, is_receive, nodes_of}
+use Rattle.step_book.proofs.Moments.{At, Newest, Older}
+use Rattle.step_book.proofs.Places.{steps_at, steps_other, steps_le}
+use Rattle.omission_explainer.specs.Lateness.{HasReceive, IsOwnSlot, KeepsBound, KeepsPace}
+use Rattle.omission_explainer.specs.Lateness.{marks_of, open_until}
 use Rattle.omission_explainer.specs.Verdict.{AreNodes, IsLetInBetween}
 use Rattle.omission_explainer.proofs.Delays.{in_time, not_late}
 use Rattle.omission_explainer.proofs.Moments.{newest_or_older}

@@ -1,25 +1,29 @@
 -- The states that a report shows are those of the run in rounds under the omissions that it prints.
-use Rattle.std.proofs.Common.{◌≡◌, ℕ, zero, suc, ◌+◌, ◌-◌, ◌==◌, ◌<◌, ◌≤◌, Bool, true, false, cond, not, ◌&&◌, List, [], ◌∷◌, ◌++◌, map, Option, None, Some, refl, sym, ap, subst, ◌∙◌, if◌then◌else◌, arith, ◌⊎◌, inl, inr}
+use Rattle.std.proofs.Common.{◌≡◌, ℕ, zero, suc, ◌+◌, ◌-◌, ◌==◌, ◌<◌, ◌≤◌, Bool, true, false, cond}
+use Rattle.std.proofs.Common.{not, ◌&&◌, List, [], ◌∷◌, ◌++◌, map, Option, None, Some, refl, sym}
+use Rattle.std.proofs.Common.{ap, subst, ◌∙◌, if◌then◌else◌, arith, ◌⊎◌, inl, inr}
 use Rattle.std.specs.Prelude.{All, is_some, nat_lt, filter}
 use Rattle.std.specs.List.{flat_map, range_with_len}
-use Rattle.std.proofs.lemmas.Bool.{and_parts, and_from, both_ways, cases_lt, eq-eqb, eqb-true, ltb-true}
+use Rattle.std.proofs.lemmas.Bool.{and_parts, and_from, both_ways, cases_lt, eq-eqb, eqb-true}
+use Rattle.std.proofs.lemmas.Bool.{ltb-true}
 use Rattle.std.proofs.lemmas.Bool.Decides.{nat_tests}
 use Rattle.std.proofs.lemmas.List.Elements.{All-head, All-tail, All-weaker}
 use Rattle.round_lang.specs.Sets.{is_in}
 use Rattle.round_lang.specs.declared.value.Value.{Value}
 use Rattle.round_meaning.specs.Rounds.{inbox, received, rounds}
-use Rattle.step_journal.specs.Fates.{carried}
-use Rattle.step_journal.specs.History.{state}
-use Rattle.step_journal.specs.Log.{Log, IsFaithful, count_of, history, round_of, world_of}
-use Rattle.step_journal.specs.Trace.{steps}
-use Rattle.step_journal.specs.World.{IsPlan, nodes_of}
-use Rattle.step_journal.proofs.Fates.{carried_sent}
-use Rattle.step_journal.proofs.Kept.{end_same}
-use Rattle.step_journal.proofs.Plans.{start_le}
-use Rattle.step_journal.proofs.Reading.{nodes_are}
+use Rattle.step_book.specs.Fates.{carried}
+use Rattle.step_book.specs.History.{state}
+use Rattle.step_book.specs.Log.{Log, IsFaithful, count_of, history, round_of, world_of}
+use Rattle.step_book.specs.Trace.{steps}
+use Rattle.step_book.specs.World.{IsPlan, nodes_of}
+use Rattle.step_book.proofs.Fates.{carried_sent}
+use Rattle.step_book.proofs.Kept.{end_same}
+use Rattle.step_book.proofs.Plans.{start_le}
+use Rattle.step_book.proofs.Reading.{nodes_are}
 use Rattle.omission_explainer.specs.InRounds.{IsOfRounds, printed_omits, printed_omitted}
-use Rattle.omission_explainer.specs.Printed.{is_omitted}
-use Rattle.omission_explainer.specs.Reported.{IsReported, carried_in, closed_below, closed_rounds, is_closed, omitted_in, place, sends_in, stands_in}
+use Rattle.omission_explainer.specs.Printed.{prints_omitted}
+use Rattle.omission_explainer.specs.Reported.{IsReported, carried_in, closed_below, closed_rounds}
+use Rattle.omission_explainer.specs.Reported.{is_closed, omitted_in, place, sends_in, stands_in}
 use Rattle.omission_explainer.specs.Rows.{ClosedRound}
 use Rattle.round_lang.proofs.SetLaws.{is_in-set_of}
 use Rattle.omission_explainer.proofs.Parts.{filter_map_same}
@@ -158,11 +162,11 @@ module _ {start : ℕ → ℕ} {v : Log} (plan : IsPlan (world_of start v)) (fai
       let ours : j < v.setup.nodes = omega arith in
       let below : nat_lt j v.setup.nodes ≡ true = grind (arith, nat_tests) in
       let e : suc q - 1 ≡ q = omega arith in
-      let test : printed_omits rows i (suc q) j ≡ is_omitted (carried w t i (suc q)) (λ k. is_some (w.algorithm.send (suc q) (state w t q k) k i)) (λ k. nat_lt (start (suc q) + i) (steps k t)) j =
+      let test : printed_omits rows i (suc q) j ≡ prints_omitted (carried w t i (suc q)) (λ k. is_some (w.algorithm.send (suc q) (state w t q k) k i)) (λ k. nat_lt (start (suc q) + i) (steps k t)) j =
       ap (λ s. is_in s j) set
-      ∙ is_in-set_of v.setup.nodes (is_omitted (carried_in start v (suc q) i) (sends_in start v (suc q) i) (stands_in start v (suc q) i)) j
-      ∙ ap (λ b. b && is_omitted (carried_in start v (suc q) i) (sends_in start v (suc q) i) (stands_in start v (suc q) i) j) below
-      ∙ ap (λ x. is_omitted (carried_in start v (suc q) i) (λ k. is_some (w.algorithm.send (suc q) (state w t x k) k i)) (stands_in start v (suc q) i) j) e in
+      ∙ is_in-set_of v.setup.nodes (prints_omitted (carried_in start v (suc q) i) (sends_in start v (suc q) i) (stands_in start v (suc q) i)) j
+      ∙ ap (λ b. b && prints_omitted (carried_in start v (suc q) i) (sends_in start v (suc q) i) (stands_in start v (suc q) i) j) below
+      ∙ ap (λ x. prints_omitted (carried_in start v (suc q) i) (λ k. is_some (w.algorithm.send (suc q) (state w t x k) k i)) (stands_in start v (suc q) i) j) e in
       let again = λ (past : q < round_of v j). ap (λ s. w.algorithm.send (suc q) s j i) (same_run small rows printed q j ours past) in
       ap (λ b. cond b None (received j (w.algorithm.send (suc q) (rounds w.algorithm (printed_omits rows) q j) j i))) test
       ∙ entry_same j (carried w t i (suc q) j) (nat_lt (start (suc q) + i) (steps j t)) _ (w.algorithm.send (suc q) (state w t q j) j i)

@@ -1,5 +1,6 @@
 -- When a copy was let in, by places and by what became of it.
-use Rattle.std.proofs.Common.{◌≡◌, ℕ, zero, suc, ◌<◌, ◌≤◌, Bool, true, false, if◌then◌else◌, List, Option, Some, None, min, sym, refl, ap, ◌∙◌, arith, ◌⊎◌, inl, inr}
+use Rattle.std.proofs.Common.{◌≡◌, ℕ, zero, suc, ◌<◌, ◌≤◌, Bool, true, false, if◌then◌else◌, List}
+use Rattle.std.proofs.Common.{Option, Some, None, min, sym, refl, ap, ◌∙◌, arith, ◌⊎◌, inl, inr}
 use Rattle.std.specs.Prelude.{reverse}
 use Rattle.std.specs.List.{slice_get}
 use Rattle.std.specs.Option.{unwrap_or}
@@ -10,16 +11,18 @@ use Rattle.step_machine.specs.declared.event.Event.{Event}
 use Rattle.step_machine.specs.declared.event.Event.TheVariants.{Release, Drop}
 use Rattle.step_machine.specs.declared.event.Name.{Name}
 use Rattle.step_machine.specs.Frames.{original}
-use Rattle.step_journal.specs.declared.mark.Mark.{Mark}
-use Rattle.step_journal.specs.Fates.{Fate, Unmade, Moving, Waiting, Taken, Lost, fate}
-use Rattle.step_journal.specs.History.{marked, message}
-use Rattle.step_journal.specs.Places.{Copied, IsCopyAt, IsDropAt, IsFirstAfter, IsLeftAt, IsMadeAt, IsReleaseAt, IsSlotAt, Sent, steps_before}
-use Rattle.step_journal.specs.Trace.{steps}
-use Rattle.step_journal.specs.World.{World, lies_near}
-use Rattle.step_journal.proofs.Fates.{LetIn, let_in, let_near}
-use Rattle.step_journal.proofs.Kept.{mark_is}
-use Rattle.step_journal.proofs.Placed.{Placed, made_found, placed, slot_one}
-use Rattle.omission_explainer.specs.Lateness.{copy_open_until, is_spoken, least_copy, marks_of, open_until}
+use Rattle.step_book.specs.declared.mark.Mark.{Mark}
+use Rattle.step_book.specs.Fates.{Fate, Unmade, Moving, Waiting, Taken, Lost, fate}
+use Rattle.step_book.specs.History.{marked, message}
+use Rattle.step_book.specs.Places.{Copied, IsCopyAt, IsDropAt, IsFirstAfter, IsLeftAt, IsMadeAt}
+use Rattle.step_book.specs.Places.{IsReleaseAt, IsSlotAt, Sent, steps_before}
+use Rattle.step_book.specs.Trace.{steps}
+use Rattle.step_book.specs.World.{World, lies_near}
+use Rattle.step_book.proofs.Fates.{LetIn, let_in, let_near}
+use Rattle.step_book.proofs.Kept.{mark_is}
+use Rattle.step_book.proofs.Placed.{Placed, made_found, placed, slot_one}
+use Rattle.omission_explainer.specs.Lateness.{copy_open_until, is_spoken, least_copy, marks_of}
+use Rattle.omission_explainer.specs.Lateness.{open_until}
 use Rattle.omission_explainer.specs.Verdict.{IsLetInAt}
 
 -- ---- one place
@@ -80,7 +83,8 @@ module _ (w : World) (t : List Event) (n : Name) where
       let same = made_one w t n h.place p.a h.made p.made in
       absurd (release_drop (reverse t) n b p.b (first_one (IsLeftAt (reverse t) n) h.place b p.a p.b same h.leaves p.leaves) h.release p.drop)
 
-  -- what became of a copy tells how many steps its receiver had taken at the place where it was let in
+  -- what became of a copy tells how many steps its receiver had taken at the place where it was let
+  -- in
   pub let_in_found : (b : ℕ) → IsLetInAt w (reverse t) n b → let_in_of (fate w t n) ≡ Some (steps_before (reverse t) n.to b)
   let_in_found b h = found_by b (fate w t n) h refl (placed w t n)
 

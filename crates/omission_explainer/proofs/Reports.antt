@@ -1,16 +1,20 @@
 -- How a report's rows grow.
-use Rattle.std.proofs.Common.{◌≡◌, ℕ, ◌+◌, ◌-◌, ◌<◌, ◌≤◌, true, false, cond, List, [], ◌∷◌, ◌++◌, ◌∙◌, map, ap, refl, sym, subst, append_assoc, append-nil, add-one, arith}
+use Rattle.std.proofs.Common.{◌≡◌, ℕ, ◌+◌, ◌-◌, ◌<◌, ◌≤◌, true, false, cond, List, [], ◌∷◌, ◌++◌}
+use Rattle.std.proofs.Common.{◌∙◌, map, ap, refl, sym, subst, append_assoc, append-nil, add-one}
+use Rattle.std.proofs.Common.{arith}
 use Rattle.std.specs.Prelude.{All, nat_lt}
 use Rattle.std.specs.List.{flat_map, range_with_len}
 use Rattle.std.proofs.lemmas.Bool.Decides.{nat_tests}
 use Rattle.std.proofs.lemmas.Grind.{flat_map-append}
 use Rattle.std.proofs.lemmas.List.{map_push}
 use Rattle.std.proofs.lemmas.List.Elements.{All-push}
-use Rattle.std.proofs.lemmas.List.FromFn.{filter_of_map_range_with_len_more, map-range_with_len_more}
+use Rattle.std.proofs.lemmas.List.FromFn.{filter_of_map_range_with_len_more}
+use Rattle.std.proofs.lemmas.List.FromFn.{map-range_with_len_more}
 use Rattle.round_meaning.specs.Turn.{decision}
-use Rattle.step_journal.specs.History.{state}
-use Rattle.step_journal.specs.Log.{Log, count_of, history, round_of, world_of}
-use Rattle.omission_explainer.specs.Reported.{IsReported, IsRowOf, is_closed, closed_below, closed_rounds, count_in, place}
+use Rattle.step_book.specs.History.{state}
+use Rattle.step_book.specs.Log.{Log, count_of, history, round_of, world_of}
+use Rattle.omission_explainer.specs.Reported.{IsReported, IsRowOf, is_closed, closed_below}
+use Rattle.omission_explainer.specs.Reported.{closed_rounds, count_in, place}
 use Rattle.omission_explainer.specs.Rows.{ClosedRound}
 use Rattle.omission_explainer.proofs.Texts.{range_push}
 

@@ -1,15 +1,16 @@
 -- The slots and the receives of a plan, as a step's number tells them.
-use Rattle.std.proofs.Common.{◌≡◌, ℕ, ◌+◌, ◌^◌, ◌<◌, ◌≤◌, ◌↔◌, Bool, true, false, refl, ◌∙◌, arith, ◌⊎◌, inl, inr}
+use Rattle.std.proofs.Common.{◌≡◌, ℕ, ◌+◌, ◌^◌, ◌<◌, ◌≤◌, ◌↔◌, Bool, true, false, refl, ◌∙◌, arith}
+use Rattle.std.proofs.Common.{◌⊎◌, inl, inr}
 use Rattle.std.proofs.lemmas.Bool.{cases_lt, le-leb, lt-leb}
 use Rattle.slot_plans.specs.Plan.{PlanLaws}
 use Rattle.slot_plans.specs.Slot.{IsSendSlot, IsReceiveSlot}
-use Rattle.step_journal.specs.Log.{Log, world_of}
-use Rattle.step_journal.specs.World.{World, IsPlan, is_receive, nodes_of}
-use Rattle.step_journal.proofs.Keeps.{idle_no_slot, receive_no_slot}
-use Rattle.step_journal.proofs.Plans.{is_receive_at, start_le}
-use Rattle.step_journal.proofs.Reading.{nodes_are}
-use Rattle.step_journal.proofs.Starts.{plan_is}
-use Rattle.step_journal.proofs.WaitsKept.{idle_is_no_receive}
+use Rattle.step_book.specs.Log.{Log, world_of}
+use Rattle.step_book.specs.World.{World, IsPlan, is_receive, nodes_of}
+use Rattle.step_book.proofs.Keeps.{idle_no_slot, receive_no_slot}
+use Rattle.step_book.proofs.Plans.{is_receive_at, start_le}
+use Rattle.step_book.proofs.Reading.{nodes_are}
+use Rattle.step_book.proofs.Starts.{plan_is}
+use Rattle.step_book.proofs.WaitsKept.{idle_is_no_receive}
 use Rattle.omission_explainer.specs.Lateness.{HasReceive, IsNoOwnSlot, IsOwnSlot}
 
 module _ (w : World) (plan : IsPlan w) where

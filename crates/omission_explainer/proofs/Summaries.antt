@@ -1,5 +1,7 @@
 -- Decisions, summed up row by row.
-use Rattle.std.proofs.Common.{◌≡◌, ℕ, ◌+◌, ◌<◌, ◌≤◌, Bool, true, false, cond, length, take, get_or, List, [], ◌∷◌, ◌++◌, refl, sym, ap, ◌∙◌, subst, inl, inr, ◌⊎◌, Option, Some, None}
+use Rattle.std.proofs.Common.{◌≡◌, ℕ, ◌+◌, ◌<◌, ◌≤◌, Bool, true, false, cond, length, take, get_or}
+use Rattle.std.proofs.Common.{List, [], ◌∷◌, ◌++◌, refl, sym, ap, ◌∙◌, subst, inl, inr, ◌⊎◌, Option}
+use Rattle.std.proofs.Common.{Some, None}
 use Rattle.std.specs.Prelude.{◌==◌}
 use Rattle.std.proofs.lemmas.Bool.{eqb-true, eqb-false}
 use Rattle.std.proofs.lemmas.List.{take_all, take_more}
@@ -12,7 +14,8 @@ use Rattle.round_meaning.specs.Rounds.{algorithm_of, rounds}
 use Rattle.round_meaning.specs.Turn.{decision}
 use Rattle.round_meaning.specs.declared.setup.Setup.{Setup}
 use Rattle.round_meaning.proofs.Consensus.{decisions_agree, decisions_are_inputs}
-use Rattle.omission_explainer.specs.Decided.{AreOfRun, IsDecided, IsNeverSplit, IsOfRun, IsSummary, RunsAgree, summary_of, with_decision}
+use Rattle.omission_explainer.specs.Decided.{AreOfRun, IsDecided, IsNeverSplit, IsOfRun, IsSummary}
+use Rattle.omission_explainer.specs.Decided.{RunsAgree, summary_of, with_decision}
 use Rattle.omission_explainer.specs.Rows.{ClosedRound}
 use Rattle.omission_explainer.specs.declared.summary.Decided.{Decided}
 use Rattle.omission_explainer.specs.declared.summary.Decided.TheVariants as d

@@ -1,5 +1,7 @@
 -- Texts as loops write them.
-use Rattle.std.proofs.Common.{◌≡◌, ℕ, zero, suc, ◌+◌, Bool, true, false, cond, List, [], ◌∷◌, ◌++◌, Option, map, refl, sym, ap, ◌∙◌, subst, append_assoc, append-nil, length, length-take-le, take, get_or, ◌<◌, add-zero, add-one, arith}
+use Rattle.std.proofs.Common.{◌≡◌, ℕ, zero, suc, ◌+◌, Bool, true, false, cond, List, [], ◌∷◌, ◌++◌}
+use Rattle.std.proofs.Common.{Option, map, refl, sym, ap, ◌∙◌, subst, append_assoc, append-nil}
+use Rattle.std.proofs.Common.{length, length-take-le, take, get_or, ◌<◌, add-zero, add-one, arith}
 use Rattle.std.specs.Prelude.{◌≢◌, slice_index, codes}
 use Rattle.std.specs.Fmt.{decimal}
 use denote.Text.{Utf8}
@@ -11,7 +13,9 @@ use Rattle.std.proofs.lemmas.List.Elements.{filter-append}
 use Rattle.std.proofs.lemmas.List.{take_more, flat_map_more}
 use Rattle.std.proofs.lemmas.Grind.{flat_map-append}
 use Rattle.std.proofs.lemmas.Bool.Decides.{nat_tests}
-use Rattle.omission_explainer.specs.Report.{with_commas, entry_text, is_entered, count_text, counts_text, decision_text, nodes_text, row_text, state_text, type_at, value_text, variable_text}
+use Rattle.omission_explainer.specs.Report.{with_commas, entry_text, is_entered, count_text}
+use Rattle.omission_explainer.specs.Report.{counts_text, decision_text, nodes_text, row_text}
+use Rattle.omission_explainer.specs.Report.{state_text, type_at, value_text, variable_text}
 use Rattle.omission_explainer.specs.Rows.{ClosedRound}
 use Rattle.omission_explainer.specs.declared.report.Report.{Report}
 use Rattle.round_lang.specs.declared.expr.Ty.{Ty}

@@ -5,12 +5,13 @@ use Rattle.std.specs.List.{slice_get}
 use Rattle.std.proofs.lemmas.List.{reverse-reverse}
 use Rattle.step_machine.specs.declared.event.Event.{Event}
 use Rattle.step_machine.specs.declared.event.Event.TheVariants.{Step}
-use Rattle.step_journal.specs.Log.{Log, history, world_of}
-use Rattle.step_journal.specs.Places.{steps_before}
-use Rattle.step_journal.specs.Trace.{steps}
-use Rattle.step_journal.specs.World.{is_receive}
-use Rattle.step_journal.proofs.Moments.{At, at_place, at_steps, place_at}
-use Rattle.omission_explainer.specs.Verdict.{AreNodes, IsDelayBound, IsLetInBetween, IsLockstep, IsSentAt}
+use Rattle.step_book.specs.Log.{Log, history, world_of}
+use Rattle.step_book.specs.Places.{steps_before}
+use Rattle.step_book.specs.Trace.{steps}
+use Rattle.step_book.specs.World.{is_receive}
+use Rattle.step_book.proofs.Moments.{At, at_place, at_steps, place_at}
+use Rattle.omission_explainer.specs.Verdict.{AreNodes, IsDelayBound, IsLetInBetween, IsLockstep}
+use Rattle.omission_explainer.specs.Verdict.{IsSentAt}
 use Rattle.omission_explainer.proofs.Passes.{IsBoundTo, IsPacedTo, SpokenAt}
 
 -- the moment of a place

@@ -1,5 +1,6 @@
 -- What all decisions of a report come to.
-use Rattle.std.specs.Prelude.{◌≡◌, ◌≢◌, ◌⊎◌, ◌<◌, ℕ, Bool, List, [], ◌∷◌, All, Option, Some, None, ◌++◌, codes, if◌then◌else◌, ◌==◌}
+use Rattle.std.specs.Prelude.{◌≡◌, ◌≢◌, ◌⊎◌, ◌<◌, ℕ, Bool, List, [], ◌∷◌, All, Option, Some, None}
+use Rattle.std.specs.Prelude.{◌++◌, codes, if◌then◌else◌, ◌==◌}
 use Rattle.std.specs.Fmt.{decimal}
 use Rattle.std.specs.List.{fold}
 use Rattle.round_lang.specs.Syntax.{ProgramTree}
@@ -38,7 +39,8 @@ summary_of rows = fold (λ all (row : ClosedRound). with_decision all row.decisi
 -- state's
 abbrev pub IsOfRun : ProgramTree → Setup → (omits : ℕ → ℕ → ℕ → Bool) → ClosedRound → Type 0
 IsOfRun p s omits row =
-    (row.node < s.nodes) × IsOfRounds (algorithm_of p s) omits row × (row.decision ≡ decision p row.state)
+    (row.node < s.nodes) × IsOfRounds (algorithm_of p s) omits row
+    × (row.decision ≡ decision p row.state)
 
 abbrev pub AreOfRun : ProgramTree → Setup → (omits : ℕ → ℕ → ℕ → Bool) → List ClosedRound → Type 0
 AreOfRun p s omits rows = All (IsOfRun p s omits) rows
@@ -54,12 +56,14 @@ AreInputs s rows = (v : ℕ) → IsDecided rows v → IsInput s v
 -- rows of a run of Algorithm 1 agree, and their decisions are inputs
 abbrev pub RunsAgree : List ClosedRound → Type 0
 RunsAgree rows =
-    (p : ProgramTree) (s : Setup) (omits : ℕ → ℕ → ℕ → Bool) → RunsAlgorithm1 p s → AreOfRun p s omits rows → AreAgreed rows × AreInputs s rows
+    (p : ProgramTree) (s : Setup) (omits : ℕ → ℕ → ℕ → Bool) → RunsAlgorithm1 p s
+    → AreOfRun p s omits rows → AreAgreed rows × AreInputs s rows
 
 -- the summary of such rows isn't Split
 abbrev pub IsNeverSplit : List ClosedRound → Decided → Type 0
 IsNeverSplit rows all =
-    (p : ProgramTree) (s : Setup) (omits : ℕ → ℕ → ℕ → Bool) → RunsAlgorithm1 p s → AreOfRun p s omits rows → all ≢ d.Split
+    (p : ProgramTree) (s : Setup) (omits : ℕ → ℕ → ℕ → Bool) → RunsAlgorithm1 p s
+    → AreOfRun p s omits rows → all ≢ d.Split
 
 -- `-`, the decision, or `split`
 abbrev pub decided_text : Decided → List ℕ

@@ -7,7 +7,8 @@ use Rattle.omission_explainer.specs.Rows.{ClosedRound}
 -- the set that rows print as omitted for round r of node i, empty where they have no such row
 unfoldable pub printed_omitted : List ClosedRound → ℕ → ℕ → ℕ
 printed_omitted [] i r = 0
-printed_omitted (row ∷ rows) i r = if row.node == i && row.round == r then row.omitted else printed_omitted rows i r
+printed_omitted (row ∷ rows) i r =
+    if row.node == i && row.round == r then row.omitted else printed_omitted rows i r
 
 -- the omission table that rows print
 abbrev pub printed_omits : List ClosedRound → ℕ → ℕ → ℕ → Bool

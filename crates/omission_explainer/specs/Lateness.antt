@@ -1,15 +1,17 @@
 -- The delay bound in the receiver's own steps, as one pass over a trace can tell it.
-use Rattle.std.specs.Prelude.{◌≡◌, ◌≢◌, ℕ, suc, ◌+◌, ◌<◌, ◌≤◌, Bool, true, false, List, if◌then◌else◌, max, min, slice_index}
+use Rattle.std.specs.Prelude.{◌≡◌, ◌≢◌, ℕ, suc, ◌+◌, ◌<◌, ◌≤◌, Bool, true, false, List}
+use Rattle.std.specs.Prelude.{if◌then◌else◌, max, min, slice_index}
 use Rattle.round_lang.specs.Sets.{is_in}
-use Rattle.step_journal.specs.declared.mark.Mark.{Mark}
-use Rattle.step_journal.specs.declared.mark.Mark.TheVariants.{Unsent, Silent, Flying, Released, Lost}
-use Rattle.step_journal.specs.History.{mark_of}
-use Rattle.step_journal.specs.Trace.{steps}
-use Rattle.step_journal.specs.World.{World, is_receive, nodes_of}
+use Rattle.step_book.specs.declared.mark.Mark.{Mark}
+use Rattle.step_book.specs.declared.mark.Mark.TheVariants.{Unsent, Silent, Flying, Released, Lost}
+use Rattle.step_book.specs.History.{mark_of}
+use Rattle.step_book.specs.Trace.{steps}
+use Rattle.step_book.specs.World.{World, is_receive, nodes_of}
 use Rattle.step_machine.specs.declared.event.Event.{Event}
 use Rattle.step_machine.specs.declared.event.Name.{Name}
 
--- the step number below which a receiver that has taken `count` steps lacked a copy: that of its release, or the next one
+-- the step number below which a receiver that has taken `count` steps lacked a copy: that of its
+-- release, or the next one
 abbrev pub copy_open_until : ℕ → Mark → ℕ
 copy_open_until count Unsent = count
 copy_open_until count Silent = count
@@ -33,9 +35,11 @@ least_copy f = min (min (min (f 0) (f 1)) (f 2)) (f 3)
 abbrev pub marks_of : World → List Event → Name → ℕ → Mark
 marks_of w t n k = mark_of w t (record n { copy = k })
 
--- the step number below which a receiver that has taken `count` steps lacked each copy of a message; it lacks nothing of silence
+-- the step number below which a receiver that has taken `count` steps lacked each copy of a
+-- message; it lacks nothing of silence
 abbrev pub open_until : ℕ → (ℕ → Mark) → ℕ
-open_until count marks = if is_spoken (marks 0) then least_copy (λ k. copy_open_until count (marks k)) else 0
+open_until count marks =
+    if is_spoken (marks 0) then least_copy (λ k. copy_open_until count (marks k)) else 0
 
 -- one of the step numbers from low on and below high is a receive
 pub record HasReceive (w : World) (low high : ℕ) : Type 0 where
@@ -44,9 +48,11 @@ pub record HasReceive (w : World) (low high : ℕ) : Type 0 where
   pub before : step < high
   pub receive : is_receive w step ≡ true
 
--- where node j takes its next step after so many steps of each correct node, each of them has taken as many
+-- where node j takes its next step after so many steps of each correct node, each of them has taken
+-- as many
 abbrev pub KeepsPace : ℕ → List ℕ → ℕ → Type 0
-KeepsPace correct counts i = (j : ℕ) → is_in correct j ≡ true → slice_index counts i ≤ slice_index counts j
+KeepsPace correct counts i =
+    (j : ℕ) → is_in correct j ≡ true → slice_index counts i ≤ slice_index counts j
 
 -- no slot to a node in a round has this step number
 abbrev pub IsNoOwnSlot : World → ℕ → Type 0
@@ -61,8 +67,10 @@ pub record IsOwnSlot (w : World) (j count : ℕ) (n : Name) : Type 0 where
   pub copy : n.copy ≡ 0
   pub slot : count ≡ w.start n.round + n.to
 
--- where node j takes its next step after so many steps of each correct node, no message that it sends there is too late for a receive
+-- where node j takes its next step after so many steps of each correct node, no message that it
+-- sends there is too late for a receive
 abbrev pub KeepsBound : World → List Event → ℕ → ℕ → ℕ → List ℕ → ℕ → Type 0
 KeepsBound w t correct delta gst counts j =
-    (n : Name) → IsOwnSlot w j (slice_index counts j) n → is_in correct n.to ≡ true → gst ≤ slice_index counts j
-    → ¬ HasReceive w (max (slice_index counts j + delta) (slice_index counts n.to)) (open_until (steps n.to t) (marks_of w t n))
+    (n : Name) → IsOwnSlot w j (slice_index counts j) n → is_in correct n.to ≡ true
+    → gst ≤ slice_index counts j → ¬ HasReceive w (max (slice_index counts j + delta)
+    (slice_index counts n.to)) (open_until (steps n.to t) (marks_of w t n))

@@ -12,8 +12,9 @@ abbrev pub is_silent : (sends stands : ℕ → Bool) → ℕ → Bool
 is_silent sends stands j = stands j && not (sends j)
 
 -- all other senders
-abbrev pub is_omitted : (carried sends stands : ℕ → Bool) → ℕ → Bool
-is_omitted carried sends stands j = not (is_heard carried sends j) && not (is_silent sends stands j)
+abbrev pub prints_omitted : (carried sends stands : ℕ → Bool) → ℕ → Bool
+prints_omitted carried sends stands j =
+    not (is_heard carried sends j) && not (is_silent sends stands j)
 
 -- the sets of the nodes below n
 abbrev pub heard_set : ℕ → (carried sends : ℕ → Bool) → ℕ
@@ -25,7 +26,7 @@ silent_set n sends stands = set_of n (is_silent sends stands)
 
 -- the omitted senders below n
 abbrev pub omitted_set : ℕ → (carried sends stands : ℕ → Bool) → ℕ
-omitted_set n carried sends stands = set_of n (is_omitted carried sends stands)
+omitted_set n carried sends stands = set_of n (prints_omitted carried sends stands)
 
 -- a row's sets are those of what was carried, sent and stood
 pub record IsPrinted (n : ℕ) (carried sends stands : ℕ → Bool) (row : ClosedRound) : Type 0 where

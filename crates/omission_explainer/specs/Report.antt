@@ -1,5 +1,7 @@
 -- The text of a report, line by line.
-use Rattle.std.specs.Prelude.{ℕ, ◌+◌, ◌++◌, ◌==◌, Bool, not, List, [], ◌∷◌, Option, Some, None, codes, map, filter, length, if◌then◌else◌, slice_index, slice_index_or}
+use Rattle.std.specs.Prelude.{ℕ, ◌+◌, ◌++◌, ◌==◌, Bool, not, List, [], ◌∷◌, Option, Some, None}
+use Rattle.std.specs.Prelude.{codes, map, filter, length, if◌then◌else◌, slice_index}
+use Rattle.std.specs.Prelude.{slice_index_or}
 use Rattle.std.specs.Fmt.{decimal}
 use Rattle.std.specs.List.{flat_map, join_with_byte, range_with_len}
 use Rattle.round_lang.specs.Sets.{members}
@@ -45,7 +47,8 @@ entry_text entries v = decimal v ++ codes ":" ++ decimal (slice_index entries v)
 
 -- a row: its entries other than 0, as `[1:2,3:1]` or `[]`
 abbrev pub entries_text : ℕ → List ℕ → List ℕ
-entries_text k entries = codes "[" ++ with_commas (map (entry_text entries) (entered k entries)) ++ codes "]"
+entries_text k entries =
+    codes "[" ++ with_commas (map (entry_text entries) (entered k entries)) ++ codes "]"
 
 -- a value in the form of its type
 abbrev pub value_text : ℕ → Ty → Value → List ℕ
@@ -61,7 +64,8 @@ type_at types i = slice_index_or types i ty.Num
 -- ` NAME=VALUE`
 abbrev pub variable_text : Report → List Value → ℕ → List ℕ
 variable_text report state i =
-    codes " " ++ slice_index_or report.names i [] ++ codes "=" ++ value_text report.values (type_at report.types i) (at state i)
+    codes " " ++ slice_index_or report.names i [] ++ codes "="
+    ++ value_text report.values (type_at report.types i) (at state i)
 
 -- the variables in the order of their declarations
 abbrev pub state_text : Report → List Value → List ℕ
@@ -85,7 +89,8 @@ row_text report r =
 -- the line of a node's steps and closed rounds
 abbrev pub count_text : ℕ → ℕ × ℕ → List ℕ
 count_text node count =
-    codes "node " ++ decimal node ++ codes " steps " ++ decimal count.0 ++ codes " rounds " ++ decimal count.1 ++ codes "\n"
+    codes "node " ++ decimal node ++ codes " steps " ++ decimal count.0 ++ codes " rounds "
+    ++ decimal count.1 ++ codes "\n"
 
 -- the lines of the nodes from one on
 abbrev pub counts_text : ℕ → List (ℕ × ℕ) → List ℕ

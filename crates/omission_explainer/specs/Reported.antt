@@ -5,10 +5,10 @@ use Rattle.round_check.specs.Types.{kind_type}
 use Rattle.round_lang.specs.declared.expr.Ty.{Ty}
 use Rattle.round_lang.specs.Syntax.{ProgramTree}
 use Rattle.round_meaning.specs.Turn.{decision}
-use Rattle.step_journal.specs.Fates.{carried}
-use Rattle.step_journal.specs.History.{message, state}
-use Rattle.step_journal.specs.Log.{Log, count_of, history, round_of, world_of}
-use Rattle.step_journal.specs.Work.{sent_name}
+use Rattle.step_book.specs.Fates.{carried}
+use Rattle.step_book.specs.History.{message, state}
+use Rattle.step_book.specs.Log.{Log, count_of, history, round_of, world_of}
+use Rattle.step_book.specs.Work.{sent_name}
 use Rattle.omission_explainer.specs.Printed.{IsPrinted, heard_set, silent_set, omitted_set}
 use Rattle.omission_explainer.specs.Rows.{ClosedRound}
 
@@ -20,7 +20,8 @@ carried_in start v r i j = carried (world_of start v) (history v) i r j
 abbrev pub sends_in : (ℕ → ℕ) → Log → ℕ → ℕ → ℕ → Bool
 sends_in start v r i j = is_some (message (world_of start v) (history v) (sent_name j i r))
 
--- node j's slot to node i in a round stands in the trace: it took more steps than come before that one
+-- node j's slot to node i in a round stands in the trace: it took more steps than come before that
+-- one
 abbrev pub stands_in : (ℕ → ℕ) → Log → ℕ → ℕ → ℕ → Bool
 stands_in start v r i j = nat_lt (start r + i) (count_of v j)
 
@@ -32,11 +33,13 @@ abbrev pub silent_in : (ℕ → ℕ) → Log → ℕ → ℕ → ℕ
 silent_in start v r i = silent_set v.setup.nodes (sends_in start v r i) (stands_in start v r i)
 
 abbrev pub omitted_in : (ℕ → ℕ) → Log → ℕ → ℕ → ℕ
-omitted_in start v r i = omitted_set v.setup.nodes (carried_in start v r i) (sends_in start v r i) (stands_in start v r i)
+omitted_in start v r i = omitted_set v.setup.nodes (carried_in start v r i)
+    (sends_in start v r i) (stands_in start v r i)
 
 -- the row's three sets are those of the round of node i
 abbrev pub IsRowOf : (ℕ → ℕ) → Log → ℕ → ℕ → ClosedRound → Type 0
-IsRowOf start v r i row = IsPrinted v.setup.nodes (carried_in start v r i) (sends_in start v r i) (stands_in start v r i) row
+IsRowOf start v r i row = IsPrinted v.setup.nodes (carried_in start v r i)
+    (sends_in start v r i) (stands_in start v r i) row
 
 -- the row is of a closed round of a node, with its sets, its state and its decision
 pub record IsReported (start : ℕ → ℕ) (v : Log) (row : ClosedRound) : Type 0 where
@@ -72,9 +75,9 @@ abbrev pub counts_in : Log → List (ℕ × ℕ)
 counts_in v = map (count_in v) (range_with_len 0 v.setup.nodes)
 
 -- the variables' names in the order of their declarations, the input among them
-abbrev pub names_in : ProgramTree → List (List ℕ)
-names_in p = map (λ d. d.name) p.variables
+abbrev pub declared_names : ProgramTree → List (List ℕ)
+declared_names p = map (λ d. d.name) p.variables
 
 -- the variables' types in that order
-abbrev pub types_in : ProgramTree → List Ty
-types_in p = map (λ d. kind_type d.kind) p.variables
+abbrev pub declared_types : ProgramTree → List Ty
+declared_types p = map (λ d. kind_type d.kind) p.variables

@@ -2,13 +2,17 @@
 ghost use Rattle.std.specs.Prelude.{◌≡◌, ◌≢◌, ◌+◌, ◌<◌, ◌≤◌, ◌↔◌, ℕ, All, IfOk, IsTrue, map};
 ghost use Rattle.std.specs.Arc.{arc_value};
 ghost use Rattle.round_check.specs.Types.{kind_type};
+ghost use Rattle.round_meaning.specs.Agreement.{RunsAlgorithm1};
 ghost use Rattle.round_meaning.specs.Rounds.{algorithm_of};
 ghost use Rattle.round_meaning.specs.Turn.{decision};
-ghost use Rattle.step_journal.specs.Agreement.{row};
-ghost use Rattle.step_journal.specs.Log.{history, round_of, world_of};
-ghost use Rattle.step_journal.specs.History.{state};
+ghost use Rattle.step_book.specs.Agreement.{row};
+ghost use Rattle.step_book.specs.Log.{history, round_of, world_of};
+ghost use Rattle.step_book.specs.History.{state};
+ghost use Rattle.omission_explainer.specs.Decided.{AreAgreed, AreInputs};
 ghost use Rattle.omission_explainer.specs.InRounds.{IsOfRounds, printed_omits};
-ghost use Rattle.omission_explainer.specs.Reported.{IsReported, IsRowOf, closed_rounds, counts_in, heard_in, names_in, omitted_in, place, silent_in, types_in};
+ghost use Rattle.omission_explainer.specs.Reported.{IsReported, IsRowOf, closed_rounds, counts_in};
+ghost use Rattle.omission_explainer.specs.Reported.{heard_in, declared_names, omitted_in, place};
+ghost use Rattle.omission_explainer.specs.Reported.{silent_in, declared_types};
 
 use crate::listed::Listed;
 use crate::report::{Report, ReportRow};
@@ -17,18 +21,29 @@ use round_meaning::{NodeSet, decision_of};
 use slot_plans::Plan;
 use std::alloc::Global;
 use std::sync::Arc;
-use step_journal::{Book, Journal, Mark, earliest};
+use step_book::{Book, Mark, earliest};
+use step_journal::Journal;
 use step_machine::Name;
 
-/// The report of a journal: its closed rounds, as rounds with omissions.
+/// The report of a journal: its closed rounds, as rounds with omissions. Where the program is
+/// Algorithm 1, for a setup with fewer than half of the nodes faulty, all decisions in it are
+/// equal, and each is some node's input.
 pub fn explain<P: Plan>(alloc: Global, journal: &Journal<P>) -> Result<Report, NoMemory>
     ensures values { IfOk result (λ report. report.values ≡ journal.now.log.program.values) }
-    ensures names { IfOk result (λ report. report.names ≡ names_in journal.now.log.program) }
-    ensures types { IfOk result (λ report. report.types ≡ types_in journal.now.log.program) }
-    ensures reported { IfOk result (λ report. All (IsReported (P.start journal.now.plan) journal.now.log) report.rows) }
+    ensures names { IfOk result (λ report. report.names ≡ declared_names journal.now.log.program) }
+    ensures types { IfOk result (λ report. report.types ≡ declared_types journal.now.log.program) }
+    ensures reported { IfOk result
+        (λ report. All (IsReported (P.start journal.now.plan) journal.now.log) report.rows) }
     ensures listed { IfOk result (λ report. map place report.rows ≡ closed_rounds journal.now.log) }
-    ensures in_rounds { IfOk result (λ report. All (IsOfRounds (algorithm_of journal.now.log.program journal.now.log.setup) (printed_omits report.rows)) report.rows) }
+    ensures in_rounds { IfOk result
+        (λ report. All (IsOfRounds (algorithm_of journal.now.log.program journal.now.log.setup)
+        (printed_omits report.rows)) report.rows) }
     ensures counted { IfOk result (λ report. report.counts ≡ counts_in journal.now.log) }
+    ensures agreement { IfOk result (λ report.
+        RunsAlgorithm1 journal.now.log.program journal.now.log.setup → AreAgreed report.rows) }
+    ensures validity { IfOk result (λ report.
+        RunsAlgorithm1 journal.now.log.program journal.now.log.setup
+        → AreInputs journal.now.log.setup report.rows) }
 {
     let book = journal.book();
     book.agrees();
@@ -43,7 +58,7 @@ pub fn explain<P: Plan>(alloc: Global, journal: &Journal<P>) -> Result<Report, N
 }
 
 fn names_of(alloc: Global, program: &Program) -> Result<Listed<Identifier>, NoMemory>
-    ensures { IfOk result (λ names. names ≡ names_in program.now) }
+    ensures { IfOk result (λ names. names ≡ declared_names program.now) }
 {
     let mut names = Vec::new(alloc);
     for variable in program.variables() {
@@ -53,7 +68,7 @@ fn names_of(alloc: Global, program: &Program) -> Result<Listed<Identifier>, NoMe
 }
 
 fn types_of(alloc: Global, program: &Program) -> Result<Listed<Ty>, NoMemory>
-    ensures { IfOk result (λ types. types ≡ types_in program.now) }
+    ensures { IfOk result (λ types. types ≡ declared_types program.now) }
 {
     let mut types = Vec::new(alloc);
     for variable in program.variables() {
@@ -73,9 +88,12 @@ fn type_of(kind: &VariableKind) -> Ty
 
 /// A row for each closed round of each node, by round and then by node.
 fn rows_of<P: Plan>(alloc: Global, book: &Book<P>) -> Result<Vec<ReportRow>, NoMemory>
-    ensures reported { IfOk result (λ rows. All (IsReported (P.start book.now.plan) book.now.log) rows.items) }
+    ensures reported { IfOk result
+        (λ rows. All (IsReported (P.start book.now.plan) book.now.log) rows.items) }
     ensures listed { IfOk result (λ rows. map place rows.items ≡ closed_rounds book.now.log) }
-    ensures in_rounds { IfOk result (λ rows. All (IsOfRounds (algorithm_of book.now.log.program book.now.log.setup) (printed_omits rows.items)) rows.items) }
+    ensures in_rounds { IfOk result
+        (λ rows. All (IsOfRounds (algorithm_of book.now.log.program book.now.log.setup)
+        (printed_omits rows.items)) rows.items) }
 {
     book.agrees();
     let mut rows = Vec::new(alloc);
@@ -142,8 +160,10 @@ fn outcomes_of<P: Plan>(book: &Book<P>, node: u32, round: u32) -> Outcomes
     requires few { round ≤ 4096 }
     requires closed { round < round_of book.now.log node }
     ensures heard { result.heard.bits ≡ heard_in (P.start book.now.plan) book.now.log round node }
-    ensures silent { result.silent.bits ≡ silent_in (P.start book.now.plan) book.now.log round node }
-    ensures omitted { result.omitted.bits ≡ omitted_in (P.start book.now.plan) book.now.log round node }
+    ensures silent { result.silent.bits
+        ≡ silent_in (P.start book.now.plan) book.now.log round node }
+    ensures omitted { result.omitted.bits
+        ≡ omitted_in (P.start book.now.plan) book.now.log round node }
 {
     book.agrees();
     let first = u64::from(book.plan().start(earliest(round)));
@@ -180,7 +200,8 @@ fn row_of<P: Plan>(book: &Book<P>, node: u32, round: u32) -> Result<ReportRow, N
     ensures round { IfOk result (λ r. r.round ≡ round) }
     ensures node { IfOk result (λ r. r.node ≡ node) }
     ensures printed { IfOk result (λ r. IsRowOf (P.start book.now.plan) book.now.log round node r) }
-    ensures state { IfOk result (λ r. r.state ≡ state (world_of (P.start book.now.plan) book.now.log) (history book.now.log) round node) }
+    ensures state { IfOk result (λ r. r.state
+        ≡ state (world_of (P.start book.now.plan) book.now.log) (history book.now.log) round node) }
     ensures decision { IfOk result (λ r. r.decision ≡ decision book.now.log.program r.state) }
 {
     book.agrees();

@@ -1,15 +1,20 @@
 //! Whether a run kept what its plan counts on.
-ghost use Rattle.std.specs.Prelude.{◌≡◌, ◌+◌, ◌<◌, ◌≤◌, ◌↔◌, IfSome, IsTrue, MatchOption, Some, length, max};
+ghost use Rattle.std.specs.Prelude.{◌≡◌, ◌+◌, ◌<◌, ◌≤◌, ◌↔◌, IfSome, IsTrue, MatchOption, Some};
+ghost use Rattle.std.specs.Prelude.{length, max};
 ghost use Rattle.slot_plans.specs.Plan.{IsClearRound};
-ghost use Rattle.step_journal.specs.Log.{count_of, history, mark_in, world_of};
-ghost use Rattle.step_journal.specs.Names.{IsName};
-ghost use Rattle.omission_explainer.specs.Lateness.{HasReceive, IsNoOwnSlot, IsOwnSlot, KeepsBound, KeepsPace, copy_open_until, marks_of, open_until};
-ghost use Rattle.omission_explainer.specs.Verdict.{AreNodes, HearsFrom, IsDelayBound, IsLockstep, yes_or_no};
+ghost use Rattle.step_book.specs.Log.{count_of, history, mark_in, world_of};
+ghost use Rattle.step_book.specs.Names.{IsName};
+ghost use Rattle.omission_explainer.specs.Lateness.{HasReceive, IsNoOwnSlot, IsOwnSlot, KeepsBound};
+ghost use Rattle.omission_explainer.specs.Lateness.{KeepsPace, copy_open_until, marks_of};
+ghost use Rattle.omission_explainer.specs.Lateness.{open_until};
+ghost use Rattle.omission_explainer.specs.Verdict.{AreNodes, HearsFrom, IsDelayBound, IsLockstep};
+ghost use Rattle.omission_explainer.specs.Verdict.{yes_or_no};
 
 use round_meaning::NodeSet;
 use slot_plans::{MAX_NODES, Plan, Slot};
 use std::fmt;
-use step_journal::{Book, Journal, Mark};
+use step_book::{Book, Mark};
+use step_journal::Journal;
 use step_machine::{Event, Name};
 
 /// What a run was for a set of correct nodes: whether they stepped in lockstep, whether their
@@ -55,9 +60,12 @@ const COUNTS: usize = MAX_NODES as usize;
 pub fn judge<P: Plan>(journal: &Journal<P>, correct: NodeSet, delta: u32, gst: u32) -> Verdict
     requires { AreNodes journal.now.log.setup.nodes correct.bits }
     ensures lockstep { IsTrue result.lockstep ↔ IsLockstep journal.now.log.trace correct.bits }
-    ensures bound { IsTrue result.bound ↔ IsDelayBound (P.start journal.now.plan) journal.now.log correct.bits delta gst }
-    ensures hears { IsTrue result.lockstep → IsTrue result.bound → IfSome result.clear (HearsFrom (P.start journal.now.plan) journal.now.log correct.bits) }
-    ensures clear { IsClearRound (P.receives journal.now.plan) (P.start journal.now.plan) delta gst result.clear }
+    ensures bound { IsTrue result.bound
+        ↔ IsDelayBound (P.start journal.now.plan) journal.now.log correct.bits delta gst }
+    ensures hears { IsTrue result.lockstep → IsTrue result.bound
+        → IfSome result.clear (HearsFrom (P.start journal.now.plan) journal.now.log correct.bits) }
+    ensures clear { IsClearRound (P.receives journal.now.plan)
+        (P.start journal.now.plan) delta gst result.clear }
 {
     let book = journal.book();
     book.agrees();
@@ -122,7 +130,8 @@ fn keeps_bound<P: Plan>(book: &Book<P>, terms: Terms, counts: &[u64], node: u32)
     requires sized { length counts.now ≡ 16 }
     requires node { node < book.now.log.setup.nodes }
     requires within { AreNodes book.now.log.setup.nodes terms.correct.bits }
-    ensures { IsTrue result ↔ KeepsBound (world_of (P.start book.now.plan) book.now.log) (history book.now.log) terms.correct.bits terms.delta terms.gst counts.now node }
+    ensures { IsTrue result ↔ KeepsBound (world_of (P.start book.now.plan) book.now.log)
+        (history book.now.log) terms.correct.bits terms.delta terms.gst counts.now node }
 {
     book.agrees();
     let count = counts[node as usize];
@@ -167,7 +176,8 @@ fn slot_at<P: Plan>(book: &Book<P>, node: u32, count: u64) -> Option<Name>
 /// Up to which step number its receiver lacks a message: its copies' least.
 fn open_until<P: Plan>(book: &Book<P>, name: Name) -> u64
     requires { IsName book.now.log.setup name }
-    ensures { result ≡ open_until (count_of book.now.log name.to) (marks_of (world_of (P.start book.now.plan) book.now.log) (history book.now.log) name) }
+    ensures { result ≡ open_until (count_of book.now.log name.to)
+        (marks_of (world_of (P.start book.now.plan) book.now.log) (history book.now.log) name) }
 {
     match book.mark(name.original()) {
         Mark::Unsent | Mark::Silent => 0,
@@ -182,7 +192,8 @@ fn open_until<P: Plan>(book: &Book<P>, name: Name) -> u64
 fn copy_open_until<P: Plan>(book: &Book<P>, name: Name, copy: u32) -> u64
     requires name { IsName book.now.log.setup name }
     requires copy { copy ≤ 3 }
-    ensures { result ≡ copy_open_until (count_of book.now.log name.to) (mark_in (P.start book.now.plan) book.now.log (record name { copy = copy })) }
+    ensures { result ≡ copy_open_until (count_of book.now.log name.to)
+        (mark_in (P.start book.now.plan) book.now.log (record name { copy = copy })) }
 {
     match book.mark(Name { copy, ..name }) {
         Mark::Released(count) => count,

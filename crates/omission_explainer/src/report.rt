@@ -6,8 +6,9 @@ use round_meaning::NodeSet;
 use std::marker::Model;
 use std::sync::Arc;
 
-/// A closed round of a node: the nodes heard from, those that were silent to it, those whose message
-/// was omitted, and its state and decision after the round. Rounds count from 1 and nodes from 0.
+/// A closed round of a node: the nodes heard from, those that were silent to it, those whose
+/// message was omitted, and its state and decision after the round. Rounds count from 1 and nodes
+/// from 0.
 #[derive(Drop)]
 pub struct ReportRow {
     pub round: u32,

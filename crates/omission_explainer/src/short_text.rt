@@ -4,7 +4,8 @@ ghost use Rattle.omission_explainer.specs.Short.{room};
 
 use std::marker::Model;
 
-/// How many bytes a short text may have: 64 members below 64 take two digits and a comma each at most.
+/// How many bytes a short text may have: 64 members below 64 take two digits and a comma each at
+/// most.
 pub(crate) const ROOM: usize = 192;
 
 /// Bytes up to a bound, without memory of their own; contracts see the list of them.

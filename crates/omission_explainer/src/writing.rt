@@ -6,7 +6,9 @@ ghost use Rattle.std.specs.List.{flat_map};
 ghost use Rattle.round_lang.specs.Sets.{members};
 ghost use Rattle.round_lang.specs.Values.{at, row};
 ghost use Rattle.omission_explainer.specs.Short.{room};
-ghost use Rattle.omission_explainer.specs.Report.{counts_text, decision_text, entries_text, nodes_text, numbers_text, report_text, row_text, set_text, state_text, type_at, value_text};
+ghost use Rattle.omission_explainer.specs.Report.{counts_text, decision_text, entries_text};
+ghost use Rattle.omission_explainer.specs.Report.{nodes_text, numbers_text, report_text, row_text};
+ghost use Rattle.omission_explainer.specs.Report.{set_text, state_text, type_at, value_text};
 
 use crate::report::{Report, ReportRow};
 use crate::short_text::ShortText;
@@ -15,12 +17,15 @@ use round_meaning::NodeSet;
 use std::io;
 use std::io::Write;
 
-/// Writes a report's text: a line for each of its rows, and then a line for each node, each with LF.
+/// Writes a report's text: a line for each of its rows, and then a line for each node, each with
+/// LF.
 ///
-/// It takes no memory, and writes in small pieces, so a file's or a terminal's writer is best buffered.
-/// The first fault of the writer is answered as it came; the writer then has the text up to there.
+/// It takes no memory, and writes in small pieces, so a file's or a terminal's writer is best
+/// buffered. The first fault of the writer is answered as it came; the writer then has the text up
+/// to there.
 pub fn write_report<W: Write>(report: &Report, out: &mut W) -> io::Result<()>
-    ensures { OnOk result (Appends (W.contents out.old) (W.contents out.new) (report_text report.now)) }
+    ensures { OnOk result
+        (Appends (W.contents out.old) (W.contents out.new) (report_text report.now)) }
 {
     write_rows(report, out)?;
     write_counts(report.counts.as_slice(), out)
@@ -37,7 +42,8 @@ fn write_rows<W: Write>(report: &Report, out: &mut W) -> io::Result<()>
 }
 
 fn write_counts<W: Write>(counts: &[(u64, u64)], out: &mut W) -> io::Result<()>
-    ensures { OnOk result (Appends (W.contents out.old) (W.contents out.new) (counts_text 0 counts.now)) }
+    ensures { OnOk result
+        (Appends (W.contents out.old) (W.contents out.new) (counts_text 0 counts.now)) }
 {
     for (node, (steps, rounds)) in counts.iter().enumerate() {
         writeln!(out, "node {node} steps {steps} rounds {rounds}")?;
@@ -46,7 +52,8 @@ fn write_counts<W: Write>(counts: &[(u64, u64)], out: &mut W) -> io::Result<()>
 }
 
 fn write_row<W: Write>(report: &Report, row: &ReportRow, out: &mut W) -> io::Result<()>
-    ensures { OnOk result (Appends (W.contents out.old) (W.contents out.new) (row_text report.now row.now)) }
+    ensures { OnOk result
+        (Appends (W.contents out.old) (W.contents out.new) (row_text report.now row.now)) }
 {
     write!(out, "round {} node {}", row.round, row.node)?;
     write_nodes(" heard ", row.heard, out)?;

@@ -1,5 +1,6 @@
 -- What each policy chooses, and what becomes of it.
-use Rattle.std.specs.Prelude.{◌≡◌, ℕ, ◌+◌, ◌<◌, ◌≤◌, min, max, List, [], ◌∷◌, length, slice_index_or, Option, Some, None, All, if◌then◌else◌, ltb}
+use Rattle.std.specs.Prelude.{◌≡◌, ℕ, ◌+◌, ◌<◌, ◌≤◌, min, max, List, [], ◌∷◌, length}
+use Rattle.std.specs.Prelude.{slice_index_or, Option, Some, None, All, if◌then◌else◌, ltb}
 use Rattle.step_machine.specs.declared.event.InFlight.{InFlight}
 use Rattle.step_machine.specs.declared.event.Name.{Name}
 use Rattle.step_machine.specs.Frames.{original}
@@ -16,7 +17,8 @@ prompt_choice (m ∷ rest) = Some (Release 0)
 -- the message at place k is such a one, and none before it is
 abbrev pub IsFirstPlace : (InFlight → Type 0) → List InFlight → ℕ → Type 0
 IsFirstPlace Such flight k =
-    (k < length flight) × ((d : InFlight) → Such (slice_index_or flight k d)) × ((j : ℕ) (d : InFlight) → j < k → ¬ (Such (slice_index_or flight j d)))
+    (k < length flight) × ((d : InFlight) → Such (slice_index_or flight k d))
+    × ((j : ℕ) (d : InFlight) → j < k → ¬ (Such (slice_index_or flight j d)))
 
 -- copy 0 of the message is in flight under this entry
 abbrev pub IsOriginalOf : Name → InFlight → Type 0
@@ -27,7 +29,8 @@ IsOriginalOf n m = m.name ≡ original n
 abbrev pub ScriptChooses : List Name → List InFlight → Option Choice → List Name → Type 0
 ScriptChooses [] flight answer new = (answer ≡ None) × (new ≡ [])
 ScriptChooses (n ∷ rest) flight None new = All (λ m. ¬ (IsOriginalOf n m)) flight × (new ≡ n ∷ rest)
-ScriptChooses (n ∷ rest) flight (Some (Release k)) new = IsFirstPlace (IsOriginalOf n) flight k × (new ≡ rest)
+ScriptChooses (n ∷ rest) flight (Some (Release k)) new =
+    IsFirstPlace (IsOriginalOf n) flight k × (new ≡ rest)
 ScriptChooses (n ∷ rest) flight (Some c) new = ⊥
 
 -- the next choice is made as it stands and used up; after the last, the first message is released
@@ -37,7 +40,8 @@ FaultyChooses (c ∷ rest) flight answer new = (answer ≡ Some c) × (new ≡ r
 
 -- with fewer messages in flight than the count nothing is chosen; else the first message is
 -- released, and from then on no count is asked for
-pub record HoardChooses (count : ℕ) (flight : List InFlight) (answer : Option Choice) (new : ℕ) : Type 0 where
+pub record HoardChooses (count : ℕ) (flight : List InFlight)
+    (answer : Option Choice) (new : ℕ) : Type 0 where
   pub waits : length flight < count → (answer ≡ None) × (new ≡ count)
   pub begins : count ≤ length flight → (answer ≡ prompt_choice flight) × (new ≡ 0)
 
@@ -62,8 +66,10 @@ IsDue b now m = due_at b m ≤ now
 pub record IsLeastDue (b : Bounded) (now : ℕ) (flight : List InFlight) (k : ℕ) : Type 0 where
   pub within : k < length flight
   pub due : (d : InFlight) → IsDue b now (slice_index_or flight k d)
-  pub least : (j : ℕ) (d : InFlight) → j < length flight → IsDue b now (slice_index_or flight j d) → (slice_index_or flight k d).serial ≤ (slice_index_or flight j d).serial
-  pub first : (j : ℕ) (d : InFlight) → j < k → IsDue b now (slice_index_or flight j d) → (slice_index_or flight k d).serial < (slice_index_or flight j d).serial
+  pub least : (j : ℕ) (d : InFlight) → j < length flight → IsDue b now (slice_index_or flight j d)
+      → (slice_index_or flight k d).serial ≤ (slice_index_or flight j d).serial
+  pub first : (j : ℕ) (d : InFlight) → j < k → IsDue b now (slice_index_or flight j d)
+      → (slice_index_or flight k d).serial < (slice_index_or flight j d).serial
 
 -- the least serial of those that are due is released, and nothing where none is
 abbrev pub BoundedChooses : Bounded → ℕ → List InFlight → Option Choice → Type 0

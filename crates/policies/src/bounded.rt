@@ -42,7 +42,8 @@ impl Bounded {
 }
 
 impl Policy for Bounded {
-    ghost chooses = { λ old now flight answer new. BoundedChooses old now flight answer × (new ≡ old) };
+    ghost chooses = { λ old now flight answer new. BoundedChooses old now flight answer
+        × (new ≡ old) };
 
     fn choose(&mut self, now: u32, flight: &[InFlight]) -> Option<Choice> {
         least_due(self, now, flight).map(Choice::Release)

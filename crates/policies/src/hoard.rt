@@ -13,7 +13,8 @@ pub struct Hoard {
 }
 
 impl Policy for Hoard {
-    ghost chooses = { λ old _now flight answer new. HoardChooses old.count flight answer new.count };
+    ghost chooses = { λ old _now flight answer new.
+        HoardChooses old.count flight answer new.count };
 
     fn choose(&mut self, _now: u32, flight: &[InFlight]) -> Option<Choice> {
         if flight.len() < self.count {

@@ -37,13 +37,13 @@ impl Table {
     }
 
     /// The entry for the place `k`, counted round and round; where the table is empty, `or`.
-    pub fn entry(&self, k: u32, or: u32) -> u32
+    pub fn entry(&self, k: usize, or: u32) -> u32
         ensures { result ≡ round_entry self.now k or }
     {
         let len = self.entries.len();
         if len == 0 {
             return or;
         }
-        self.entries[k as usize % len]
+        self.entries[k % len]
     }
 }

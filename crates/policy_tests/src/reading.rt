@@ -77,7 +77,7 @@ fn message(alloc: Global, text: &str) -> Result<InFlight, Fault> {
     Ok(InFlight {
         name,
         sent_at,
-        serial,
+        serial: serial as usize,
     })
 }
 

@@ -1,5 +1,6 @@
 -- What a checked program keeps.
-use Rattle.std.proofs.Common.{◌≡◌, ◌<◌, ℕ, zero, suc, Bool, true, false, List, [], ◌∷◌, length, Option, Some, None, refl, ap, subst, arith}
+use Rattle.std.proofs.Common.{◌≡◌, ◌<◌, ℕ, zero, suc, Bool, true, false, List, [], ◌∷◌, length}
+use Rattle.std.proofs.Common.{Option, Some, None, refl, ap, subst, arith}
 use Rattle.std.specs.Prelude.{◌&&◌, ◌||◌, not, is_none, is_some, unwrap_or, slice_get, nat_lt, ◌==◌}
 use Rattle.std.specs.List.{list_any}
 use Rattle.std.proofs.lemmas.Bool.Decides.{nat_tests}
@@ -8,10 +9,19 @@ use Rattle.round_lang.specs.declared.expr.Ty.TheVariants.{Num, Bool as Truth, Se
 use Rattle.round_lang.specs.declared.program.Variable.{Variable}
 use Rattle.round_lang.specs.Syntax.{BlockTree, ProgramTree}
 use Rattle.round_check.specs.declared.fault.CheckFault.{CheckFault}
-use Rattle.round_check.specs.declared.fault.CheckFault.TheVariants.{UnknownName, DoubleName, WrongType, FieldCount, NotAllowedHere, NoInput, NoDecision, MissingRound}
-use Rattle.round_check.specs.Causes.{double_name, no_input, no_decision, missing_round, unknown_name, not_allowed_here, field_count, wrong_type, fault_of, first_standing, is_typed, repeats_variable, second_input, double_field, first_input, input_name, decided_name}
+use Rattle.round_check.specs.declared.fault.CheckFault.TheVariants.{UnknownName, DoubleName}
+use Rattle.round_check.specs.declared.fault.CheckFault.TheVariants.{WrongType, FieldCount}
+use Rattle.round_check.specs.declared.fault.CheckFault.TheVariants.{NotAllowedHere, NoInput}
+use Rattle.round_check.specs.declared.fault.CheckFault.TheVariants.{NoDecision, MissingRound}
+use Rattle.round_check.specs.Causes.{double_name, no_input, no_decision, missing_round}
+use Rattle.round_check.specs.Causes.{unknown_name, not_allowed_here, field_count, wrong_type}
+use Rattle.round_check.specs.Causes.{fault_of, first_standing, is_typed, repeats_variable}
+use Rattle.round_check.specs.Causes.{second_input, double_field, first_input, input_name}
+use Rattle.round_check.specs.Causes.{decided_name}
 use Rattle.round_check.specs.Rules.{breaks_program}
-use Rattle.round_check.specs.Types.{Context, type_of, has_type, variable_type, context_with, wrong_start, wrong_sent, wrong_assignment, wrong_decide, wrong_block}
+use Rattle.round_check.specs.Types.{Context, type_of, has_type, variable_type, context_with}
+use Rattle.round_check.specs.Types.{wrong_start, wrong_sent, wrong_assignment, wrong_decide}
+use Rattle.round_check.specs.Types.{wrong_block}
 use Rattle.round_check.specs.declared.rules.Rule.TheVariants.{Fresh}
 
 -- no cause stands, each by its name

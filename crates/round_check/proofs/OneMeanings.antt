@@ -1,5 +1,6 @@
 -- Each name in a checked program is that of one thing.
-use Rattle.std.proofs.Common.{◌≡◌, ℕ, zero, suc, ◌+◌, ◌≤◌, ◌<◌, Bool, true, false, cond, List, [], ◌∷◌, ◌++◌, filter, length, map, refl, sym, ap, ◌∙◌, subst, arith}
+use Rattle.std.proofs.Common.{◌≡◌, ℕ, zero, suc, ◌+◌, ◌≤◌, ◌<◌, Bool, true, false, cond, List, []}
+use Rattle.std.proofs.Common.{◌∷◌, ◌++◌, filter, length, map, refl, sym, ap, ◌∙◌, subst, arith}
 use Rattle.std.specs.Prelude.{◌&&◌, ◌||◌, All, nat_lt, not}
 use Rattle.std.specs.List.{AllByRecursion, list_any}
 use Rattle.std.specs.Str.{bytes_eq}
@@ -11,12 +12,19 @@ use Rattle.round_lang.specs.declared.program.Variable.{Variable}
 use Rattle.round_lang.specs.declared.program.VariableKind.{VariableKind}
 use Rattle.round_lang.specs.declared.program.VariableKind.TheVariants.{Input, State}
 use Rattle.round_lang.specs.Syntax.{BlockTree, ProgramTree}
-use Rattle.round_lang.specs.Tree.{Tree, TNumber, TFixed, TNamed, TUnary, TBinary, TIf, TSetOf, TRowOf}
+use Rattle.round_lang.specs.Tree.{Tree, TNumber, TFixed, TNamed, TUnary, TBinary, TIf, TSetOf}
+use Rattle.round_lang.specs.Tree.{TRowOf}
 use Rattle.round_check.proofs.Facts.{IsClear-typed, fails-not, neither}
-use Rattle.round_check.specs.Causes.{double_field, double_name, is_typed, not_allowed_here, repeats_field, repeats_variable, second_input, unknown_name}
-use Rattle.round_check.specs.Names.{contains_name, declares, declares_state, has_field, is_input, some_field}
-use Rattle.round_check.specs.OneMeaning.{AssignsOne, BlockReadsOne, IsOneOf, NamesHaveOneMeaning, ReadsOne, StartReadsOne, field_names, input_names, variable_names}
-use Rattle.round_check.specs.Rules.{Scope, breaks, breaks_assignment, breaks_block, breaks_program, breaks_start, breaks_target, in_block, is_start, readable, start_scope}
+use Rattle.round_check.specs.Causes.{double_field, double_name, is_typed, not_allowed_here}
+use Rattle.round_check.specs.Causes.{repeats_field, repeats_variable, second_input, unknown_name}
+use Rattle.round_check.specs.Names.{contains_name, declares, declares_state, has_field, is_input}
+use Rattle.round_check.specs.Names.{some_field}
+use Rattle.round_check.specs.OneMeaning.{AssignsOne, BlockReadsOne, IsOneOf, NamesHaveOneMeaning}
+use Rattle.round_check.specs.OneMeaning.{ReadsOne, StartReadsOne, field_names, input_names}
+use Rattle.round_check.specs.OneMeaning.{variable_names}
+use Rattle.round_check.specs.Rules.{Scope, breaks, breaks_assignment, breaks_block, breaks_program}
+use Rattle.round_check.specs.Rules.{breaks_start, breaks_target, in_block, is_start, readable}
+use Rattle.round_check.specs.Rules.{start_scope}
 use Rattle.round_check.specs.declared.rules.Place.{Place}
 use Rattle.round_check.specs.declared.rules.Place.TheVariants.{Start, Send, OnMessage, End}
 use Rattle.round_check.specs.declared.rules.Rule.{Rule}
@@ -144,8 +152,8 @@ once_inputs (v ∷ vs) h =
     go Input kind fresh rest = subst (OnceWith v vs) (sym kind) (once_more v.name (input_names vs) fresh rest)
     go (State ty e) kind fresh rest = subst (OnceWith v vs) (sym kind) rest
 
--- what a name may stand for at a place, beside comprehension variables: each is a field of the block or a
--- variable, and each name that may be read there is one of them
+-- what a name may stand for at a place, beside comprehension variables: each is a field of the
+-- block or a variable, and each name that may be read there is one of them
 record IsInScope (vs : List Variable) (bs : List BlockTree) (fs : List Field) (place : Place) (names : List (List ℕ)) : Type 0 where
   once : Once names
   known : (x : List ℕ) → has_field fs x || declares vs x ≡ false → contains_name names x ≡ false

@@ -1,4 +1,5 @@
--- The places of a program and the rule on what stands there, under names that other crates' proofs can use.
+-- The places of a program and the rule on what stands there, under names that other crates' proofs
+-- can use.
 use Rattle.round_check.specs.declared.rules.Place.{Place}
 use Rattle.round_check.specs.declared.rules.Place.TheVariants.{Start, Send, OnMessage, End}
 use Rattle.round_check.specs.declared.rules.Rule.{Rule}

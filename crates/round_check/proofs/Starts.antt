@@ -1,5 +1,6 @@
 -- The initial values of a checked program know the input alone.
-use Rattle.std.proofs.Common.{◌≡◌, ℕ, suc, ◌≤◌, Bool, true, false, cond, List, [], ◌∷◌, ◌++◌, filter, length, Some, None, sym, refl, ap, ◌∙◌, subst, arith}
+use Rattle.std.proofs.Common.{◌≡◌, ℕ, suc, ◌≤◌, Bool, true, false, cond, List, [], ◌∷◌, ◌++◌}
+use Rattle.std.proofs.Common.{filter, length, Some, None, sym, refl, ap, ◌∙◌, subst, arith}
 use Rattle.std.specs.Prelude.{◌&&◌, ◌||◌, All, not, nat_lt, count_by}
 use Rattle.std.specs.List.{list_any}
 use Rattle.std.specs.Str.{bytes_eq}
@@ -12,15 +13,21 @@ use Rattle.round_lang.specs.declared.program.Variable.{Variable}
 use Rattle.round_lang.specs.declared.program.VariableKind.{VariableKind}
 use Rattle.round_lang.specs.declared.program.VariableKind.TheVariants.{Input, State}
 use Rattle.round_lang.specs.Syntax.{BlockTree, ProgramTree}
-use Rattle.round_lang.specs.Tree.{Tree, TNumber, TFixed, TNamed, TUnary, TBinary, TIf, TSetOf, TRowOf}
-use Rattle.round_check.proofs.Facts.{IsClear-typed, IsWellTyped-typed, fails-not, first_input-typed, has_type-some, neither}
-use Rattle.round_check.proofs.TypeLaws.{Keeps, alike_keeps, binary_keeps, same_keeps, unary_keeps, wants_keeps}
-use Rattle.round_check.specs.Causes.{double_field, double_name, first_input, input_name, is_typed, not_allowed_here, repeats_variable, second_input}
+use Rattle.round_lang.specs.Tree.{Tree, TNumber, TFixed, TNamed, TUnary, TBinary, TIf, TSetOf}
+use Rattle.round_lang.specs.Tree.{TRowOf}
+use Rattle.round_check.proofs.Facts.{IsClear-typed, IsWellTyped-typed, fails-not, first_input-typed}
+use Rattle.round_check.proofs.Facts.{has_type-some, neither}
+use Rattle.round_check.proofs.TypeLaws.{Keeps, alike_keeps, binary_keeps, same_keeps, unary_keeps}
+use Rattle.round_check.proofs.TypeLaws.{wants_keeps}
+use Rattle.round_check.specs.Causes.{double_field, double_name, first_input, input_name, is_typed}
+use Rattle.round_check.specs.Causes.{not_allowed_here, repeats_variable, second_input}
 use Rattle.round_check.specs.Names.{contains_name, declares_state, is_input}
-use Rattle.round_check.specs.Rules.{Scope, breaks, breaks_block, breaks_program, breaks_start, breaks_target, start_scope}
+use Rattle.round_check.specs.Rules.{Scope, breaks, breaks_block, breaks_program, breaks_start}
+use Rattle.round_check.specs.Rules.{breaks_target, start_scope}
 use Rattle.round_check.specs.declared.rules.Place.TheVariants.{Start}
 use Rattle.round_check.specs.declared.rules.Rule.TheVariants.{Allowed, Fresh}
-use Rattle.round_check.specs.Types.{Context, context_with, has_type, type_of, variable_type, wrong_start}
+use Rattle.round_check.specs.Types.{Context, context_with, has_type, type_of, variable_type}
+use Rattle.round_check.specs.Types.{wrong_start}
 
 -- no variable is the input, so each that has a type is a state variable
 no_input_left : (ds : List Variable) (x : List ℕ) (t : Ty) → length (filter (λ (v : Variable). is_input v.kind) ds) ≡ 0 → declares_state ds x ≡ false → variable_type ds x ≡ Some t → ⊥

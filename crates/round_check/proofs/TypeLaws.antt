@@ -1,7 +1,10 @@
 -- What the types of an expression's parts tell, and when more context keeps them.
 use Rattle.std.proofs.Common.{◌≡◌, Bool, true, false, cond, Option, Some, None, sym, refl, ap, ◌∙◌}
 use Rattle.round_lang.specs.declared.expr.BinaryOperator.{BinaryOperator}
-use Rattle.round_lang.specs.declared.expr.BinaryOperator.TheVariants.{Add, Sub, Div, Mod, Equal, Differs, Less, AtMost, More, AtLeast, And, Or, Union, Inter, Minus, Has, Entry}
+use Rattle.round_lang.specs.declared.expr.BinaryOperator.TheVariants.{Add, Sub, Div, Mod, Equal}
+use Rattle.round_lang.specs.declared.expr.BinaryOperator.TheVariants.{Differs, Less, AtMost, More}
+use Rattle.round_lang.specs.declared.expr.BinaryOperator.TheVariants.{AtLeast, And, Or, Union}
+use Rattle.round_lang.specs.declared.expr.BinaryOperator.TheVariants.{Inter, Minus, Has, Entry}
 use Rattle.round_lang.specs.declared.expr.UnaryOperator.{UnaryOperator}
 use Rattle.round_lang.specs.declared.expr.UnaryOperator.TheVariants.{Not, Single, Size, Least}
 use Rattle.round_lang.specs.declared.expr.Ty.{Ty}

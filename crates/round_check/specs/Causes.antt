@@ -1,11 +1,16 @@
 -- When a program is refused: each cause, and the order in which they are answered.
-use Rattle.std.specs.Prelude.{◌≡◌, ℕ, suc, Bool, true, false, ◌&&◌, ◌||◌, not, List, [], ◌∷◌, length, count_by, Option, Some, None, is_none, is_some, unwrap_or, slice_get, nat_lt, ◌==◌, if◌then◌else◌}
+use Rattle.std.specs.Prelude.{◌≡◌, ℕ, suc, Bool, true, false, ◌&&◌, ◌||◌, not, List, [], ◌∷◌}
+use Rattle.std.specs.Prelude.{length, count_by, Option, Some, None, is_none, is_some, unwrap_or}
+use Rattle.std.specs.Prelude.{slice_get, nat_lt, ◌==◌, if◌then◌else◌}
 use Rattle.std.specs.List.{list_any}
 use Rattle.round_lang.specs.declared.block.Field.{Field}
 use Rattle.round_lang.specs.declared.program.Variable.{Variable}
 use Rattle.round_lang.specs.Syntax.{BlockTree, ProgramTree}
 use Rattle.round_check.specs.declared.fault.CheckFault.{CheckFault}
-use Rattle.round_check.specs.declared.fault.CheckFault.TheVariants.{UnknownName, DoubleName, WrongType, FieldCount, NotAllowedHere, NoInput, NoDecision, MissingRound}
+use Rattle.round_check.specs.declared.fault.CheckFault.TheVariants.{UnknownName, DoubleName}
+use Rattle.round_check.specs.declared.fault.CheckFault.TheVariants.{WrongType, FieldCount}
+use Rattle.round_check.specs.declared.fault.CheckFault.TheVariants.{NotAllowedHere, NoInput}
+use Rattle.round_check.specs.declared.fault.CheckFault.TheVariants.{NoDecision, MissingRound}
 use Rattle.round_check.specs.declared.rules.Rule.TheVariants.{Fresh, Known, Allowed}
 use Rattle.round_check.specs.Names.{is_input, declares, has_field}
 use Rattle.round_check.specs.Rules.{breaks_program}
@@ -84,7 +89,8 @@ wrong_type p = wrong_program (context_with [] p) p
 abbrev pub causes : ProgramTree → List (CheckFault × Bool)
 causes p =
     (DoubleName, double_name p) ∷ (NoInput, no_input p) ∷ (NoDecision, no_decision p)
-    ∷ (MissingRound, missing_round p) ∷ (UnknownName, unknown_name p) ∷ (NotAllowedHere, not_allowed_here p)
+    ∷ (MissingRound, missing_round p) ∷ (UnknownName, unknown_name p)
+    ∷ (NotAllowedHere, not_allowed_here p)
     ∷ (FieldCount, field_count p) ∷ (WrongType, wrong_type p) ∷ []
 
 -- the first that stands

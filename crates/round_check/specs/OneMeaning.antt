@@ -6,7 +6,8 @@ use Rattle.round_lang.specs.declared.block.Field.{Field}
 use Rattle.round_lang.specs.declared.program.Variable.{Variable}
 use Rattle.round_lang.specs.declared.program.VariableKind.{VariableKind}
 use Rattle.round_lang.specs.declared.program.VariableKind.TheVariants.{Input, State}
-use Rattle.round_lang.specs.Tree.{Tree, TNumber, TFixed, TNamed, TUnary, TBinary, TIf, TSetOf, TRowOf}
+use Rattle.round_lang.specs.Tree.{Tree, TNumber, TFixed, TNamed, TUnary, TBinary, TIf, TSetOf}
+use Rattle.round_lang.specs.Tree.{TRowOf}
 use Rattle.round_lang.specs.Syntax.{BlockTree, ProgramTree}
 use Rattle.round_check.specs.Names.{is_input}
 
@@ -14,8 +15,8 @@ use Rattle.round_check.specs.Names.{is_input}
 abbrev pub IsOneOf : List ℕ → List (List ℕ) → Type 0
 IsOneOf x names = length (filter (λ y. bytes_eq y x) names) ≡ 1
 
--- each name that the expression reads is that of one thing: of one comprehension variable around it,
--- or of one of the other things in scope
+-- each name that the expression reads is that of one thing: of one comprehension variable around
+-- it, or of one of the other things in scope
 abbrev pub ReadsOne : List (List ℕ) → Tree → Type 0
 ReadsOne scope (TNumber n) = ⊤
 ReadsOne scope (TFixed k) = ⊤

@@ -8,17 +8,19 @@ use Rattle.round_lang.specs.declared.block.Assignment.{Assignment}
 use Rattle.round_lang.specs.declared.program.Variable.{Variable}
 use Rattle.round_lang.specs.declared.program.VariableKind.{VariableKind}
 use Rattle.round_lang.specs.declared.program.VariableKind.TheVariants.{Input, State}
-use Rattle.round_lang.specs.Tree.{Tree, TNumber, TFixed, TNamed, TUnary, TBinary, TIf, TSetOf, TRowOf}
+use Rattle.round_lang.specs.Tree.{Tree, TNumber, TFixed, TNamed, TUnary, TBinary, TIf, TSetOf}
+use Rattle.round_lang.specs.Tree.{TRowOf}
 use Rattle.round_lang.specs.Syntax.{BlockTree, ProgramTree}
 use Rattle.round_check.specs.declared.rules.Rule.{Rule}
 use Rattle.round_check.specs.declared.rules.Rule.TheVariants.{Fresh, Known, Allowed}
 use Rattle.round_check.specs.declared.rules.Place.{Place}
 use Rattle.round_check.specs.declared.rules.Place.TheVariants.{Start, Send, OnMessage, End}
 use Rattle.round_check.specs.declared.rules.Scope.{Scope as CodeScope}
-use Rattle.round_check.specs.Names.{names_of, contains_name, declares, declares_state, has_field, some_field}
+use Rattle.round_check.specs.Names.{names_of, contains_name, declares, declares_state, has_field}
+use Rattle.round_check.specs.Names.{some_field}
 
--- where an expression stands: the program's variables and blocks, the fields of its own block (none in an
--- initial value), its place there, and the comprehension variables in scope
+-- where an expression stands: the program's variables and blocks, the fields of its own block (none
+-- in an initial value), its place there, and the comprehension variables in scope
 pub record Scope : Type 0 where
   pub variables : List Variable
   pub blocks : List BlockTree
@@ -85,10 +87,11 @@ breaks_constant Allowed k place = not (allows k place)
 abbrev pub breaks_name : Rule → List ℕ → Scope → Bool
 breaks_name Fresh x s = false
 breaks_name Known x s = not (contains_name s.bound x || is_declared s.variables s.blocks x)
-breaks_name Allowed x s = not (contains_name s.bound x) && (is_field_elsewhere x s || is_state_at_start x s)
+breaks_name Allowed x s =
+    not (contains_name s.bound x) && (is_field_elsewhere x s || is_state_at_start x s)
 
--- a comprehension variable breaks a rule: it has the name of a variable, of a field of its block or of
--- an enclosing comprehension's variable
+-- a comprehension variable breaks a rule: it has the name of a variable, of a field of its block or
+-- of an enclosing comprehension's variable
 abbrev pub breaks_binder : Rule → List ℕ → Scope → Bool
 breaks_binder Fresh x s = contains_name s.bound x || has_field s.fields x || declares s.variables x
 breaks_binder Known x s = false
@@ -117,7 +120,8 @@ breaks r (TRowOf x e) s = breaks_binder r x s || breaks r e (within x s)
 
 -- the scope of the initial values
 abbrev pub start_scope : ProgramTree → Scope
-start_scope p = record { variables = p.variables; blocks = p.blocks; fields = []; place = Start; bound = [] }
+start_scope p =
+    record { variables = p.variables; blocks = p.blocks; fields = []; place = Start; bound = [] }
 
 -- the scope of a place of a block
 abbrev pub in_block : BlockTree → Place → Scope → Scope

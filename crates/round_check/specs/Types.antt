@@ -1,5 +1,6 @@
 -- The type of each expression, and the parts of a program that have a wrong one.
-use Rattle.std.specs.Prelude.{ℕ, Bool, true, false, ◌||◌, not, List, [], ◌∷◌, Option, Some, None, if◌then◌else◌}
+use Rattle.std.specs.Prelude.{ℕ, Bool, true, false, ◌||◌, not, List, [], ◌∷◌, Option, Some, None}
+use Rattle.std.specs.Prelude.{if◌then◌else◌}
 use Rattle.std.specs.List.{list_any}
 use Rattle.std.specs.Str.{bytes_eq}
 use Rattle.round_lang.specs.declared.expr.Constant.{Constant}
@@ -7,7 +8,10 @@ use Rattle.round_lang.specs.declared.expr.Constant.TheVariants.{True, False, Emp
 use Rattle.round_lang.specs.declared.expr.UnaryOperator.{UnaryOperator}
 use Rattle.round_lang.specs.declared.expr.UnaryOperator.TheVariants.{Not, Single, Size, Least}
 use Rattle.round_lang.specs.declared.expr.BinaryOperator.{BinaryOperator}
-use Rattle.round_lang.specs.declared.expr.BinaryOperator.TheVariants.{Add, Sub, Div, Mod, Equal, Differs, Less, AtMost, More, AtLeast, And, Or, Union, Inter, Minus, Has, Entry}
+use Rattle.round_lang.specs.declared.expr.BinaryOperator.TheVariants.{Add, Sub, Div, Mod, Equal}
+use Rattle.round_lang.specs.declared.expr.BinaryOperator.TheVariants.{Differs, Less, AtMost, More}
+use Rattle.round_lang.specs.declared.expr.BinaryOperator.TheVariants.{AtLeast, And, Or, Union}
+use Rattle.round_lang.specs.declared.expr.BinaryOperator.TheVariants.{Inter, Minus, Has, Entry}
 use Rattle.round_lang.specs.declared.expr.Ty.{Ty}
 use Rattle.round_lang.specs.declared.expr.Ty.TheVariants.{Num, Bool as Truth, Set, Row}
 use Rattle.round_lang.specs.declared.block.Field.{Field}
@@ -15,7 +19,8 @@ use Rattle.round_lang.specs.declared.block.Assignment.{Assignment}
 use Rattle.round_lang.specs.declared.program.Variable.{Variable}
 use Rattle.round_lang.specs.declared.program.VariableKind.{VariableKind}
 use Rattle.round_lang.specs.declared.program.VariableKind.TheVariants.{Input, State}
-use Rattle.round_lang.specs.Tree.{Tree, TNumber, TFixed, TNamed, TUnary, TBinary, TIf, TSetOf, TRowOf}
+use Rattle.round_lang.specs.Tree.{Tree, TNumber, TFixed, TNamed, TUnary, TBinary, TIf, TSetOf}
+use Rattle.round_lang.specs.Tree.{TRowOf}
 use Rattle.round_lang.specs.Syntax.{BlockTree, ProgramTree}
 use Rattle.round_check.specs.declared.types.Context.{Context as CodeContext}
 use Rattle.round_check.specs.Names.{names_of, contains_name}
@@ -28,7 +33,8 @@ pub record Context : Type 0 where
 
 -- the context that the code holds by references
 abbrev pub context_of : CodeContext → Context
-context_of c = record { variables = c.variables.now; fields = c.fields.now; bound = names_of c.bound.now }
+context_of c =
+    record { variables = c.variables.now; fields = c.fields.now; bound = names_of c.bound.now }
 
 -- both are one type
 abbrev pub same_type : Ty → Ty → Bool
@@ -70,7 +76,8 @@ variable_type (v ∷ vs) x = if bytes_eq v.name x then Some (kind_type v.kind) e
 -- a comprehension variable, else a field, else a variable
 abbrev pub name_type : Context → List ℕ → Option Ty
 name_type c x =
-    if contains_name c.bound x then Some Num else or_else (field_type c.fields x) (variable_type c.variables x)
+    if contains_name c.bound x then Some Num
+    else or_else (field_type c.fields x) (variable_type c.variables x)
 
 -- the result where the part has the type that is wanted
 abbrev pub wants : Option Ty → Ty → Option Ty → Option Ty

@@ -1,7 +1,11 @@
 //! The causes for which a program is refused, and the first that stands.
 ghost use Rattle.std.specs.Prelude.{◌≡◌, ◌<◌, ◌+◌, ◌^◌, option_copied, length};
 ghost use Rattle.std.specs.List.{list_any};
-ghost use Rattle.round_check.specs.Causes.{repeats_variable, repeats_field, has_variable_name, double_field, second_input, double_name, first_input, no_input, no_decision, numbered_from, missing_round, unknown_name, not_allowed_here, field_count, wrong_type, fault_of};
+ghost use Rattle.round_check.specs.Causes.{repeats_variable, repeats_field, has_variable_name};
+ghost use Rattle.round_check.specs.Causes.{double_field, second_input, double_name, first_input};
+ghost use Rattle.round_check.specs.Causes.{no_input, no_decision, numbered_from, missing_round};
+ghost use Rattle.round_check.specs.Causes.{unknown_name, not_allowed_here, field_count, wrong_type};
+ghost use Rattle.round_check.specs.Causes.{fault_of};
 
 use crate::fault::CheckFault;
 use crate::names::{declares, has_field, is_input};

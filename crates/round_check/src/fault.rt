@@ -4,7 +4,8 @@ ghost use Rattle.std.specs.Prelude.{◌≡◌};
 use round_lang::NoMemory;
 
 /// Why a program is refused, numbered as it is reported; the causes are answered in the order
-/// DoubleName, NoInput, NoDecision, MissingRound, UnknownName, NotAllowedHere, FieldCount, WrongType.
+/// DoubleName, NoInput, NoDecision, MissingRound, UnknownName, NotAllowedHere, FieldCount,
+/// WrongType.
 #[derive(Clone, Copy, PartialEq, Eq, Debug)]
 pub enum CheckFault {
     UnknownName = 1,

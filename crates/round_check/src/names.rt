@@ -1,6 +1,7 @@
 //! What a name of a program stands for.
 ghost use Rattle.std.specs.Prelude.{◌≡◌};
-ghost use Rattle.round_check.specs.Names.{contains_name, names_of, is_input, declares, declares_state, has_field, some_field};
+ghost use Rattle.round_check.specs.Names.{contains_name, names_of, is_input, declares};
+ghost use Rattle.round_check.specs.Names.{declares_state, has_field, some_field};
 
 use round_lang::{Block, Field, Identifier, Variable, VariableKind};
 

@@ -4,7 +4,12 @@ ghost use Rattle.std.specs.List.{list_any};
 ghost use Rattle.round_lang.specs.Tree.{Tree, tree_of};
 ghost use Rattle.round_lang.specs.declared.program.Variable.{Variable as VariableTree};
 ghost use Rattle.round_check.specs.Names.{names_of, has_field};
-ghost use Rattle.round_check.specs.Rules.{scope_of, is_start, is_send, is_on_message, allows, readable, is_declared, is_field_elsewhere, is_state_at_start, breaks_constant, breaks_name, breaks_binder, breaks_target, within, breaks, start_scope, in_block, breaks_start, breaks_assignment, breaks_block, breaks_program};
+ghost use Rattle.round_check.specs.Rules.{scope_of, is_start, is_send, is_on_message, allows};
+ghost use Rattle.round_check.specs.Rules.{readable, is_declared, is_field_elsewhere};
+ghost use Rattle.round_check.specs.Rules.{is_state_at_start, breaks_constant, breaks_name};
+ghost use Rattle.round_check.specs.Rules.{breaks_binder, breaks_target, within, breaks};
+ghost use Rattle.round_check.specs.Rules.{start_scope, in_block, breaks_start, breaks_assignment};
+ghost use Rattle.round_check.specs.Rules.{breaks_block, breaks_program};
 
 use crate::names::{Names, declares, declares_state, has_field, some_field};
 use round_lang::{
@@ -230,7 +235,8 @@ fn breaks_block<'a>(rule: Rule, block: &'a Block, scope: &Scope<'a>) -> bool
 }
 
 fn breaks_starts(rule: Rule, scope: &Scope<'_>) -> bool
-    ensures { result ≡ list_any (λ (v : VariableTree). breaks_start rule v.kind (scope_of scope.now))
+    ensures { result
+        ≡ list_any (λ (v : VariableTree). breaks_start rule v.kind (scope_of scope.now))
         scope.now.variables.now }
 {
     scope

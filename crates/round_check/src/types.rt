@@ -1,7 +1,9 @@
 //! The type of each expression.
 ghost use Rattle.std.specs.Prelude.{◌≡◌};
 ghost use Rattle.round_lang.specs.Tree.{tree_of};
-ghost use Rattle.round_check.specs.Types.{same_type, constant_type, kind_type, field_type, variable_type, name_type, wants, alike, both, unary_type, binary_type, type_of, context_of, under, has_type};
+ghost use Rattle.round_check.specs.Types.{same_type, constant_type, kind_type, field_type};
+ghost use Rattle.round_check.specs.Types.{variable_type, name_type, wants, alike, both, unary_type};
+ghost use Rattle.round_check.specs.Types.{binary_type, type_of, context_of, under, has_type};
 
 use crate::names::Names;
 use round_lang::{

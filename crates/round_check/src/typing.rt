@@ -2,7 +2,9 @@
 ghost use Rattle.std.specs.Prelude.{◌≡◌, []};
 ghost use Rattle.std.specs.List.{list_any};
 ghost use Rattle.round_lang.specs.declared.program.Variable.{Variable as VariableTree};
-ghost use Rattle.round_check.specs.Types.{context_of, context_with, wrong_start, wrong_sent, wrong_assignment, wrong_decide, wrong_block, wrong_program};
+ghost use Rattle.round_check.specs.Types.{context_of, context_with, wrong_start, wrong_sent};
+ghost use Rattle.round_check.specs.Types.{wrong_assignment, wrong_decide, wrong_block};
+ghost use Rattle.round_check.specs.Types.{wrong_program};
 
 use crate::names::Names;
 use crate::types::{Context, has_type, type_of, variable_type};

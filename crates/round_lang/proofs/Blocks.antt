@@ -1,5 +1,6 @@
 -- Reading a block is its rule.
-use Rattle.std.proofs.Common.{◌≡◌, ℕ, suc, ◌<◌, ◌≤◌, true, false, List, [], ◌∷◌, length, Some, refl, sym, ap, ◌∙◌, subst, arith}
+use Rattle.std.proofs.Common.{◌≡◌, ℕ, suc, ◌<◌, ◌≤◌, true, false, List, [], ◌∷◌, length, Some, refl}
+use Rattle.std.proofs.Common.{sym, ap, ◌∙◌, subst, arith}
 use Rattle.round_lang.specs.declared.token.Mark.TheVariants as m
 use Rattle.round_lang.specs.declared.block.Field.{Field}
 use Rattle.round_lang.specs.declared.block.Assignment.{Assignment}
@@ -11,7 +12,8 @@ use Rattle.round_lang.specs.Grammar.{value_of}
 use Rattle.round_lang.specs.Source.{IsExpr, IsField, IsAssign, IsBlock, Many, Listed, After}
 use Rattle.round_lang.specs.Source as g
 use Rattle.round_lang.specs.Reading.{◌>>=◌, after, number_at, begins_with, begins_name, formula}
-use Rattle.round_lang.specs.Parts.{any_assignment, fields, sent, assignments, head, sending, on_message, ending, block, any_block}
+use Rattle.round_lang.specs.Parts.{any_assignment, fields, sent, assignments, head, sending}
+use Rattle.round_lang.specs.Parts.{on_message, ending, block, any_block}
 use Rattle.round_lang.proofs.Steps.{some_then, some_is, after_is, number_is}
 use Rattle.round_lang.proofs.Sound.{formula_good}
 use Rattle.round_lang.proofs.Ends.{ends_at_comma, ends_at_close, ends_at_colon}
@@ -19,7 +21,8 @@ use Rattle.round_lang.proofs.Complete.{formula_found, number_found}
 use Rattle.round_lang.proofs.Shorter.{reads_shorter, no_close, many_shorter}
 use Rattle.round_lang.proofs.Repetition.{ItemLaws, many_good, many_found, weight_of}
 use Rattle.round_lang.proofs.Lists.{listed_good, listed_found}
-use Rattle.round_lang.proofs.Items.{Anything, expr_laws, field_laws, field_no_close, assignment_laws}
+use Rattle.round_lang.proofs.Items.{Anything, expr_laws, field_laws, field_no_close}
+use Rattle.round_lang.proofs.Items.{assignment_laws}
 
 weight-ones : (fs : List Field) → weight_of (λ f. 1) fs ≡ length fs
 weight-ones [] = refl

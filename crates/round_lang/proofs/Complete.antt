@@ -1,5 +1,7 @@
 -- What is in the grammar is found.
-use Rattle.std.proofs.Common.{◌≡◌, ℕ, zero, suc, ◌+◌, ◌<◌, ◌≤◌, max, true, cond, ltb, leb, List, ◌∷◌, length, Option, Some, None, refl, ap, ◌∙◌, subst, arith, lt-ltb, le-leb}
+use Rattle.std.proofs.Common.{◌≡◌, ℕ, zero, suc, ◌+◌, ◌<◌, ◌≤◌, max, true, cond, ltb, leb, List}
+use Rattle.std.proofs.Common.{◌∷◌, length, Option, Some, None, refl, ap, ◌∙◌, subst, arith, lt-ltb}
+use Rattle.std.proofs.Common.{le-leb}
 use Rattle.round_lang.specs.declared.expr.Constant.{Constant}
 use Rattle.round_lang.specs.declared.expr.UnaryOperator.{UnaryOperator}
 use Rattle.round_lang.specs.declared.expr.UnaryOperator.TheVariants as unary
@@ -7,16 +9,26 @@ use Rattle.round_lang.specs.declared.expr.BinaryOperator.{BinaryOperator}
 use Rattle.round_lang.specs.declared.expr.BinaryOperator.TheVariants as binary
 use Rattle.round_lang.specs.declared.token.Mark.TheVariants as m
 use Rattle.round_lang.specs.declared.parsing.level.Level.{Level}
-use Rattle.round_lang.specs.declared.parsing.level.Level.TheVariants.{Whole, Disjunction, Conjunction, Negation, Comparison, Sum, Product, Postfix, Atom}
+use Rattle.round_lang.specs.declared.parsing.level.Level.TheVariants.{Whole, Disjunction}
+use Rattle.round_lang.specs.declared.parsing.level.Level.TheVariants.{Conjunction, Negation}
+use Rattle.round_lang.specs.declared.parsing.level.Level.TheVariants.{Comparison, Sum, Product}
+use Rattle.round_lang.specs.declared.parsing.level.Level.TheVariants.{Postfix, Atom}
 use Rattle.round_lang.specs.Lexemes.{Lexeme, name, number, mark, fixed, call, infix_word, same_mark}
 use Rattle.round_lang.specs.Limits.{max_name, max_number, max_nesting}
-use Rattle.round_lang.specs.Tree.{Tree, TNumber, TFixed, TNamed, TUnary, TBinary, TIf, TSetOf, TRowOf}
+use Rattle.round_lang.specs.Tree.{Tree, TNumber, TFixed, TNamed, TUnary, TBinary, TIf, TSetOf}
+use Rattle.round_lang.specs.Tree.{TRowOf}
 use Rattle.round_lang.specs.Grammar.{Reads, tighter, left_operand, level_of, value_of}
 use Rattle.round_lang.specs.Grammar as g
 use Rattle.round_lang.specs.Source.{IsExpr}
-use Rattle.round_lang.specs.Reading.{Reader, after, name_at, value_within, number_at, operator_of, operator_at, operand, found, chain, chained, compared, negated, closed, indexed, postfixed, called, has, brackets, comprehension, atom, choice, chosen, postfixes, products, sums, comparisons, negations, conjunctions, disjunctions, parse, formula}
+use Rattle.round_lang.specs.Reading.{Reader, after, name_at, value_within, number_at, operator_of}
+use Rattle.round_lang.specs.Reading.{operator_at, operand, found, chain, chained, compared, negated}
+use Rattle.round_lang.specs.Reading.{closed, indexed, postfixed, called, has, brackets}
+use Rattle.round_lang.specs.Reading.{comprehension, atom, choice, chosen, postfixes, products, sums}
+use Rattle.round_lang.specs.Reading.{comparisons, negations, conjunctions, disjunctions, parse}
+use Rattle.round_lang.specs.Reading.{formula}
 use Rattle.round_lang.proofs.Steps.{level_itself}
-use Rattle.round_lang.proofs.Ends.{Ends, ends_at_close, ends_at_then, ends_at_else, ends_at_comma, ends_at_square, ends_at_curly, ends_at_operator}
+use Rattle.round_lang.proofs.Ends.{Ends, ends_at_close, ends_at_then, ends_at_else, ends_at_comma}
+use Rattle.round_lang.proofs.Ends.{ends_at_square, ends_at_curly, ends_at_operator}
 
 -- an operator of a level is found there
 operator_found : (level : Level) (op : BinaryOperator) (rest : List Lexeme) → level_of op ≡ Some level → operator_at level (infix_word op ∷ rest) ≡ Some (op, rest)

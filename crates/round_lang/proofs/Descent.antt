@@ -1,15 +1,20 @@
 -- What the loop of a chain keeps, and how deep the calls go.
-use Rattle.std.proofs.Common.{◌≡◌, ℕ, zero, suc, ◌+◌, ◌-◌, ◌<◌, ◌≤◌, max, true, false, ltb, lt-ltb, le-ltb, List, Some, None, refl, ◌∙◌, arith}
+use Rattle.std.proofs.Common.{◌≡◌, ℕ, zero, suc, ◌+◌, ◌-◌, ◌<◌, ◌≤◌, max, true, false, ltb, lt-ltb}
+use Rattle.std.proofs.Common.{le-ltb, List, Some, None, refl, ◌∙◌, arith}
 use Rattle.round_lang.specs.Lexemes.{Lexeme}
 use Rattle.round_lang.specs.declared.parsing.level.Level.{Level}
-use Rattle.round_lang.specs.declared.parsing.level.Level.TheVariants.{Whole, Disjunction, Conjunction, Negation, Comparison, Sum, Product, Postfix, Atom}
+use Rattle.round_lang.specs.declared.parsing.level.Level.TheVariants.{Whole, Disjunction}
+use Rattle.round_lang.specs.declared.parsing.level.Level.TheVariants.{Conjunction, Negation}
+use Rattle.round_lang.specs.declared.parsing.level.Level.TheVariants.{Comparison, Sum, Product}
+use Rattle.round_lang.specs.declared.parsing.level.Level.TheVariants.{Postfix, Atom}
 use Rattle.round_lang.specs.declared.parsing.fault.Fault.{Fault}
 use Rattle.round_lang.specs.declared.parsing.fault.Fault.TheVariants as fault
 use Rattle.round_lang.specs.declared.expr.BinaryOperator.{BinaryOperator}
 use Rattle.round_lang.specs.Outcome.{Fails, IsChainLevel}
 use Rattle.round_lang.specs.Grammar.{tighter}
 use Rattle.round_lang.specs.Tree.{Tree, TBinary}
-use Rattle.round_lang.specs.Reading.{Reader, parse, operator_at, operand, chain, chained, products, sums, conjunctions, disjunctions, level_at}
+use Rattle.round_lang.specs.Reading.{Reader, parse, operator_at, operand, chain, chained, products}
+use Rattle.round_lang.specs.Reading.{sums, conjunctions, disjunctions, level_at}
 
 abbrev pub rank : Level → ℕ
 rank Whole = 8

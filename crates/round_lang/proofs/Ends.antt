@@ -4,7 +4,10 @@ use Rattle.round_lang.specs.declared.expr.BinaryOperator.{BinaryOperator}
 use Rattle.round_lang.specs.declared.expr.BinaryOperator.TheVariants as binary
 use Rattle.round_lang.specs.declared.token.Mark.TheVariants as m
 use Rattle.round_lang.specs.declared.parsing.level.Level.{Level}
-use Rattle.round_lang.specs.declared.parsing.level.Level.TheVariants.{Whole, Disjunction, Conjunction, Negation, Comparison, Sum, Product, Postfix, Atom}
+use Rattle.round_lang.specs.declared.parsing.level.Level.TheVariants.{Whole, Disjunction}
+use Rattle.round_lang.specs.declared.parsing.level.Level.TheVariants.{Conjunction, Negation}
+use Rattle.round_lang.specs.declared.parsing.level.Level.TheVariants.{Comparison, Sum, Product}
+use Rattle.round_lang.specs.declared.parsing.level.Level.TheVariants.{Postfix, Atom}
 use Rattle.round_lang.specs.Lexemes.{Lexeme, mark, infix_word, same_mark}
 use Rattle.round_lang.specs.Grammar.{tighter, level_of}
 use Rattle.round_lang.specs.Reading.{after, same_level, operator_at}

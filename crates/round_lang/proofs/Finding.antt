@@ -1,12 +1,14 @@
 -- The value at a place, found where its words begin.
-use Rattle.std.proofs.Common.{◌≡◌, ◌∙◌, ℕ, zero, suc, ◌+◌, ◌<◌, ◌≤◌, ◌^◌, List, [], ◌∷◌, length, drop, sym, ap, subst, arith, lit<, length-append}
+use Rattle.std.proofs.Common.{◌≡◌, ◌∙◌, ℕ, zero, suc, ◌+◌, ◌<◌, ◌≤◌, ◌^◌, List, [], ◌∷◌, length}
+use Rattle.std.proofs.Common.{drop, sym, ap, subst, arith, lit<, length-append}
 use Rattle.std.specs.Prelude.{map, slice_index_or}
 use Rattle.std.specs.List.{AllByRecursion}
 use Rattle.std.proofs.lemmas.List.{drop-drop, length-map}
 use Rattle.round_lang.specs.declared.kind.Kind.{Kind}
 use Rattle.round_lang.specs.declared.value.Value.{Value}
 use Rattle.round_lang.specs.Values.{at}
-use Rattle.round_lang.specs.Words.{size, read, values_of, kind_of, words_of, all_words, words_before, IsSmall, IsSpelled, IsSpot}
+use Rattle.round_lang.specs.Words.{size, read, values_of, kind_of, words_of, all_words}
+use Rattle.round_lang.specs.Words.{words_before, IsSmall, IsSpelled, IsSpot}
 use Rattle.round_lang.proofs.Spelling.{size-kind_of}
 
 -- what is read where the words of a place begin is the value there

@@ -1,5 +1,6 @@
 -- Reading an expression, a field, an assignment or a declaration is its rule.
-use Rattle.std.proofs.Common.{◌≡◌, ℕ, ◌+◌, ◌<◌, ◌≤◌, true, false, cond, ltb, List, ◌∷◌, length, Some, None, refl, sym, ap, ◌∙◌, subst, arith, lt-ltb}
+use Rattle.std.proofs.Common.{◌≡◌, ℕ, ◌+◌, ◌<◌, ◌≤◌, true, false, cond, ltb, List, ◌∷◌, length}
+use Rattle.std.proofs.Common.{Some, None, refl, sym, ap, ◌∙◌, subst, arith, lt-ltb}
 use Rattle.std.proofs.lemmas.Bool.{ltb-true}
 use Rattle.round_lang.specs.declared.expr.Ty.{Ty}
 use Rattle.round_lang.specs.declared.expr.BinaryOperator.TheVariants as binary
@@ -15,11 +16,16 @@ use Rattle.round_lang.specs.Limits.{max_name, max_fields, max_variables}
 use Rattle.round_lang.specs.Tree.{Tree}
 use Rattle.round_lang.specs.Source.{IsExpr, IsField, IsAssign, IsDecl}
 use Rattle.round_lang.specs.Source as g
-use Rattle.round_lang.specs.Reading.{◌>>=◌, after, after_equal, name_at, type_at, begins_with, begins_name, formula}
-use Rattle.round_lang.specs.Parts.{counted_name, field, assignment, any_assignment, any_formula, state, input, decide, begins_declaration, declaration, variable_count}
-use Rattle.round_lang.proofs.Steps.{some_then, guard_some, some_is, after_is, after_equal_is, name_is, type_is}
+use Rattle.round_lang.specs.Reading.{◌>>=◌, after, after_equal, name_at, type_at, begins_with}
+use Rattle.round_lang.specs.Reading.{begins_name, formula}
+use Rattle.round_lang.specs.Parts.{counted_name, field, assignment, any_assignment, any_formula}
+use Rattle.round_lang.specs.Parts.{state, input, decide, begins_declaration, declaration}
+use Rattle.round_lang.specs.Parts.{variable_count}
+use Rattle.round_lang.proofs.Steps.{some_then, guard_some, some_is, after_is, after_equal_is}
+use Rattle.round_lang.proofs.Steps.{name_is, type_is}
 use Rattle.round_lang.proofs.Sound.{formula_good}
-use Rattle.round_lang.proofs.Ends.{Ends, ends_at_semicolon, ends_at_state, ends_at_input, ends_at_decide}
+use Rattle.round_lang.proofs.Ends.{Ends, ends_at_semicolon, ends_at_state, ends_at_input}
+use Rattle.round_lang.proofs.Ends.{ends_at_decide}
 use Rattle.round_lang.proofs.Complete.{formula_found, name_found}
 use Rattle.round_lang.proofs.Shorter.{reads_shorter}
 use Rattle.round_lang.proofs.Repetition.{ItemLaws}

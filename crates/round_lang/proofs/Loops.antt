@@ -1,5 +1,7 @@
 -- What the loops over a program's parts keep.
-use Rattle.std.proofs.Common.{◌≡◌, ℕ, ◌+◌, ◌<◌, ◌≤◌, Bool, true, false, cond, List, [], ◌∷◌, ◌++◌, length, Option, Some, None, refl, ap, ◌∙◌, subst, arith, length-append}
+use Rattle.std.proofs.Common.{◌≡◌, ℕ, ◌+◌, ◌<◌, ◌≤◌, Bool, true, false, cond, List, [], ◌∷◌, ◌++◌}
+use Rattle.std.proofs.Common.{length, Option, Some, None, refl, ap, ◌∙◌, subst, arith}
+use Rattle.std.proofs.Common.{length-append}
 use Rattle.round_lang.specs.declared.token.Mark.TheVariants as m
 use Rattle.round_lang.specs.declared.program.Variable.{Variable}
 use Rattle.round_lang.specs.declared.block.Assignment.{Assignment}
@@ -15,7 +17,10 @@ use Rattle.round_lang.specs.Tree.{Tree}
 use Rattle.round_lang.specs.Syntax.{BlockTree}
 use Rattle.round_lang.specs.Source.{variables_of, decides_of}
 use Rattle.round_lang.specs.Reading.{◌>>=◌, Part, after, begins_with, begins_name, formula}
-use Rattle.round_lang.specs.Parts.{items, behind_comma, others, listed, begins_declaration, declaration, variable_count, declarations, declared, field, fields, any_formula, sent, assignment, any_assignment, assignments, block, any_block, blocks}
+use Rattle.round_lang.specs.Parts.{items, behind_comma, others, listed, begins_declaration}
+use Rattle.round_lang.specs.Parts.{declaration, variable_count, declarations, declared, field}
+use Rattle.round_lang.specs.Parts.{fields, any_formula, sent, assignment, any_assignment}
+use Rattle.round_lang.specs.Parts.{assignments, block, any_block, blocks}
 use Rattle.round_lang.proofs.Steps.{after_is}
 use Rattle.round_lang.proofs.Repetition.{ahead, GoesOn, goes_first, goes_next, goes_end, goes_none}
 use Rattle.round_lang.proofs.Lists.{PartLaws, after_none, after_some}

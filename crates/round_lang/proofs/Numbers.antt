@@ -1,5 +1,6 @@
 -- Numbers are read with their values.
-use Rattle.std.proofs.Common.{◌≡◌, ℕ, ◌+◌, ◌-◌, ◌*◌, ◌<◌, ◌≤◌, min, Bool, true, false, cond, ◌&&◌, leb, le-leb, List, [], ◌∷◌, fold, Option, Some, None, refl, ap, arith}
+use Rattle.std.proofs.Common.{◌≡◌, ℕ, ◌+◌, ◌-◌, ◌*◌, ◌<◌, ◌≤◌, min, Bool, true, false, cond, ◌&&◌}
+use Rattle.std.proofs.Common.{leb, le-leb, List, [], ◌∷◌, fold, Option, Some, None, refl, ap, arith}
 use Rattle.std.proofs.lemmas.Bool.{lt-leb}
 use Rattle.round_lang.specs.Grammar.{value_of}
 use Rattle.round_lang.specs.Reading.{value_within, capped_value}

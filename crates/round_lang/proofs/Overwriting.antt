@@ -1,5 +1,6 @@
 -- A value that is written over one of its kind.
-use Rattle.std.proofs.Common.{◌≡◌, ◌∙◌, ℕ, zero, suc, ◌+◌, ◌<◌, ◌≤◌, List, [], ◌∷◌, ◌++◌, length, take, drop, refl, sym, ap, subst, arith, append_assoc}
+use Rattle.std.proofs.Common.{◌≡◌, ◌∙◌, ℕ, zero, suc, ◌+◌, ◌<◌, ◌≤◌, List, [], ◌∷◌, ◌++◌, length}
+use Rattle.std.proofs.Common.{take, drop, refl, sym, ap, subst, arith, append_assoc}
 use Rattle.std.specs.Prelude.{map, slice_set, slice_index_or}
 use Rattle.std.specs.List.{AllByRecursion, refill}
 use Rattle.std.proofs.lemmas.List.{take_at, drop_at, length-map}
@@ -7,7 +8,8 @@ use Rattle.std.proofs.Math.Seq.{take-append-add, drop-append-add}
 use Rattle.round_lang.specs.declared.kind.Kind.{Kind}
 use Rattle.round_lang.specs.declared.value.Value.{Value}
 use Rattle.round_lang.specs.Values.{at}
-use Rattle.round_lang.specs.Words.{size, values_of, kind_of, words_of, all_words, words_before, written, IsSmall, IsSpelled, IsSpot}
+use Rattle.round_lang.specs.Words.{size, values_of, kind_of, words_of, all_words, words_before}
+use Rattle.round_lang.specs.Words.{written, IsSmall, IsSpelled, IsSpot}
 use Rattle.round_lang.proofs.Spelling.{size-kind_of, spelled_values}
 use Rattle.round_lang.proofs.Finding.{IsFound}
 

@@ -1,5 +1,7 @@
 -- What a step says of the tokens.
-use Rattle.std.proofs.Common.{◌≡◌, ℕ, ◌+◌, ◌<◌, ◌≤◌, Bool, true, false, cond, List, [], ◌∷◌, length, take, drop, Option, Some, None, refl, sym, ap, ◌∙◌, subst, ⊎_elim, arith}
+use Rattle.std.proofs.Common.{◌≡◌, ℕ, ◌+◌, ◌<◌, ◌≤◌, Bool, true, false, cond, List, [], ◌∷◌, length}
+use Rattle.std.proofs.Common.{take, drop, Option, Some, None, refl, sym, ap, ◌∙◌, subst, ⊎_elim}
+use Rattle.std.proofs.Common.{arith}
 use Rattle.std.specs.Prelude.{not, ◌==◌}
 use Rattle.std.specs.Char.{is_ascii_digit}
 use Rattle.std.specs.List.{prefix_len}
@@ -8,10 +10,13 @@ use Rattle.std.proofs.lemmas.Bool.{eqb-true, cases_lt}
 use Rattle.std.proofs.lemmas.List.Sums.{prefix_len-le-length}
 use Rattle.round_lang.specs.Lexemes.{Lexeme, number}
 use Rattle.round_lang.specs.Keywords.{keyword, short_symbol, long_symbol}
-use Rattle.round_lang.specs.Tokens.{is_blank, begins_name, is_in_name, word_of, lexeme, IsLongest, line_len, Tokens}
+use Rattle.round_lang.specs.Tokens.{is_blank, begins_name, is_in_name, word_of, lexeme, IsLongest}
+use Rattle.round_lang.specs.Tokens.{line_len, Tokens}
 use Rattle.round_lang.specs.Tokens as t
-use Rattle.round_lang.specs.Scanning.{Step, skip, token, bad, one_or_bad, two_or_one, symbol_step, step}
-use Rattle.round_lang.proofs.Longest.{blank_is, hash_is, nothing_begins, name_longest, number_longest, long_longest, short_longest, nothing_fits}
+use Rattle.round_lang.specs.Scanning.{Step, skip, token, bad, one_or_bad, two_or_one, symbol_step}
+use Rattle.round_lang.specs.Scanning.{step}
+use Rattle.round_lang.proofs.Longest.{blank_is, hash_is, nothing_begins, name_longest}
+use Rattle.round_lang.proofs.Longest.{number_longest, long_longest, short_longest, nothing_fits}
 
 -- one length and one token are the longest
 same_longest : (text : List ℕ) (n k : ℕ) (l u : Lexeme) → IsLongest text n l → IsLongest text k u → (n ≡ k) × (l ≡ u)

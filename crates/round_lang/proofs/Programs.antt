@@ -1,5 +1,6 @@
 -- Reading a program is the grammar, and no words are two programs.
-use Rattle.std.proofs.Common.{◌≡◌, ℕ, suc, ◌≤◌, false, List, [], ◌∷◌, length, Some, refl, sym, ap, ◌∙◌, subst, arith}
+use Rattle.std.proofs.Common.{◌≡◌, ℕ, suc, ◌≤◌, false, List, [], ◌∷◌, length, Some, refl, sym, ap}
+use Rattle.std.proofs.Common.{◌∙◌, subst, arith}
 use Rattle.round_lang.specs.declared.token.Mark.TheVariants as m
 use Rattle.round_lang.specs.declared.program.Variable.{Variable}
 use Rattle.round_lang.specs.declared.parsing.level.Level.TheVariants.{Whole}
@@ -11,7 +12,8 @@ use Rattle.round_lang.specs.Syntax.{BlockTree, ProgramTree}
 use Rattle.round_lang.specs.Source.{IsDecl, IsBlock, IsProgram, Many, variables_of, decides_of}
 use Rattle.round_lang.specs.Source as g
 use Rattle.round_lang.specs.Reading.{◌>>=◌, after, number_at, begins_with, begins_name}
-use Rattle.round_lang.specs.Parts.{items, begins_declaration, declaration, variable_count, declarations, declared, any_block, blocks, all_read, program}
+use Rattle.round_lang.specs.Parts.{items, begins_declaration, declaration, variable_count}
+use Rattle.round_lang.specs.Parts.{declarations, declared, any_block, blocks, all_read, program}
 use Rattle.round_lang.proofs.Steps.{some_then, some_is, after_is, number_is}
 use Rattle.round_lang.proofs.Ends.{Ends, ends_at_at, ends_at_end}
 use Rattle.round_lang.proofs.Complete.{number_found}

@@ -1,5 +1,7 @@
 -- Items one after another.
-use Rattle.std.proofs.Common.{◌≡◌, ℕ, zero, suc, ◌+◌, ◌<◌, ◌≤◌, Bool, true, false, cond, List, [], ◌∷◌, ◌++◌, length, Option, Some, None, refl, sym, ap, ◌∙◌, subst, arith, append_assoc}
+use Rattle.std.proofs.Common.{◌≡◌, ℕ, zero, suc, ◌+◌, ◌<◌, ◌≤◌, Bool, true, false, cond, List, []}
+use Rattle.std.proofs.Common.{◌∷◌, ◌++◌, length, Option, Some, None, refl, sym, ap, ◌∙◌, subst}
+use Rattle.std.proofs.Common.{arith, append_assoc}
 use Rattle.std.proofs.lemmas.List.{append-nil}
 use Rattle.round_lang.specs.Lexemes.{Lexeme}
 use Rattle.round_lang.specs.Source.{Many}
@@ -23,7 +25,8 @@ abbrev pub weight_of : {A : Type 0} → (A → ℕ) → List A → ℕ
 weight_of weight [] = 0
 weight_of weight (a ∷ others) = weight a + weight_of weight others
 
--- Reading an item is the rule: it's told how much the items before it weigh, and all of them weigh at most so much. What follows an item meets Follows.
+-- Reading an item is the rule: it's told how much the items before it weigh, and all of them weigh
+-- at most so much. What follows an item meets Follows.
 pub record ItemLaws {A : Type 0} (begins : List Lexeme → Bool) (item : ℕ → Part A) (weight : A → ℕ) (most : ℕ) (Item : A → List Lexeme → List Lexeme → Type 0) (Follows : List Lexeme → Type 0) : Type 0 where
   pub good : (count : ℕ) (ws : List Lexeme) (a : A) (rest : List Lexeme) → item count ws ≡ Some (a, rest) → Item a ws rest × (count ≤ most → weight a + count ≤ most)
   pub found : (count : ℕ) (a : A) (ws rest : List Lexeme) → Item a ws rest → weight a + count ≤ most → Follows rest → item count ws ≡ Some (a, rest)

@@ -1,6 +1,8 @@
 -- What the loop over a text keeps.
-use Rattle.std.proofs.Common.{◌≡◌, ℕ, ◌+◌, ◌<◌, ◌≤◌, Some, None, List, [], ◌∷◌, ◌++◌, ◌-◌, length, take, drop, refl, sym, ap, ◌∙◌, subst, arith, append_assoc}
-use Rattle.std.proofs.lemmas.List.{append-nil, nil_from_length, length-take, take_rest, drop-drop, drop_all, length-drop, map-append}
+use Rattle.std.proofs.Common.{◌≡◌, ℕ, ◌+◌, ◌<◌, ◌≤◌, Some, None, List, [], ◌∷◌, ◌++◌, ◌-◌, length}
+use Rattle.std.proofs.Common.{take, drop, refl, sym, ap, ◌∙◌, subst, arith, append_assoc}
+use Rattle.std.proofs.lemmas.List.{append-nil, nil_from_length, length-take, take_rest, drop-drop}
+use Rattle.std.proofs.lemmas.List.{drop_all, length-drop, map-append}
 use Rattle.round_lang.specs.declared.token.Token.{Token}
 use Rattle.round_lang.specs.CodeTokens.{lexeme_of, lexemes}
 use Rattle.round_lang.specs.Lexemes.{Lexeme}

@@ -1,5 +1,6 @@
 -- What the readers find is in the grammar.
-use Rattle.std.proofs.Common.{◌≡◌, ℕ, zero, suc, ◌≤◌, max, ltb, List, [], ◌∷◌, length, Option, Some, None, refl, sym, ap, ◌∙◌, subst, arith}
+use Rattle.std.proofs.Common.{◌≡◌, ℕ, zero, suc, ◌≤◌, max, ltb, List, [], ◌∷◌, length, Option, Some}
+use Rattle.std.proofs.Common.{None, refl, sym, ap, ◌∙◌, subst, arith}
 use Rattle.std.proofs.lemmas.Bool.{ltb-true}
 use Rattle.round_lang.specs.declared.expr.UnaryOperator.{UnaryOperator}
 use Rattle.round_lang.specs.declared.expr.UnaryOperator.TheVariants as unary
@@ -8,15 +9,25 @@ use Rattle.round_lang.specs.declared.expr.BinaryOperator.TheVariants as binary
 use Rattle.round_lang.specs.declared.token.Mark.{Mark}
 use Rattle.round_lang.specs.declared.token.Mark.TheVariants as m
 use Rattle.round_lang.specs.declared.parsing.level.Level.{Level}
-use Rattle.round_lang.specs.declared.parsing.level.Level.TheVariants.{Whole, Disjunction, Conjunction, Negation, Comparison, Sum, Product, Postfix, Atom}
+use Rattle.round_lang.specs.declared.parsing.level.Level.TheVariants.{Whole, Disjunction}
+use Rattle.round_lang.specs.declared.parsing.level.Level.TheVariants.{Conjunction, Negation}
+use Rattle.round_lang.specs.declared.parsing.level.Level.TheVariants.{Comparison, Sum, Product}
+use Rattle.round_lang.specs.declared.parsing.level.Level.TheVariants.{Postfix, Atom}
 use Rattle.round_lang.specs.Lexemes.{Lexeme, name, number, mark, kind, fixed, call, infix_word}
 use Rattle.round_lang.specs.Limits.{max_name, max_number, max_nesting}
-use Rattle.round_lang.specs.Tree.{Tree, TNumber, TFixed, TNamed, TUnary, TBinary, TIf, TSetOf, TRowOf}
+use Rattle.round_lang.specs.Tree.{Tree, TNumber, TFixed, TNamed, TUnary, TBinary, TIf, TSetOf}
+use Rattle.round_lang.specs.Tree.{TRowOf}
 use Rattle.round_lang.specs.Grammar.{Reads, tighter, left_operand}
 use Rattle.round_lang.specs.Grammar as g
 use Rattle.round_lang.specs.Source.{IsExpr}
-use Rattle.round_lang.specs.Reading.{◌>>=◌, Found, Reader, after, name_at, number_at, operator_at, or_else, operand, found, chain, chained, compared, negated, closed, indexed, postfixed, called, has, brackets, comprehension, atom_by, atom, choice, chosen, postfixes, products, sums, comparisons, negations, conjunctions, disjunctions, level_at, parse, formula}
-use Rattle.round_lang.proofs.Steps.{some_then, guard_some, some_is, after_is, name_is, number_is, operator_is}
+use Rattle.round_lang.specs.Reading.{◌>>=◌, Found, Reader, after, name_at, number_at, operator_at}
+use Rattle.round_lang.specs.Reading.{or_else, operand, found, chain, chained, compared, negated}
+use Rattle.round_lang.specs.Reading.{closed, indexed, postfixed, called, has, brackets}
+use Rattle.round_lang.specs.Reading.{comprehension, atom_by, atom, choice, chosen, postfixes}
+use Rattle.round_lang.specs.Reading.{products, sums, comparisons, negations, conjunctions}
+use Rattle.round_lang.specs.Reading.{disjunctions, level_at, parse, formula}
+use Rattle.round_lang.proofs.Steps.{some_then, guard_some, some_is, after_is, name_is, number_is}
+use Rattle.round_lang.proofs.Steps.{operator_is}
 
 -- What nests at most n deep nests at most m deep.
 pub deeper : {level : Level} {n : ℕ} {t : Tree} {ws rest : List Lexeme} → Reads level n t ws rest → (m : ℕ) → n ≤ m → Reads level m t ws rest

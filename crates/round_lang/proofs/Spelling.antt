@@ -1,5 +1,6 @@
 -- Values are what is read from the words that they are spelled with.
-use Rattle.std.proofs.Common.{◌≡◌, ◌∙◌, ℕ, true, false, List, [], ◌∷◌, ◌++◌, length, drop, refl, sym, ap, subst}
+use Rattle.std.proofs.Common.{◌≡◌, ◌∙◌, ℕ, true, false, List, [], ◌∷◌, ◌++◌, length, drop, refl}
+use Rattle.std.proofs.Common.{sym, ap, subst}
 use Rattle.std.specs.Prelude.{map}
 use Rattle.std.specs.List.{AllByRecursion}
 use Rattle.std.proofs.lemmas.List.{drop_at, map-append, append-nil}
@@ -8,7 +9,8 @@ use Rattle.std.proofs.Math.Seq.{take-append_seam}
 use Rattle.round_lang.specs.declared.kind.Kind.{Kind}
 use Rattle.round_lang.specs.declared.value.Value.{Value}
 use Rattle.round_lang.specs.declared.value.Value.TheVariants.{Num, Flag, Set, Row}
-use Rattle.round_lang.specs.Words.{size, read, values_of, kind_of, words_of, all_words, IsSmall, IsSpelled}
+use Rattle.round_lang.specs.Words.{size, read, values_of, kind_of, words_of, all_words, IsSmall}
+use Rattle.round_lang.specs.Words.{IsSpelled}
 
 -- a value is as long as its kind says
 pub size-kind_of : (v : Value) → size (kind_of v) ≡ length (words_of v)

@@ -1,5 +1,6 @@
 -- The steps of the readers, taken apart.
-use Rattle.std.proofs.Common.{◌≡◌, ℕ, ◌≤◌, Bool, true, false, cond, ◌&&◌, leb, List, ◌∷◌, length, Option, Some, None, refl, ap, ◌∙◌, subst, rules}
+use Rattle.std.proofs.Common.{◌≡◌, ℕ, ◌≤◌, Bool, true, false, cond, ◌&&◌, leb, List, ◌∷◌, length}
+use Rattle.std.proofs.Common.{Option, Some, None, refl, ap, ◌∙◌, subst, rules}
 use Rattle.std.proofs.lemmas.Bool.{leb-true}
 use denote.Enum.Bare.{same_true, true_same}
 use Rattle.round_lang.specs.declared.expr.Ty.{Ty}
@@ -12,7 +13,8 @@ use Rattle.round_lang.specs.declared.parsing.level.Level.{Level}
 use Rattle.round_lang.specs.Lexemes.{Lexeme, name, number, mark, kind, infix_word, same_mark}
 use Rattle.round_lang.specs.Limits.{max_name}
 use Rattle.round_lang.specs.Grammar.{level_of, value_of}
-use Rattle.round_lang.specs.Reading.{◌>>=◌, after, after_equal, name_at, type_at, value_within, number_at, same_level, operator_of, operator_at}
+use Rattle.round_lang.specs.Reading.{◌>>=◌, after, after_equal, name_at, type_at, value_within}
+use Rattle.round_lang.specs.Reading.{number_at, same_level, operator_of, operator_at}
 
 pub some_then : {A B : Type 0} (o : Option A) (f : A → Option B) (y : B) → (o >>= f) ≡ Some y → (a : A) × (o ≡ Some a) × (f a ≡ Some y)
 some_then (Some a) f y e = (a, refl, e)

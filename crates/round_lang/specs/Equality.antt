@@ -1,7 +1,8 @@
 -- Equality as a test, at any type whose values have codes that tell them apart.
 use Rattle.std.specs.Prelude.{◌≡◌, ◌↔◌, Bool, true, false, ◌&&◌, nat_eq, IsTrue}
 use Rattle.std.specs.Bool.{Decides, one_answer}
-use Rattle.std.specs.Cmp.{IsEquivalence, IsPartialEquivalence, decided, partial_equiv_from_equiv, first_so, second_so}
+use Rattle.std.specs.Cmp.{IsEquivalence, IsPartialEquivalence, decided, partial_equiv_from_equiv}
+use Rattle.std.specs.Cmp.{first_so, second_so}
 use Rattle.std.specs.Coded.{Coded}
 use Rattle.std.proofs.Common.{ap, rules}
 use base.Stored.{Gv, gnil, gnum, gcons}
@@ -31,8 +32,10 @@ code_decides (gcons a b) gnil = search rules
 code_decides (gcons a b) (gnum n) = search rules
 code_decides (gcons a b) (gcons c d) =
     let first = code_decides a c in
-    let second = code_decides b d in
-    (λ e i. gcons (first.0 (first_so _ _ e) i) (second.0 (second_so _ _ e) i), λ p. both (first.1 (cc)) (second.1 (cc)))
+    let second = code_decides b d in (
+      λ e i. gcons (first.0 (first_so _ _ e) i) (second.0 (second_so _ _ e) i),
+      λ p. both (first.1 (cc)) (second.1 (cc)),
+    )
 
 module _ {A : Type 0} (c : Coded A) where
   -- what a caller of `==` needs: the test answers true exactly where the values are one

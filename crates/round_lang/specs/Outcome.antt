@@ -11,7 +11,8 @@ use Rattle.round_lang.specs.declared.parsing.fault.Fault.{Fault}
 use Rattle.round_lang.specs.declared.parsing.fault.Fault.TheVariants as fault
 use Rattle.round_lang.specs.declared.parsing.part.Declared.{Declared}
 use Rattle.round_lang.specs.declared.parsing.level.Level.{Level}
-use Rattle.round_lang.specs.declared.parsing.level.Level.TheVariants.{Disjunction, Conjunction, Sum, Product}
+use Rattle.round_lang.specs.declared.parsing.level.Level.TheVariants.{Disjunction, Conjunction, Sum}
+use Rattle.round_lang.specs.declared.parsing.level.Level.TheVariants.{Product}
 use Rattle.round_lang.specs.CodeTokens.{lexemes}
 use Rattle.round_lang.specs.Lexemes.{Lexeme}
 use Rattle.round_lang.specs.Tree.{Tree, tree_of}
@@ -51,14 +52,17 @@ operator_found x = (x.0, lexemes x.1.now)
 abbrev pub list_found : {X A : Type 0} → Vec X A × Bor (List Token) → List X × List Lexeme
 list_found x = (x.0.items, lexemes x.1.now)
 
-abbrev pub head_found : {A : Type 0} → ℕ × Vec Field A × Bor (List Token) → ℕ × List Field × List Lexeme
+abbrev pub head_found : {A : Type 0} → ℕ × Vec Field A × Bor (List Token)
+    → ℕ × List Field × List Lexeme
 head_found x = (x.0, x.1.items, lexemes x.2.now)
 
-abbrev pub sending_found : {A : Type 0} → Tree × Vec Tree A × Bor (List Token) → Tree × List Tree × List Lexeme
+abbrev pub sending_found : {A : Type 0} → Tree × Vec Tree A × Bor (List Token)
+    → Tree × List Tree × List Lexeme
 sending_found x = (x.0, x.1.items, lexemes x.2.now)
 
 -- the variables and the decided names that were read, and the words behind them
-abbrev pub declared_found : Declared × Bor (List Token) → List Variable × List (List ℕ) × List Lexeme
+abbrev pub declared_found : Declared × Bor (List Token)
+    → List Variable × List (List ℕ) × List Lexeme
 declared_found x = (x.0.variables.items, x.0.decides.items, lexemes x.1.now)
 
 -- the levels whose operators group from the left

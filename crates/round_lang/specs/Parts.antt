@@ -1,5 +1,7 @@
--- Reading the parts of a program with one token of lookahead. No reader has to believe this file: laws tie it to the grammar.
-use Rattle.std.specs.Prelude.{ℕ, zero, suc, ◌+◌, Bool, true, false, List, [], ◌∷◌, length, Option, Some, None, nat_lt, if◌then◌else◌}
+-- Reading the parts of a program with one token of lookahead. No reader has to believe this file:
+-- laws tie it to the grammar.
+use Rattle.std.specs.Prelude.{ℕ, zero, suc, ◌+◌, Bool, true, false, List, [], ◌∷◌, length, Option}
+use Rattle.std.specs.Prelude.{Some, None, nat_lt, if◌then◌else◌}
 use Rattle.round_lang.specs.declared.token.Mark.TheVariants as m
 use Rattle.round_lang.specs.declared.block.Field.{Field}
 use Rattle.round_lang.specs.declared.block.Assignment.{Assignment}
@@ -12,18 +14,21 @@ use Rattle.round_lang.specs.Limits.{max_values, max_period, max_variables, max_f
 use Rattle.round_lang.specs.Tree.{Tree}
 use Rattle.round_lang.specs.Syntax.{BlockTree, ProgramTree}
 use Rattle.round_lang.specs.Source.{variables_of, decides_of}
-use Rattle.round_lang.specs.Reading.{◌>>=◌, Part, after, after_equal, name_at, type_at, number_at, begins_with, begins_name, formula}
+use Rattle.round_lang.specs.Reading.{◌>>=◌, Part, after, after_equal, name_at, type_at, number_at}
+use Rattle.round_lang.specs.Reading.{begins_with, begins_name, formula}
 
 -- the name of something of which there are at most so many, with how many there are
 unfoldable pub counted_name : ℕ → ℕ → Part (List ℕ)
 counted_name count most ws = name_at ws >>= λ x. if nat_lt count most then Some x else None
 
--- Items one after another, while one begins: an item is told the weight of those before it. The first number bounds the turns.
+-- Items one after another, while one begins: an item is told the weight of those before it. The
+-- first number bounds the turns.
 module _ {A : Type 0} (begins : List Lexeme → Bool) (item : ℕ → Part A) (weight : A → ℕ) where
   unfoldable pub many : ℕ → ℕ → Part (List A)
   many zero count ws = None
   many (suc n) count ws =
-      if begins ws then (item count ws >>= λ a. many n (weight a.0 + count) a.1 >>= λ r. Some (a.0 ∷ r.0, r.1)) else Some ([], ws)
+      if begins ws then (item count ws >>= λ a. many n (weight a.0 + count) a.1
+      >>= λ r. Some (a.0 ∷ r.0, r.1)) else Some ([], ws)
 
   -- the items of the words, from the first
   abbrev pub items : ℕ → Part (List A)
@@ -160,7 +165,17 @@ block ws = do
   s ← sending h.2
   ons ← on_message s.2
   ends ← ending ons.1
-  Some (record { number = h.0; fields = h.1; condition = s.0; sent = s.1; on_message = ons.0; end = ends.0 }, ends.1)
+  Some (
+    record {
+      number = h.0;
+      fields = h.1;
+      condition = s.0;
+      sent = s.1;
+      on_message = ons.0;
+      end = ends.0;
+    },
+    ends.1,
+  )
 
 abbrev pub any_block : ℕ → Part BlockTree
 any_block count ws = after m.At ws >>= block
@@ -182,4 +197,5 @@ program ws = do
   p ← number_at 1 max_period ys
   ds ← declared p.1
   bs ← blocks ds.2
-  all_read (record { values = k.0; period = p.0; variables = ds.0; decides = ds.1; blocks = bs.0 }) bs.1
+  all_read
+      (record { values = k.0; period = p.0; variables = ds.0; decides = ds.1; blocks = bs.0 }) bs.1

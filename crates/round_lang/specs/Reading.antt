@@ -1,5 +1,8 @@
--- Reading expressions from left to right with one token of lookahead. No reader has to believe this file: laws tie it to the grammar.
-use Rattle.std.specs.Prelude.{ℕ, zero, suc, ◌+◌, ◌-◌, ◌*◌, min, max, fold, Bool, true, false, ◌&&◌, List, [], ◌∷◌, length, Option, Some, None, option_and_then, nat_le, nat_lt, if◌then◌else◌}
+-- Reading expressions from left to right with one token of lookahead. No reader has to believe this
+-- file: laws tie it to the grammar.
+use Rattle.std.specs.Prelude.{ℕ, zero, suc, ◌+◌, ◌-◌, ◌*◌, min, max, fold, Bool, true, false, ◌&&◌}
+use Rattle.std.specs.Prelude.{List, [], ◌∷◌, length, Option, Some, None, option_and_then, nat_le}
+use Rattle.std.specs.Prelude.{nat_lt, if◌then◌else◌}
 use denote.Enum.Bare.{sameb}
 use Rattle.round_lang.specs.declared.expr.Ty.{Ty}
 use Rattle.round_lang.specs.declared.expr.UnaryOperator.{UnaryOperator}
@@ -10,10 +13,15 @@ use Rattle.round_lang.specs.declared.token.Mark.{Mark}
 use Rattle.round_lang.specs.declared.token.Mark.TheVariants as m
 use Rattle.round_lang.specs.contracts.parsing.level.Level.{the_type}
 use Rattle.round_lang.specs.declared.parsing.level.Level.{Level}
-use Rattle.round_lang.specs.declared.parsing.level.Level.TheVariants.{Whole, Disjunction, Conjunction, Negation, Comparison, Sum, Product, Postfix, Atom}
-use Rattle.round_lang.specs.Lexemes.{Lexeme, name, number, mark, kind, fixed, call, infix_word, same_mark}
+use Rattle.round_lang.specs.declared.parsing.level.Level.TheVariants.{Whole, Disjunction}
+use Rattle.round_lang.specs.declared.parsing.level.Level.TheVariants.{Conjunction, Negation}
+use Rattle.round_lang.specs.declared.parsing.level.Level.TheVariants.{Comparison, Sum, Product}
+use Rattle.round_lang.specs.declared.parsing.level.Level.TheVariants.{Postfix, Atom}
+use Rattle.round_lang.specs.Lexemes.{Lexeme, name, number, mark, kind, fixed, call, infix_word}
+use Rattle.round_lang.specs.Lexemes.{same_mark}
 use Rattle.round_lang.specs.Limits.{max_name, max_number, max_nesting}
-use Rattle.round_lang.specs.Tree.{Tree, TNumber, TFixed, TNamed, TUnary, TBinary, TIf, TSetOf, TRowOf}
+use Rattle.round_lang.specs.Tree.{Tree, TNumber, TFixed, TNamed, TUnary, TBinary, TIf, TSetOf}
+use Rattle.round_lang.specs.Tree.{TRowOf}
 use Rattle.round_lang.specs.Grammar.{tighter, level_of, value_of}
 
 infixl 10 ◌>>=◌
@@ -51,7 +59,8 @@ type_at _ = None
 
 -- what digits are worth, within these limits
 unfoldable pub value_within : ℕ → ℕ → List ℕ → Option ℕ
-value_within low high digits = if nat_le low (value_of digits) && nat_le (value_of digits) high then Some (value_of digits) else None
+value_within low high digits = if nat_le low (value_of digits) && nat_le (value_of digits) high
+    then Some (value_of digits) else None
 
 unfoldable pub number_at : ℕ → ℕ → Part ℕ
 number_at low high (number digits ∷ ws) = value_within low high digits >>= λ v. Some (v, ws)
@@ -72,7 +81,8 @@ begins_name _ = false
 unfoldable pub same_level : Level → Level → Bool
 same_level = sameb the_type
 
-abbrev pub operator_of : Level → BinaryOperator → List Lexeme → Option Level → Option (BinaryOperator × List Lexeme)
+abbrev pub operator_of : Level → BinaryOperator → List Lexeme → Option Level
+    → Option (BinaryOperator × List Lexeme)
 operator_of level op ws None = None
 operator_of level op ws (Some l) = if same_level l level then Some (op, ws) else None
 
@@ -89,10 +99,12 @@ or_else (Some a) f b = f a
 -- inner reads what nests one less deep than the room
 module _ (inner : Level → Reader) (room : ℕ) where
   -- the second operand, where there is an operator, and then next
-  unfoldable pub operand : Level → (Tree → ℕ → Reader) → Tree → ℕ → List Lexeme → Option (BinaryOperator × List Lexeme) → Option Found
+  unfoldable pub operand : Level → (Tree → ℕ → Reader) → Tree → ℕ → List Lexeme
+      → Option (BinaryOperator × List Lexeme) → Option Found
   operand level next a d ws None = Some (a, d, ws)
   operand level next a d ws (Some (op, xs)) =
-      if nat_lt d room then (inner (tighter level) xs >>= λ b. next (TBinary op a b.0) (suc (max d b.1)) b.2) else None
+      if nat_lt d room then (inner (tighter level) xs
+      >>= λ b. next (TBinary op a b.0) (suc (max d b.1)) b.2) else None
 
   abbrev pub found : Tree → ℕ → Reader
   found a d ws = Some (a, d, ws)
@@ -106,10 +118,12 @@ module _ (inner : Level → Reader) (room : ℕ) where
   chained level below ws = below ws >>= λ a. chain (suc room) level a.0 a.1 a.2
 
   unfoldable pub compared : Reader → Reader
-  compared below ws = below ws >>= λ a. operand Comparison found a.0 a.1 a.2 (operator_at Comparison a.2)
+  compared below ws =
+      below ws >>= λ a. operand Comparison found a.0 a.1 a.2 (operator_at Comparison a.2)
 
   unfoldable pub negated : Reader → Reader
-  negated below ws = or_else (after m.Not ws) (λ xs. inner Negation xs >>= λ a. Some (TUnary unary.Not a.0, suc a.1, a.2)) (below ws)
+  negated below ws = or_else (after m.Not ws) (λ xs. inner Negation xs
+      >>= λ a. Some (TUnary unary.Not a.0, suc a.1, a.2)) (below ws)
 
   -- an expression and the mark behind it
   unfoldable pub closed : Mark → Reader
@@ -119,10 +133,12 @@ module _ (inner : Level → Reader) (room : ℕ) where
     Some (a.0, a.1, rest)
 
   unfoldable pub indexed : Tree → ℕ → Reader
-  indexed a d xs = if nat_lt d room then (closed m.CloseSquare xs >>= λ b. Some (TBinary binary.Entry a b.0, suc (max d b.1), b.2)) else None
+  indexed a d xs = if nat_lt d room then (closed m.CloseSquare xs
+      >>= λ b. Some (TBinary binary.Entry a b.0, suc (max d b.1), b.2)) else None
 
   unfoldable pub postfixed : Reader → Reader
-  postfixed below ws = below ws >>= λ a. or_else (after m.OpenSquare a.2) (λ xs. indexed a.0 a.1 xs) (Some (a.0, a.1, a.2))
+  postfixed below ws = below ws
+      >>= λ a. or_else (after m.OpenSquare a.2) (λ xs. indexed a.0 a.1 xs) (Some (a.0, a.1, a.2))
 
   -- what nests needs room for its part
   abbrev pub roomy : Option Found → Option Found
@@ -164,7 +180,8 @@ module _ (inner : Level → Reader) (room : ℕ) where
   unfoldable pub atom : Reader
   atom [] = None
   atom (name x ∷ ws) = name_at (name x ∷ ws) >>= λ y. Some (TNamed y.0, 1, y.1)
-  atom (number digits ∷ ws) = number_at 0 max_number (number digits ∷ ws) >>= λ v. Some (TNumber v.0, 1, v.1)
+  atom (number digits ∷ ws) =
+      number_at 0 max_number (number digits ∷ ws) >>= λ v. Some (TNumber v.0, 1, v.1)
   atom (mark k ∷ ws) = atom_by k ws
   atom (kind ty ∷ ws) = None
   atom (fixed c ∷ ws) = Some (TFixed c, 1, ws)

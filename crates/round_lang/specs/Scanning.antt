@@ -1,4 +1,5 @@
--- The next piece of a text, by its first byte. No reader has to believe this file: laws tie it to the tokens.
+-- The next piece of a text, by its first byte. No reader has to believe this file: laws tie it to
+-- the tokens.
 use Rattle.std.specs.Prelude.{ℕ, ◌+◌, ◌==◌, if◌then◌else◌, List, [], ◌∷◌, take, Option, Some, None}
 use Rattle.std.specs.Char.{is_ascii_digit}
 use Rattle.std.specs.List.{prefix_len}
@@ -36,6 +37,8 @@ step [] = bad
 step (a ∷ bs) =
     if is_blank a then skip 1
     else (if a == 35 then skip (1 + line_len bs)
-    else (if begins_name a then (let n = 1 + prefix_len is_in_name bs in token n (word_of (take n (a ∷ bs)) (keyword (take n (a ∷ bs)))))
-    else (if is_ascii_digit a then (let n = 1 + prefix_len is_ascii_digit bs in token n (number (take n (a ∷ bs))))
+    else (if begins_name a then (let n = 1 + prefix_len is_in_name bs in
+    token n (word_of (take n (a ∷ bs)) (keyword (take n (a ∷ bs)))))
+    else (if is_ascii_digit a
+    then (let n = 1 + prefix_len is_ascii_digit bs in token n (number (take n (a ∷ bs))))
     else symbol_step a bs)))

@@ -1,5 +1,7 @@
 -- The tokens of a text: names, keywords, numbers and symbols, each as long as can be.
-use Rattle.std.specs.Prelude.{◌≡◌, ℕ, ◌<◌, ◌≤◌, Bool, true, false, not, ◌&&◌, ◌||◌, ◌==◌, if◌then◌else◌, List, [], ◌∷◌, length, take, drop, Option, Some, None, IsNone, IsTrue}
+use Rattle.std.specs.Prelude.{◌≡◌, ℕ, ◌<◌, ◌≤◌, Bool, true, false, not, ◌&&◌, ◌||◌, ◌==◌}
+use Rattle.std.specs.Prelude.{if◌then◌else◌, List, [], ◌∷◌, length, take, drop, Option, Some, None}
+use Rattle.std.specs.Prelude.{IsNone, IsTrue}
 use Rattle.std.specs.Char.{is_ascii_digit, is_ascii_alphabetic, is_ascii_alphanumeric}
 use Rattle.std.specs.List.{list_all, prefix_len}
 use Rattle.round_lang.specs.Lexemes.{Lexeme, name, number}
@@ -56,7 +58,10 @@ line_len bs = prefix_len (λ b. not (b == 10)) bs
 -- the text's tokens
 pub data Tokens : List ℕ → List Lexeme → Type 0 where
   end : Tokens [] []
-  blank : {b : ℕ} {text : List ℕ} {ls : List Lexeme} → is_blank b ≡ true → Tokens text ls → Tokens (b ∷ text) ls
+  blank : {b : ℕ} {text : List ℕ} {ls : List Lexeme} → is_blank b ≡ true
+      → Tokens text ls → Tokens (b ∷ text) ls
   -- from # to the end of the line
-  comment : {b : ℕ} {text : List ℕ} {ls : List Lexeme} → b ≡ 35 → Tokens (drop (line_len text) text) ls → Tokens (b ∷ text) ls
-  token : {text : List ℕ} {l : Lexeme} {ls : List Lexeme} (n : ℕ) → IsLongest text n l → Tokens (drop n text) ls → Tokens text (l ∷ ls)
+  comment : {b : ℕ} {text : List ℕ} {ls : List Lexeme} → b ≡ 35
+      → Tokens (drop (line_len text) text) ls → Tokens (b ∷ text) ls
+  token : {text : List ℕ} {l : Lexeme} {ls : List Lexeme} (n : ℕ) → IsLongest text n l
+      → Tokens (drop n text) ls → Tokens text (l ∷ ls)

@@ -4,7 +4,8 @@ use Rattle.round_lang.specs.declared.expr.Constant.{Constant}
 use Rattle.round_lang.specs.declared.expr.UnaryOperator.{UnaryOperator}
 use Rattle.round_lang.specs.declared.expr.BinaryOperator.{BinaryOperator}
 use Rattle.round_lang.specs.declared.expr.Expr.{Expr}
-use Rattle.round_lang.specs.declared.expr.Expr.TheVariants.{Number, Fixed, Named, Unary', Binary', If', SetOf', RowOf'}
+use Rattle.round_lang.specs.declared.expr.Expr.TheVariants.{Number, Fixed, Named, Unary', Binary'}
+use Rattle.round_lang.specs.declared.expr.Expr.TheVariants.{If', SetOf', RowOf'}
 
 -- an expression as pure data: a number, a constant, a name, an operator with its parts, `if`, a
 -- set {x : e}, a row [x : e]

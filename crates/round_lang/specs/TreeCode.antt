@@ -4,7 +4,8 @@ use Rattle.std.proofs.Common.{◌∙◌, ap}
 use Rattle.round_lang.specs.declared.expr.Constant.{Constant}
 use Rattle.round_lang.specs.declared.expr.UnaryOperator.{UnaryOperator}
 use Rattle.round_lang.specs.declared.expr.BinaryOperator.{BinaryOperator}
-use Rattle.round_lang.specs.Tree.{Tree, TNumber, TFixed, TNamed, TUnary, TBinary, TIf, TSetOf, TRowOf}
+use Rattle.round_lang.specs.Tree.{Tree, TNumber, TFixed, TNamed, TUnary, TBinary, TIf, TSetOf}
+use Rattle.round_lang.specs.Tree.{TRowOf}
 
 pub data Word : Type 0 where
   WNumber : (n : ℕ) → Word
@@ -56,7 +57,8 @@ abbrev pub top : List Tree → Tree
 top [] = TNumber 0
 top (t ∷ st) = t
 
-pub built_words : (t : Tree) (rest : List Word) (st : List Tree) → built (words_then t rest) st ≡ built rest (t ∷ st)
+pub built_words : (t : Tree) (rest : List Word) (st : List Tree)
+    → built (words_then t rest) st ≡ built rest (t ∷ st)
 built_words (TNumber n) rest st = refl
 built_words (TFixed c) rest st = refl
 built_words (TNamed x) rest st = refl

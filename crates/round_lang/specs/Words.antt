@@ -1,11 +1,15 @@
 -- How values are spelled as words of 64 bits, and read from them.
-use Rattle.std.specs.Prelude.{◌≡◌, ℕ, zero, suc, ◌+◌, ◌-◌, min, slice_index, slice_index_or, Option, Some, None, ◌<◌, ◌^◌, Bool, true, false, List, [], ◌∷◌, ◌++◌, map, take, drop, length, nat_eq, All}
+use Rattle.std.specs.Prelude.{◌≡◌, ℕ, zero, suc, ◌+◌, ◌-◌, min, slice_index, slice_index_or, Option}
+use Rattle.std.specs.Prelude.{Some, None, ◌<◌, ◌^◌, Bool, true, false, List, [], ◌∷◌, ◌++◌, map}
+use Rattle.std.specs.Prelude.{take, drop, length, nat_eq, All}
 use Rattle.std.specs.Borrow.{Bor}
 use Rattle.std.specs.List.{AllByRecursion, flat_map}
 use Rattle.round_lang.specs.declared.expr.Ty.{Ty}
-use Rattle.round_lang.specs.declared.expr.Ty.TheVariants.{Num as TyNum, Bool as TyBool, Set as TySet, Row as TyRow}
+use Rattle.round_lang.specs.declared.expr.Ty.TheVariants.{Num as TyNum, Bool as TyBool}
+use Rattle.round_lang.specs.declared.expr.Ty.TheVariants.{Set as TySet, Row as TyRow}
 use Rattle.round_lang.specs.declared.kind.Kind.{Kind}
-use Rattle.round_lang.specs.declared.kind.Kind.TheVariants.{Num as NumKind, Flag as FlagKind, Set as SetKind, Row as RowKind}
+use Rattle.round_lang.specs.declared.kind.Kind.TheVariants.{Num as NumKind, Flag as FlagKind}
+use Rattle.round_lang.specs.declared.kind.Kind.TheVariants.{Set as SetKind, Row as RowKind}
 use Rattle.round_lang.specs.declared.value.Value.{Value}
 use Rattle.round_lang.specs.declared.value.Value.TheVariants.{Num, Flag, Set, Row}
 use Rattle.round_lang.specs.Values.{of_set}
@@ -45,7 +49,8 @@ words_before [] place = 0
 words_before (kind ∷ kinds) zero = 0
 words_before (kind ∷ kinds) (suc place) = size kind + words_before kinds place
 
--- where the words of the value at a place begin, or the greatest number of 64 bits where that's further
+-- where the words of the value at a place begin, or the greatest number of 64 bits where that's
+-- further
 abbrev pub start_of : List Kind → ℕ → ℕ
 start_of kinds place = min (words_before kinds place) (2 ^ 64 - 1)
 

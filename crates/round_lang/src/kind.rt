@@ -4,7 +4,8 @@ ghost use Rattle.round_lang.specs.Words.{size, kind_for};
 
 use crate::expr::Ty;
 
-/// How the words of a value are read: a row takes a word for each of its entries, any other value one.
+/// How the words of a value are read: a row takes a word for each of its entries, any other value
+/// one.
 #[derive(Clone, Copy, PartialEq, Eq, Default, Debug)]
 pub enum Kind {
     #[default]

@@ -27,7 +27,8 @@ impl Model for Layout {
 }
 
 impl Layout {
-    /// These kinds laid out. A start that is no `usize` is kept as the greatest one: no words reach so far.
+    /// These kinds laid out. A start that is no `usize` is kept as the greatest one: no words reach
+    /// so far.
     pub(crate) fn new(alloc: Global, kinds: &[Kind]) -> Result<Layout, NoMemory>
         ensures { IfOk result (λ l. l ≡ kinds.now) }
     {

@@ -1,5 +1,6 @@
 //! From a text to its tokens.
-ghost use Rattle.std.specs.Prelude.{◌≡◌, ◌≢◌, ◌<◌, ◌≤◌, ◌+◌, ◌↔◌, length, slice_index, drop, IfOk, IfErr, IsNone, IsTrue, List};
+ghost use Rattle.std.specs.Prelude.{◌≡◌, ◌≢◌, ◌<◌, ◌≤◌, ◌+◌, ◌↔◌, length, slice_index, drop, IfOk};
+ghost use Rattle.std.specs.Prelude.{IfErr, IsNone, IsTrue, List};
 ghost use Rattle.std.specs.Char.{is_ascii_digit};
 ghost use Rattle.std.specs.List.{list_all, prefix_len};
 ghost use Rattle.round_lang.specs.Keywords as words;
@@ -189,9 +190,11 @@ impl<T: Drop> From<AllocFailed<T>> for TokenFault {
 pub fn tokens(alloc: Global, text: &[u8]) -> Result<Vec<Token<'_>>, TokenFault>
     ensures found { IfOk result (λ v. spec.Tokens text.now (lexemes v.items)) }
     // The text has no other tokens.
-    ensures only { IfOk result (λ v. (ls : List Lexeme) → spec.Tokens text.now ls → ls ≡ lexemes v.items) }
+    ensures only { IfOk result (λ v. (ls : List Lexeme) → spec.Tokens text.now ls
+        → ls ≡ lexemes v.items) }
     // Memory aside, only a text with no list of tokens is refused.
-    ensures refused { IfErr result (λ e. e ≢ TokenFault.NoMemory → (ls : List Lexeme) → spec.Tokens text.now ls → ⊥) }
+    ensures refused { IfErr result (λ e. e ≢ TokenFault.NoMemory
+        → (ls : List Lexeme) → spec.Tokens text.now ls → ⊥) }
 {
     let mut out = Vec::new(alloc);
     let mut at = 0;

@@ -1,10 +1,10 @@
-//! Want of memory.
+//! Running out of memory.
 ghost use Rattle.std.specs.Prelude.{◌≡◌};
 
 use std::alloc::{AllocError, AllocFailed};
 use std::fmt;
 
-/// A growth was refused; what was to grow is as it was.
+/// Out of memory: what was to grow is as it was.
 #[derive(Clone, Copy, PartialEq, Eq, Debug)]
 pub struct NoMemory;
 

@@ -50,7 +50,8 @@ pub fn parse(alloc: Global, text: &str) -> Result<Program, LangFault>
     // What is answered is the text's program.
     ensures found { IfOk result (λ p. IsSource text.now p) }
     // Only a text that is no program is refused, or one that is too long, memory aside.
-    ensures refused { IfErr result (λ e. e ≢ LangFault.NoMemory → e ≢ LangFault.TooLong → (p : ProgramTree) → IsSource text.now p → ⊥) }
+    ensures refused { IfErr result (λ e. e ≢ LangFault.NoMemory → e ≢ LangFault.TooLong
+        → (p : ProgramTree) → IsSource text.now p → ⊥) }
     ensures long { (result ≡ Err LangFault.TooLong) ↔ (max_text < length text.now) }
 {
     if text.len() > MAX_TEXT {

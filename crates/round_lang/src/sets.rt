@@ -1,6 +1,7 @@
 //! Sets of values, as bits.
 ghost use Rattle.std.specs.Prelude.{◌≡◌, ◌≤◌, ◌<◌, nat_lt, ◌&&◌};
-ghost use Rattle.round_lang.specs.Sets.{is_in, set_of, union, inter, minus, everything, only, size, least};
+ghost use Rattle.round_lang.specs.Sets.{is_in, set_of, union, inter, minus, everything, only, size};
+ghost use Rattle.round_lang.specs.Sets.{least};
 
 /// A set of values below 64.
 #[derive(Clone, Copy, PartialEq, Eq, Debug)]

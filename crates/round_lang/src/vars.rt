@@ -1,8 +1,10 @@
 //! A node's state and messages, seen by contracts as lists of values.
-ghost use Rattle.std.specs.Prelude.{◌≡◌, ◌<◌, ◌≤◌, ◌↔◌, [], IfOk, IfSome, IsTrue, OnErr, OnOk, length, map, slice_index, slice_set};
+ghost use Rattle.std.specs.Prelude.{◌≡◌, ◌<◌, ◌≤◌, ◌↔◌, [], IfOk, IfSome, IsTrue, OnErr, OnOk};
+ghost use Rattle.std.specs.Prelude.{length, map, slice_index, slice_set};
 ghost use Rattle.std.specs.List.{AllByRecursion};
 ghost use Rattle.round_lang.specs.Values.{at, num, flag, set, row};
-ghost use Rattle.round_lang.specs.Words.{all_words, kind_of, read, read_spot, size, values_of, IsSmall, IsSpelled};
+ghost use Rattle.round_lang.specs.Words.{all_words, kind_of, read, read_spot, size, values_of};
+ghost use Rattle.round_lang.specs.Words.{IsSmall, IsSpelled};
 
 use crate::builder::VarsBuilder;
 use crate::kind::Kind;

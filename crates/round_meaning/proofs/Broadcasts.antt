@@ -1,13 +1,17 @@
 -- What doesn't name `dest` has one value for every receiver.
-use Rattle.std.proofs.Common.{◌≡◌, ℕ, Bool, false, List, [], ◌∷◌, map, Option, Some, None, cond, refl, ap, ◌∙◌}
+use Rattle.std.proofs.Common.{◌≡◌, ℕ, Bool, false, List, [], ◌∷◌, map, Option, Some, None, cond}
+use Rattle.std.proofs.Common.{refl, ap, ◌∙◌}
 use Rattle.std.proofs.lemmas.Bool.{or_parts}
 use Rattle.std.specs.Simd.Lanes.{mask_l}
 use Rattle.round_lang.specs.declared.expr.Constant.{Constant}
-use Rattle.round_lang.specs.declared.expr.Constant.TheVariants.{True, False, Empty, All, Zero, Me, Nodes, Faults, Round, Phase, Dest, From}
+use Rattle.round_lang.specs.declared.expr.Constant.TheVariants.{True, False, Empty, All, Zero, Me}
+use Rattle.round_lang.specs.declared.expr.Constant.TheVariants.{Nodes, Faults, Round, Phase, Dest}
+use Rattle.round_lang.specs.declared.expr.Constant.TheVariants.{From}
 use Rattle.round_lang.specs.declared.value.Value.TheVariants.{Row}
 use Rattle.round_lang.specs.Sets.{set_of}
 use Rattle.round_lang.specs.Syntax.{BlockTree}
-use Rattle.round_lang.specs.Tree.{Tree, TNumber, TFixed, TNamed, TUnary, TBinary, TIf, TSetOf, TRowOf}
+use Rattle.round_lang.specs.Tree.{Tree, TNumber, TFixed, TNamed, TUnary, TBinary, TIf, TSetOf}
+use Rattle.round_lang.specs.Tree.{TRowOf}
 use Rattle.round_lang.specs.Values.{num, flag, of_set, unary, binary}
 use Rattle.round_meaning.specs.Broadcast.{any_names_dest, is_dest, names_dest, sends_by_dest}
 use Rattle.round_meaning.specs.Meaning.{Env, bind, constant, value}

@@ -1,12 +1,15 @@
 -- Agreement, validity and the lock invariant, of setups.
-use Rattle.std.proofs.Common.{◌≡◌, ◌≢◌, ℕ, suc, ◌+◌, ◌-◌, ◌/◌, ◌<◌, ◌≤◌, Bool, List, Some, sym, ap, ◌∙◌, subst, arith}
+use Rattle.std.proofs.Common.{◌≡◌, ◌≢◌, ℕ, suc, ◌+◌, ◌-◌, ◌/◌, ◌<◌, ◌≤◌, Bool, List, Some, sym, ap}
+use Rattle.std.proofs.Common.{◌∙◌, subst, arith}
 use Rattle.std.specs.Prelude.{nat_le, slice_index}
 use Rattle.std.specs.List.{count_by, range_with_len}
 use Rattle.std.proofs.lemmas.List.Elements.{All-get_or}
 use Rattle.round_lang.specs.declared.value.Value.{Value}
 use Rattle.round_lang.specs.Syntax.{ProgramTree}
 use Rattle.round_meaning.specs.declared.setup.Setup.{Setup}
-use Rattle.round_meaning.specs.Agreement.{HasMajority, RunsAlgorithm1, DecisionsAgree, DecisionsAreInputs, HasDecided, DecidesNext, IsInput, state_after}
+use Rattle.round_meaning.specs.Agreement.{HasMajority, RunsAlgorithm1, DecisionsAgree}
+use Rattle.round_meaning.specs.Agreement.{DecisionsAreInputs, HasDecided, DecidesNext, IsInput}
+use Rattle.round_meaning.specs.Agreement.{state_after}
 use Rattle.round_meaning.specs.Algorithm1.{dls1, lock_in}
 use Rattle.round_meaning.specs.Rounds.{algorithm_of, rounds}
 use Rattle.round_meaning.specs.States.{HasRun, States, state_of}

@@ -1,15 +1,18 @@
 -- The third round of a phase: the owner decides.
-use Rattle.std.proofs.Common.{◌≡◌, ℕ, ◌+◌, ◌<◌, ◌≤◌, ◌≢◌, min, Bool, true, false, cond, refl, sym, ap, ◌∙◌, subst, inl, inr, ◌⊎◌, arith}
+use Rattle.std.proofs.Common.{◌≡◌, ℕ, ◌+◌, ◌<◌, ◌≤◌, ◌≢◌, min, Bool, true, false, cond, refl, sym}
+use Rattle.std.proofs.Common.{ap, ◌∙◌, subst, inl, inr, ◌⊎◌, arith}
 use Rattle.std.specs.Prelude.{◌&&◌, not, nat_le, slice_index, ◌==◌}
 use Rattle.std.specs.List.{range_with_len}
 use Rattle.std.proofs.lemmas.Bool.{cases_lt, false≢true, and_parts, eqb-true, leb-true}
 use Rattle.round_lang.specs.declared.value.Value.{Value}
 use Rattle.round_lang.specs.Sets.{size}
 use Rattle.round_lang.specs.Values.{num, flag, set, row}
-use Rattle.round_meaning.proofs.PhaseSteps.{Setting, Node, World, Suits, hear, owner, message3, take3, hears3, round3}
+use Rattle.round_meaning.proofs.PhaseSteps.{Setting, Node, World, Suits, hear, owner, message3}
+use Rattle.round_meaning.proofs.PhaseSteps.{take3, hears3, round3}
 use Rattle.round_meaning.proofs.SetReading.{none_in, member-size}
 use Rattle.round_meaning.proofs.Hearing.{count, kept, counted}
-use Rattle.round_meaning.proofs.LockInvariant.{IsInput, lock, Has, Locked, Before, Locking, locked_same, proper_more}
+use Rattle.round_meaning.proofs.LockInvariant.{IsInput, lock, Has, Locked, Before, Locking}
+use Rattle.round_meaning.proofs.LockInvariant.{locked_same, proper_more}
 
 record Frame (n₀ n : Node) : Type 0 where
   locks : n.locks ≡ n₀.locks

@@ -1,5 +1,6 @@
 -- The least member of a set, as the decision names it.
-use Rattle.std.proofs.Common.{◌≡◌, ℕ, zero, suc, ◌+◌, ◌<◌, ◌≤◌, Bool, true, false, cond, List, [], ◌∷◌, Some, None, refl, ap, arith}
+use Rattle.std.proofs.Common.{◌≡◌, ℕ, zero, suc, ◌+◌, ◌<◌, ◌≤◌, Bool, true, false, cond, List, []}
+use Rattle.std.proofs.Common.{◌∷◌, Some, None, refl, ap, arith}
 use Rattle.std.specs.List.{range_with_len, filter}
 use Rattle.round_lang.specs.Sets.{is_in, members, first_or, least}
 use Rattle.round_lang.proofs.SetLaws.{is-least_none}

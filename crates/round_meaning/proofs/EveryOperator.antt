@@ -2,16 +2,23 @@
 -- values, with the inputs 0 and 1. The values are worked out by hand.
 use Rattle.std.proofs.Common.{◌≡◌, ℕ, true, List, [], ◌∷◌, refl}
 use Rattle.std.specs.Prelude.{codes, slice_index}
-use Rattle.round_lang.specs.declared.expr.BinaryOperator.TheVariants.{Add, Sub, Div, Mod, Equal, Differs, Less, AtMost, More, AtLeast, And, Or, Union, Inter, Minus, Has, Entry}
-use Rattle.round_lang.specs.declared.expr.Constant.TheVariants.{True, False, Empty, All, Zero, Me, Nodes, Faults, Round, Phase, Dest, From}
-use Rattle.round_lang.specs.declared.expr.Ty.TheVariants.{Num as NumTy, Bool as BoolTy, Set as SetTy, Row as RowTy}
+use Rattle.round_lang.specs.declared.expr.BinaryOperator.TheVariants.{Add, Sub, Div, Mod, Equal}
+use Rattle.round_lang.specs.declared.expr.BinaryOperator.TheVariants.{Differs, Less, AtMost, More}
+use Rattle.round_lang.specs.declared.expr.BinaryOperator.TheVariants.{AtLeast, And, Or, Union}
+use Rattle.round_lang.specs.declared.expr.BinaryOperator.TheVariants.{Inter, Minus, Has, Entry}
+use Rattle.round_lang.specs.declared.expr.Constant.TheVariants.{True, False, Empty, All, Zero, Me}
+use Rattle.round_lang.specs.declared.expr.Constant.TheVariants.{Nodes, Faults, Round, Phase, Dest}
+use Rattle.round_lang.specs.declared.expr.Constant.TheVariants.{From}
+use Rattle.round_lang.specs.declared.expr.Ty.TheVariants.{Num as NumTy, Bool as BoolTy}
+use Rattle.round_lang.specs.declared.expr.Ty.TheVariants.{Set as SetTy, Row as RowTy}
 use Rattle.round_lang.specs.declared.expr.UnaryOperator.TheVariants.{Not, Single, Size, Least}
 use Rattle.round_lang.specs.declared.program.VariableKind.TheVariants.{Input, State}
 use Rattle.round_lang.specs.declared.value.Value.{Value}
 use Rattle.round_lang.specs.declared.value.Value.TheVariants.{Num, Flag, Row}
 use Rattle.round_lang.specs.Sets.{is_in, members, set_of}
 use Rattle.round_lang.specs.Syntax.{ProgramTree}
-use Rattle.round_lang.specs.Tree.{Tree, TBinary, TFixed, TIf, TNamed, TNumber, TRowOf, TSetOf, TUnary}
+use Rattle.round_lang.specs.Tree.{Tree, TBinary, TFixed, TIf, TNamed, TNumber, TRowOf, TSetOf}
+use Rattle.round_lang.specs.Tree.{TUnary}
 use Rattle.round_lang.specs.Values.{of_set}
 use Rattle.round_meaning.specs.declared.omissions.Omission.{Omission}
 use Rattle.round_meaning.specs.Omissions.{is_omitted}

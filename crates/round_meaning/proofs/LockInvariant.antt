@@ -1,5 +1,6 @@
 -- Algorithm 1's invariants, round by round.
-use Rattle.std.proofs.Common.{◌≡◌, ℕ, ◌+◌, ◌-◌, ◌<◌, ◌≤◌, ◌≢◌, Bool, true, false, sym, subst, inl, inr, ◌⊎◌, arith}
+use Rattle.std.proofs.Common.{◌≡◌, ℕ, ◌+◌, ◌-◌, ◌<◌, ◌≤◌, ◌≢◌, Bool, true, false, sym, subst, inl}
+use Rattle.std.proofs.Common.{inr, ◌⊎◌, arith}
 use Rattle.std.specs.Prelude.{slice_index}
 use Rattle.std.proofs.lemmas.Bool.{cases_lt, cases_eq}
 use Rattle.round_lang.specs.declared.value.Value.{Value}
@@ -18,7 +19,8 @@ lock n v = slice_index (row n.locks) v
 abbrev pub Has : Value → ℕ → Type 0
 Has a v = is_in (set a) v ≡ true
 
--- more than t nodes hold a lock on v of phase k or later, and no lock on another value has phase k or later
+-- more than t nodes hold a lock on v of phase k or later, and no lock on another value has phase k
+-- or later
 pub record Locked (s : Setting) (w : World) (v k : ℕ) : Type 0 where
   pub holders : ℕ → Bool
   pub many : s.faults < count holders 0 s.nodes

@@ -1,14 +1,18 @@
 -- The second round of a phase: nodes lock what is proposed.
-use Rattle.std.proofs.Common.{◌≡◌, ℕ, ◌+◌, ◌<◌, ◌≤◌, ◌≢◌, Bool, true, false, cond, refl, sym, ap, ◌∙◌, subst, inl, inr, ◌⊎◌, arith}
+use Rattle.std.proofs.Common.{◌≡◌, ℕ, ◌+◌, ◌<◌, ◌≤◌, ◌≢◌, Bool, true, false, cond, refl, sym, ap}
+use Rattle.std.proofs.Common.{◌∙◌, subst, inl, inr, ◌⊎◌, arith}
 use Rattle.std.specs.Prelude.{◌&&◌, not, nat_lt, slice_index}
 use Rattle.std.proofs.lemmas.Bool.{false≢true, and_parts, and_from, ltb-true, lt-ltb}
 use Rattle.round_lang.specs.declared.value.Value.TheVariants.{Num}
 use Rattle.round_lang.specs.Sets.{is_in, size}
 use Rattle.round_lang.specs.Values.{num, flag, set, row}
-use Rattle.round_meaning.proofs.PhaseSteps.{Setting, Node, World, Suits, message2, take2, hears2, round2}
+use Rattle.round_meaning.proofs.PhaseSteps.{Setting, Node, World, Suits, message2, take2, hears2}
+use Rattle.round_meaning.proofs.PhaseSteps.{round2}
 use Rattle.round_meaning.proofs.SetReading.{at_row, some_member}
 use Rattle.round_meaning.proofs.Hearing.{kept, meet}
-use Rattle.round_meaning.proofs.LockInvariant.{IsInput, lock, Has, Locked, IsProposed, Proposals, Proposed, Locking, below_values, locked_along, proper_more}
+use Rattle.round_meaning.proofs.LockInvariant.{IsInput, lock, Has, Locked, IsProposed, Proposals}
+use Rattle.round_meaning.proofs.LockInvariant.{Proposed, Locking, below_values, locked_along}
+use Rattle.round_meaning.proofs.LockInvariant.{proper_more}
 
 record Frame (n₀ n : Node) : Type 0 where
   prop : n.prop ≡ n₀.prop

@@ -1,5 +1,7 @@
 -- What a name stands for, by the place of its declaration.
-use Rattle.std.proofs.Common.{◌≡◌, ℕ, suc, ◌+◌, ◌<◌, ◌≤◌, Bool, true, false, cond, List, [], ◌∷◌, length, get_or, Option, Some, None, Result, Ok, Err, IfOk, position, refl, sym, ap, ◌∙◌, subst, arith}
+use Rattle.std.proofs.Common.{◌≡◌, ℕ, suc, ◌+◌, ◌<◌, ◌≤◌, Bool, true, false, cond, List, [], ◌∷◌}
+use Rattle.std.proofs.Common.{length, get_or, Option, Some, None, Result, Ok, Err, IfOk, position}
+use Rattle.std.proofs.Common.{refl, sym, ap, ◌∙◌, subst, arith}
 use Rattle.std.specs.Prelude.{not, nat_lt}
 use Rattle.std.specs.List.{position_or_len}
 use Rattle.std.specs.Str.{bytes_eq}
@@ -10,7 +12,8 @@ use Rattle.round_lang.specs.declared.value.Value.{Value}
 use Rattle.round_lang.specs.declared.value.Value.TheVariants.{Num}
 use Rattle.round_lang.specs.Syntax.{ProgramTree}
 use Rattle.round_lang.specs.Values.{at, set}
-use Rattle.round_meaning.specs.Meaning.{Env, find_bound, find_field, find_var, look_up, or_number, or_value}
+use Rattle.round_meaning.specs.Meaning.{Env, find_bound, find_field, find_var, look_up, or_number}
+use Rattle.round_meaning.specs.Meaning.{or_value}
 use Rattle.round_meaning.specs.Turn.{decided}
 
 -- where the first field of a name stands

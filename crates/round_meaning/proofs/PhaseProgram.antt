@@ -1,5 +1,6 @@
 -- Algorithm 1 does what the steps of PhaseSteps do.
-use Rattle.std.proofs.Common.{◌≡◌, ℕ, zero, suc, ◌+◌, ◌-◌, ◌/◌, ◌%◌, ◌<◌, Bool, true, false, cond, List, [], ◌∷◌, refl, ap, ◌∙◌, Option, Some, None, arith}
+use Rattle.std.proofs.Common.{◌≡◌, ℕ, zero, suc, ◌+◌, ◌-◌, ◌/◌, ◌%◌, ◌<◌, Bool, true, false, cond}
+use Rattle.std.proofs.Common.{List, [], ◌∷◌, refl, ap, ◌∙◌, Option, Some, None, arith}
 use Rattle.std.specs.Prelude.{◌&&◌, not, nat_lt, slice_index, slice_get, ◌==◌}
 use Rattle.std.specs.List.{range_with_len, filter_map, cons_option}
 use mathlib.Core.Path.{fun_ext}
@@ -10,9 +11,13 @@ use Rattle.round_lang.specs.Values.{flag, set, row}
 use Rattle.round_meaning.specs.Algorithm1.{dls1, listing, locking, acknowledging, releasing}
 use Rattle.round_meaning.specs.Meaning.{Env}
 use Rattle.round_meaning.specs.Rounds.{algorithm, inbox, received, rounds}
-use Rattle.round_meaning.specs.Turn.{decision, ended, folded, initial, node_env, runs, sent, with_dest, with_message, with_vars}
+use Rattle.round_meaning.specs.Turn.{decision, ended, folded, initial, node_env, runs, sent}
+use Rattle.round_meaning.specs.Turn.{with_dest, with_message, with_vars}
 use Rattle.round_meaning.specs.declared.received.Received.{Received}
-use Rattle.round_meaning.proofs.PhaseSteps.{Setting, Node, Message, World, hear, owner, start, message1, take1, finish1, message2, take2, message3, take3, finish3, message4, take4, hears1, hears2, hears3, hears4, next, run, node_decision}
+use Rattle.round_meaning.proofs.PhaseSteps.{Setting, Node, Message, World, hear, owner, start}
+use Rattle.round_meaning.proofs.PhaseSteps.{message1, take1, finish1, message2, take2, message3}
+use Rattle.round_meaning.proofs.PhaseSteps.{take3, finish3, message4, take4, hears1, hears2, hears3}
+use Rattle.round_meaning.proofs.PhaseSteps.{hears4, next, run, node_decision}
 
 abbrev pub values_of : Node → List Value
 values_of n = n.x ∷ n.proper ∷ n.locks ∷ n.lists ∷ n.prop ∷ n.got ∷ n.acks ∷ n.done ∷ []

@@ -1,5 +1,6 @@
 -- Whole runs: all decisions are one, and it is an input.
-use Rattle.std.proofs.Common.{◌≡◌, ℕ, zero, suc, ◌+◌, ◌/◌, ◌%◌, ◌<◌, ◌≤◌, ◌≢◌, Bool, refl, sym, subst, inl, inr, ◌⊎◌, Some, None, arith}
+use Rattle.std.proofs.Common.{◌≡◌, ℕ, zero, suc, ◌+◌, ◌/◌, ◌%◌, ◌<◌, ◌≤◌, ◌≢◌, Bool, refl, sym}
+use Rattle.std.proofs.Common.{subst, inl, inr, ◌⊎◌, Some, None, arith}
 use Rattle.std.specs.Prelude.{nat_le}
 use Rattle.std.specs.List.{range_with_len, count_by}
 use Rattle.std.proofs.lemmas.List.{get_or-replicate}
@@ -8,7 +9,8 @@ use Rattle.round_lang.specs.Values.{set}
 use Rattle.round_meaning.proofs.PhaseSteps.{Setting, World, Suits, start, next, run, node_decision}
 use Rattle.round_meaning.proofs.SetReading.{in_only, none_in, decided_in, none_decided}
 use Rattle.round_meaning.proofs.Hearing.{count, count-is, count_more}
-use Rattle.round_meaning.proofs.LockInvariant.{IsInput, lock, Has, Locked, Always, Before, Proposed, Locking, below_values, one_decided}
+use Rattle.round_meaning.proofs.LockInvariant.{IsInput, lock, Has, Locked, Always, Before, Proposed}
+use Rattle.round_meaning.proofs.LockInvariant.{Locking, below_values, one_decided}
 use Rattle.round_meaning.proofs.ProposalRound.{step1, stays1, locked1, was1}
 use Rattle.round_meaning.proofs.LockRound.{step2, stays2, locked2, was2}
 use Rattle.round_meaning.proofs.DecisionRound.{step3, stays3, locked3}

@@ -1,5 +1,8 @@
--- Algorithm 1 as steps of nodes whose variables are values of the language. No reader has to believe this file: PhaseProgram ties it to the program.
-use Rattle.std.specs.Prelude.{ℕ, zero, suc, ◌+◌, ◌*◌, ◌-◌, ◌/◌, ◌%◌, ◌<◌, ◌≤◌, Bool, true, false, ◌&&◌, not, min, List, [], ◌∷◌, map, Option, if◌then◌else◌, nat_lt, nat_le, ◌==◌, slice_index, replicate}
+-- Algorithm 1 as steps of nodes whose variables are values of the language. No reader has to
+-- believe this file: PhaseProgram ties it to the program.
+use Rattle.std.specs.Prelude.{ℕ, zero, suc, ◌+◌, ◌*◌, ◌-◌, ◌/◌, ◌%◌, ◌<◌, ◌≤◌, Bool, true, false}
+use Rattle.std.specs.Prelude.{◌&&◌, not, min, List, [], ◌∷◌, map, Option, if◌then◌else◌, nat_lt}
+use Rattle.std.specs.Prelude.{nat_le, ◌==◌, slice_index, replicate}
 use Rattle.std.specs.List.{range_with_len}
 use Rattle.round_lang.specs.declared.value.Value.{Value}
 use Rattle.round_lang.specs.declared.value.Value.TheVariants.{Num, Flag, Row}

@@ -1,5 +1,6 @@
 -- No value of a checked program depends on what means nothing where it is computed.
-use Rattle.std.proofs.Common.{◌≡◌, ℕ, Bool, true, false, List, [], ◌∷◌, map, Some, None, cond, position, refl, ap, ◌∙◌}
+use Rattle.std.proofs.Common.{◌≡◌, ℕ, Bool, true, false, List, [], ◌∷◌, map, Some, None, cond}
+use Rattle.std.proofs.Common.{position, refl, ap, ◌∙◌}
 use Rattle.std.specs.Prelude.{◌||◌, not}
 use Rattle.std.specs.List.{AllByRecursion, list_any}
 use Rattle.std.specs.Str.{bytes_eq}
@@ -7,19 +8,24 @@ use Rattle.std.proofs.lemmas.List.Elements.{All-from_recursion}
 use Rattle.round_lang.specs.declared.block.Assignment.{Assignment}
 use Rattle.round_lang.specs.declared.block.Field.{Field}
 use Rattle.round_lang.specs.declared.expr.Constant.{Constant}
-use Rattle.round_lang.specs.declared.expr.Constant.TheVariants.{True, False, Empty, All, Zero, Me, Nodes, Faults, Round, Phase, Dest, From}
+use Rattle.round_lang.specs.declared.expr.Constant.TheVariants.{True, False, Empty, All, Zero, Me}
+use Rattle.round_lang.specs.declared.expr.Constant.TheVariants.{Nodes, Faults, Round, Phase, Dest}
+use Rattle.round_lang.specs.declared.expr.Constant.TheVariants.{From}
 use Rattle.round_lang.specs.declared.program.Variable.{Variable}
 use Rattle.round_lang.specs.declared.program.VariableKind.{VariableKind}
 use Rattle.round_lang.specs.declared.program.VariableKind.TheVariants.{Input, State}
 use Rattle.round_lang.specs.declared.value.Value.{Value}
 use Rattle.round_lang.specs.declared.value.Value.TheVariants.{Num, Row}
 use Rattle.round_lang.specs.Syntax.{BlockTree, ProgramTree}
-use Rattle.round_lang.specs.Tree.{Tree, TNumber, TFixed, TNamed, TUnary, TBinary, TIf, TSetOf, TRowOf}
+use Rattle.round_lang.specs.Tree.{Tree, TNumber, TFixed, TNamed, TUnary, TBinary, TIf, TSetOf}
+use Rattle.round_lang.specs.Tree.{TRowOf}
 use Rattle.round_lang.specs.Values.{num, flag, of_set, unary, binary}
 use Rattle.round_check.proofs.Facts.{IsClear-typed, fails-not, neither}
 use Rattle.round_check.proofs.Sites.{Site, allowed, at_end, at_message, at_send, at_start}
 use Rattle.round_check.specs.Causes.{is_typed, not_allowed_here}
-use Rattle.round_check.specs.Rules.{Scope, allows, breaks, breaks_assignment, breaks_block, breaks_program, breaks_start, breaks_target, in_block, start_scope}
+use Rattle.round_check.specs.Rules.{Scope, allows, breaks, breaks_assignment, breaks_block}
+use Rattle.round_check.specs.Rules.{breaks_program, breaks_start, breaks_target, in_block}
+use Rattle.round_check.specs.Rules.{start_scope}
 use Rattle.round_meaning.specs.Meaning.{Env, bind, constant, value}
 use Rattle.round_meaning.specs.Places.{BeginsAnywhere, KeepsPlaces, PlacesAreKept}
 use Rattle.round_meaning.specs.Turn.{assigned, begins, put, runs, sent, with_vars}

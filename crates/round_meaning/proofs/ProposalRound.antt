@@ -1,16 +1,21 @@
 -- The first round of a phase: the owner proposes what at least N - t nodes accept.
-use Rattle.std.proofs.Common.{◌≡◌, ℕ, ◌+◌, ◌-◌, ◌<◌, ◌≤◌, ◌≢◌, min, Bool, true, false, cond, refl, sym, ap, ◌∙◌, subst, inl, inr, ◌⊎◌, arith}
+use Rattle.std.proofs.Common.{◌≡◌, ℕ, ◌+◌, ◌-◌, ◌<◌, ◌≤◌, ◌≢◌, min, Bool, true, false, cond, refl}
+use Rattle.std.proofs.Common.{sym, ap, ◌∙◌, subst, inl, inr, ◌⊎◌, arith}
 use Rattle.std.specs.Prelude.{◌&&◌, not, nat_lt, nat_le, slice_index, ◌==◌}
 use Rattle.std.specs.List.{range_with_len}
 use Rattle.std.proofs.lemmas.List.{get_or-replicate}
-use Rattle.std.proofs.lemmas.Bool.{cases_lt, and_parts, and_from, eqb-true, leb-true, lt-ltb, ne_eqb}
+use Rattle.std.proofs.lemmas.Bool.{cases_lt, and_parts, and_from, eqb-true, leb-true, lt-ltb}
+use Rattle.std.proofs.lemmas.Bool.{ne_eqb}
 use Rattle.round_lang.specs.declared.value.Value.TheVariants.{Num}
 use Rattle.round_lang.specs.Sets.{is_in, set_of, only, size, least}
 use Rattle.round_lang.specs.Values.{num, flag, set, row, of_set}
-use Rattle.round_meaning.proofs.PhaseSteps.{Setting, Node, World, Suits, hear, owner, acceptable, message1, take1, hears1, round1}
-use Rattle.round_meaning.proofs.SetReading.{in_set_of, is_in-set_of, in_only, none_in, at_row, member-size, least_in}
+use Rattle.round_meaning.proofs.PhaseSteps.{Setting, Node, World, Suits, hear, owner, acceptable}
+use Rattle.round_meaning.proofs.PhaseSteps.{message1, take1, hears1, round1}
+use Rattle.round_meaning.proofs.SetReading.{in_set_of, is_in-set_of, in_only, none_in, at_row}
+use Rattle.round_meaning.proofs.SetReading.{member-size, least_in}
 use Rattle.round_meaning.proofs.Hearing.{count, kept, counted, some_counted}
-use Rattle.round_meaning.proofs.LockInvariant.{IsInput, lock, Has, Locked, IsProposed, Before, Proposed, locked_same, proper_more}
+use Rattle.round_meaning.proofs.LockInvariant.{IsInput, lock, Has, Locked, IsProposed, Before}
+use Rattle.round_meaning.proofs.LockInvariant.{Proposed, locked_same, proper_more}
 
 -- who accepts v has it in PROPER, and has no other lock
 accepts : (s : Setting) (n : Node) (v : ℕ) → s.values ≤ 64 → acceptable s n v ≡ true → Has n.proper v × ((u : ℕ) → u < s.values → u ≢ v → lock n u ≡ 0)

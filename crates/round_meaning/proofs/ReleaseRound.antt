@@ -1,15 +1,18 @@
 -- The fourth round of a phase: locks are released for later ones.
-use Rattle.std.proofs.Common.{◌≡◌, ℕ, ◌<◌, ◌≤◌, ◌≢◌, Bool, true, false, cond, refl, sym, ap, ◌∙◌, subst, arith}
+use Rattle.std.proofs.Common.{◌≡◌, ℕ, ◌<◌, ◌≤◌, ◌≢◌, Bool, true, false, cond, refl, sym, ap, ◌∙◌}
+use Rattle.std.proofs.Common.{subst, arith}
 use Rattle.std.specs.Prelude.{◌&&◌, not, nat_lt, nat_le, slice_index, ◌==◌}
 use Rattle.std.proofs.lemmas.Bool.{false≢true, and_parts, leb-true, ltb-true, eq-eqb}
 use Rattle.round_lang.specs.declared.value.Value.{Value}
 use Rattle.round_lang.specs.declared.value.Value.TheVariants.{Num}
 use Rattle.round_lang.specs.Sets.{set_of, size}
 use Rattle.round_lang.specs.Values.{num, flag, set, row}
-use Rattle.round_meaning.proofs.PhaseSteps.{Setting, Node, Message, World, Suits, message4, take4, hears4, round4}
+use Rattle.round_meaning.proofs.PhaseSteps.{Setting, Node, Message, World, Suits, message4, take4}
+use Rattle.round_meaning.proofs.PhaseSteps.{hears4, round4}
 use Rattle.round_meaning.proofs.SetReading.{in_set_of, at_row, some_member}
 use Rattle.round_meaning.proofs.Hearing.{kept}
-use Rattle.round_meaning.proofs.LockInvariant.{IsInput, lock, Has, Locked, Before, below_values, locked_along, proper_more}
+use Rattle.round_meaning.proofs.LockInvariant.{IsInput, lock, Has, Locked, Before, below_values}
+use Rattle.round_meaning.proofs.LockInvariant.{locked_along, proper_more}
 
 record Frame (n₀ n : Node) : Type 0 where
   prop : n.prop ≡ n₀.prop

@@ -1,11 +1,13 @@
 -- What sets are by their members.
-use Rattle.std.proofs.Common.{◌≡◌, ℕ, zero, suc, ◌+◌, ◌<◌, ◌≤◌, Bool, true, false, cond, ◌∷◌, refl, sym, ap, ◌∙◌, arith, ◌⊎◌, inl, inr}
+use Rattle.std.proofs.Common.{◌≡◌, ℕ, zero, suc, ◌+◌, ◌<◌, ◌≤◌, Bool, true, false, cond, ◌∷◌, refl}
+use Rattle.std.proofs.Common.{sym, ap, ◌∙◌, arith, ◌⊎◌, inl, inr}
 use Rattle.std.specs.Prelude.{◌&&◌}
 use Rattle.std.specs.List.{filter, range_with_len}
 use Rattle.std.proofs.lemmas.Bool.{cases_lt, false≢true}
 use Rattle.std.proofs.lemmas.List.Sums.{length-filter}
 use Rattle.round_lang.specs.Sets.{first_or, is_in, members, set_of}
-use Rattle.round_lang.proofs.SetLaws.{bit-set_of, is-set_of, is_in-set_of, is_in-wide, same-set_of, set_of-lt, set_of-none}
+use Rattle.round_lang.proofs.SetLaws.{bit-set_of, is-set_of, is_in-set_of, is_in-wide, same-set_of}
+use Rattle.round_lang.proofs.SetLaws.{set_of-lt, set_of-none}
 use Rattle.round_meaning.specs.SetMembers.{SetsAreMembers}
 
 and_false : (b : Bool) → (b && false) ≡ false

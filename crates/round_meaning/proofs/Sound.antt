@@ -1,27 +1,36 @@
 -- An expression's value has its type.
-use Rattle.std.proofs.Common.{◌≡◌, ℕ, ◌^◌, ◌<◌, ◌≤◌, Bool, true, false, cond, List, [], ◌∷◌, map, Option, Some, None, is_some, sym, refl, ap, ◌∙◌, subst, arith}
+use Rattle.std.proofs.Common.{◌≡◌, ℕ, ◌^◌, ◌<◌, ◌≤◌, Bool, true, false, cond, List, [], ◌∷◌, map}
+use Rattle.std.proofs.Common.{Option, Some, None, is_some, sym, refl, ap, ◌∙◌, subst, arith}
 use Rattle.std.specs.Prelude.{◌||◌}
 use Rattle.std.specs.Str.{bytes_eq}
 use Rattle.std.proofs.Math.Pow.{ones_lt}
 use Rattle.std.proofs.lemmas.List.{length-replicate}
 use Rattle.std.proofs.lemmas.List.FromFn.{length-map-range_with_len}
 use Rattle.round_lang.specs.declared.expr.Constant.{Constant}
-use Rattle.round_lang.specs.declared.expr.Constant.TheVariants.{True, False, Empty, All, Zero, Me, Nodes, Faults, Round, Phase, Dest, From}
+use Rattle.round_lang.specs.declared.expr.Constant.TheVariants.{True, False, Empty, All, Zero, Me}
+use Rattle.round_lang.specs.declared.expr.Constant.TheVariants.{Nodes, Faults, Round, Phase, Dest}
+use Rattle.round_lang.specs.declared.expr.Constant.TheVariants.{From}
 use Rattle.round_lang.specs.declared.expr.UnaryOperator.{UnaryOperator}
 use Rattle.round_lang.specs.declared.expr.UnaryOperator.TheVariants.{Not, Single, Size, Least}
 use Rattle.round_lang.specs.declared.expr.BinaryOperator.{BinaryOperator}
-use Rattle.round_lang.specs.declared.expr.BinaryOperator.TheVariants.{Add, Sub, Div, Mod, Equal, Differs, Less, AtMost, More, AtLeast, And, Or, Union, Inter, Minus, Has, Entry}
+use Rattle.round_lang.specs.declared.expr.BinaryOperator.TheVariants.{Add, Sub, Div, Mod, Equal}
+use Rattle.round_lang.specs.declared.expr.BinaryOperator.TheVariants.{Differs, Less, AtMost, More}
+use Rattle.round_lang.specs.declared.expr.BinaryOperator.TheVariants.{AtLeast, And, Or, Union}
+use Rattle.round_lang.specs.declared.expr.BinaryOperator.TheVariants.{Inter, Minus, Has, Entry}
 use Rattle.round_lang.specs.declared.expr.Ty.{Ty}
 use Rattle.round_lang.specs.declared.expr.Ty.TheVariants as ty
 use Rattle.round_lang.specs.declared.value.Value.{Value}
 use Rattle.round_lang.specs.declared.value.Value.TheVariants.{Num, Flag, Set, Row}
-use Rattle.round_lang.specs.Tree.{Tree, TNumber, TFixed, TNamed, TUnary, TBinary, TIf, TSetOf, TRowOf}
+use Rattle.round_lang.specs.Tree.{Tree, TNumber, TFixed, TNamed, TUnary, TBinary, TIf, TSetOf}
+use Rattle.round_lang.specs.Tree.{TRowOf}
 use Rattle.round_lang.specs.Values.{flag, set, unary, binary}
 use Rattle.round_lang.proofs.SetLaws.{set_of-lt, union-lt, inter-lt, minus-lt}
 use Rattle.round_check.specs.Names.{contains_name}
 use Rattle.round_check.proofs.TypeLaws.{two_alike, two_wanted, wanted}
-use Rattle.round_check.specs.Types.{Context, alike, binary_type, both, constant_type, name_type, or_else, type_of, unary_type, under}
-use Rattle.round_meaning.specs.Meaning.{Env, constant, find_bound, look_up, or_number, or_value, value}
+use Rattle.round_check.specs.Types.{Context, alike, binary_type, both, constant_type, name_type}
+use Rattle.round_check.specs.Types.{or_else, type_of, unary_type, under}
+use Rattle.round_meaning.specs.Meaning.{Env, constant, find_bound, look_up, or_number, or_value}
+use Rattle.round_meaning.specs.Meaning.{value}
 use Rattle.round_meaning.specs.Typed.{Fits, HasType, Suits}
 
 same_some : (r u : Ty) → Some r ≡ Some u → r ≡ u

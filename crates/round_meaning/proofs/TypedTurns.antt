@@ -1,5 +1,6 @@
 -- States and messages of checked programs have their types.
-use Rattle.std.proofs.Common.{◌≡◌, ℕ, zero, suc, ◌+◌, ◌≤◌, Bool, true, false, cond, List, [], ◌∷◌, length, map, Option, Some, None, position, sym, refl, subst, arith}
+use Rattle.std.proofs.Common.{◌≡◌, ℕ, zero, suc, ◌+◌, ◌≤◌, Bool, true, false, cond, List, [], ◌∷◌}
+use Rattle.std.proofs.Common.{length, map, Option, Some, None, position, sym, refl, subst, arith}
 use Rattle.std.specs.Prelude.{◌==◌, All, IfSome, not, nat_lt, slice_get, slice_set}
 use Rattle.std.specs.List.{list_any, position_or_len}
 use Rattle.std.specs.Str.{bytes_eq}
@@ -13,14 +14,19 @@ use Rattle.round_lang.specs.declared.value.Value.{Value}
 use Rattle.round_lang.specs.Syntax.{BlockTree, ProgramTree}
 use Rattle.round_lang.specs.Tree.{Tree}
 use Rattle.round_lang.specs.Values.{flag}
-use Rattle.round_check.proofs.Facts.{IsClear-typed, IsWellTyped-typed, IsWellTypedBlock-wrong_block, fails-not, has_type-some, neither}
+use Rattle.round_check.proofs.Facts.{IsClear-typed, IsWellTyped-typed, IsWellTypedBlock-wrong_block}
+use Rattle.round_check.proofs.Facts.{fails-not, has_type-some, neither}
 use Rattle.round_check.specs.Causes.{field_count, is_typed}
-use Rattle.round_check.specs.Types.{Context, context_with, field_type, has_type, is_same_type, kind_type, type_of, variable_type, wrong_assignment, wrong_block, wrong_sent}
+use Rattle.round_check.specs.Types.{Context, context_with, field_type, has_type, is_same_type}
+use Rattle.round_check.specs.Types.{kind_type, type_of, variable_type, wrong_assignment}
+use Rattle.round_check.specs.Types.{wrong_block, wrong_sent}
 use Rattle.round_meaning.specs.declared.received.Received.{Received}
 use Rattle.round_meaning.specs.Meaning.{Env, find_field, find_var, value}
-use Rattle.round_meaning.specs.Turn.{assigned, block_at, ended, folded, node_env, put, runs, sent, with_dest, with_message, with_vars}
+use Rattle.round_meaning.specs.Turn.{assigned, block_at, ended, folded, node_env, put, runs, sent}
+use Rattle.round_meaning.specs.Turn.{with_dest, with_message, with_vars}
 use Rattle.round_meaning.specs.Rounds.{end, send}
-use Rattle.round_meaning.specs.Typed.{Fits, HasType, IsInboxOf, IsMessage, IsMessageOf, IsState, IsStateOf, Suits, fields_in}
+use Rattle.round_meaning.specs.Typed.{Fits, HasType, IsInboxOf, IsMessage, IsMessageOf, IsState}
+use Rattle.round_meaning.specs.Typed.{IsStateOf, Suits, fields_in}
 use Rattle.round_meaning.proofs.LookUps.{variable_place}
 use Rattle.round_meaning.proofs.Sound.{value_typed}
 

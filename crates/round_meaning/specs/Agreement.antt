@@ -1,5 +1,6 @@
 -- What Algorithm 1 keeps, under every omission table.
-use Rattle.std.specs.Prelude.{◌≡◌, ◌≢◌, ℕ, suc, ◌+◌, ◌*◌, ◌<◌, ◌≤◌, Bool, List, Some, None, nat_le, slice_index}
+use Rattle.std.specs.Prelude.{◌≡◌, ◌≢◌, ℕ, suc, ◌+◌, ◌*◌, ◌<◌, ◌≤◌, Bool, List, Some, None, nat_le}
+use Rattle.std.specs.Prelude.{slice_index}
 use Rattle.std.specs.List.{count_by, range_with_len}
 use Rattle.round_lang.specs.declared.value.Value.{Value}
 use Rattle.round_lang.specs.Limits.{max_values}
@@ -38,23 +39,29 @@ DecidesNext k s omits r i v =
 -- any two decisions, of any nodes at any rounds, are equal
 abbrev pub Agreement : Type 0
 Agreement =
-    (k : ℕ) (s : Setup) (omits : ℕ → ℕ → ℕ → Bool) → HasMajority k s → (i j r q v u : ℕ) → i < s.nodes → j < s.nodes → HasDecided k s omits r i v → HasDecided k s omits q j u → v ≡ u
+    (k : ℕ) (s : Setup) (omits : ℕ → ℕ → ℕ → Bool) → HasMajority k s → (i j r q v u : ℕ)
+    → i < s.nodes → j < s.nodes → HasDecided k s omits r i v → HasDecided k s omits q j u → v ≡ u
 
 -- a decision is some node's input
 abbrev pub Validity : Type 0
 Validity =
-    (k : ℕ) (s : Setup) (omits : ℕ → ℕ → ℕ → Bool) → HasMajority k s → (i r v : ℕ) → i < s.nodes → HasDecided k s omits r i v → IsInput s v
+    (k : ℕ) (s : Setup) (omits : ℕ → ℕ → ℕ → Bool) → HasMajority k s → (i r v : ℕ) → i < s.nodes
+    → HasDecided k s omits r i v → IsInput s v
 
 -- from the round on in which v is decided, more than t nodes hold a lock on v of that round's phase
 -- or later
 abbrev pub DecisionsAreLocked : Type 0
 DecisionsAreLocked =
-    (k : ℕ) (s : Setup) (omits : ℕ → ℕ → ℕ → Bool) → HasMajority k s → (i r d v : ℕ) → i < s.nodes → DecidesNext k s omits r i v → s.faults + 1 ≤ count_by (λ j. nat_le (phase_of (dls1 k) (suc r)) (lock_in (state_after k s omits (suc r + d) j) v)) (range_with_len 0 s.nodes)
+    (k : ℕ) (s : Setup) (omits : ℕ → ℕ → ℕ → Bool) → HasMajority k s → (i r d v : ℕ) → i < s.nodes
+    → DecidesNext k s omits r i v → s.faults + 1 ≤ count_by (λ j. nat_le (phase_of (dls1 k) (suc r))
+    (lock_in (state_after k s omits (suc r + d) j) v)) (range_with_len 0 s.nodes)
 
 -- and no lock on another value has that phase or a later one
 abbrev pub NoOtherLocks : Type 0
 NoOtherLocks =
-    (k : ℕ) (s : Setup) (omits : ℕ → ℕ → ℕ → Bool) → HasMajority k s → (i r d v : ℕ) → i < s.nodes → DecidesNext k s omits r i v → (j u : ℕ) → j < s.nodes → u < k → u ≢ v → lock_in (state_after k s omits (suc r + d) j) u < phase_of (dls1 k) (suc r)
+    (k : ℕ) (s : Setup) (omits : ℕ → ℕ → ℕ → Bool) → HasMajority k s → (i r d v : ℕ) → i < s.nodes
+    → DecidesNext k s omits r i v → (j u : ℕ) → j < s.nodes → u < k → u ≢ v
+    → lock_in (state_after k s omits (suc r + d) j) u < phase_of (dls1 k) (suc r)
 
 -- a run of Algorithm 1 for which it was made
 abbrev pub RunsAlgorithm1 : ProgramTree → Setup → Type 0
@@ -63,9 +70,12 @@ RunsAlgorithm1 p s = (p ≡ dls1 p.values) × HasMajority p.values s
 -- all decisions in the table are equal
 abbrev pub DecisionsAgree : States → Type 0
 DecisionsAgree t =
-    (i j r q v u : ℕ) → i < t.nodes → j < t.nodes → r ≤ t.rounds → q ≤ t.rounds → decision t.program (state_of t i r) ≡ Some v → decision t.program (state_of t j q) ≡ Some u → v ≡ u
+    (i j r q v u : ℕ) → i < t.nodes → j < t.nodes → r ≤ t.rounds
+    → q ≤ t.rounds → decision t.program (state_of t i r) ≡ Some v
+    → decision t.program (state_of t j q) ≡ Some u → v ≡ u
 
 -- each decision in the table is some node's input
 abbrev pub DecisionsAreInputs : Setup → States → Type 0
 DecisionsAreInputs s t =
-    (i r v : ℕ) → i < t.nodes → r ≤ t.rounds → decision t.program (state_of t i r) ≡ Some v → IsInput s v
+    (i r v : ℕ) → i < t.nodes → r ≤ t.rounds
+    → decision t.program (state_of t i r) ≡ Some v → IsInput s v

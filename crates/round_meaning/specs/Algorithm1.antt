@@ -3,8 +3,11 @@
 use Rattle.std.specs.Prelude.{ℕ, List, [], ◌∷◌, codes, slice_index}
 use Rattle.round_lang.specs.declared.block.Field.{Field}
 use Rattle.round_lang.specs.declared.block.Assignment.{Assignment}
-use Rattle.round_lang.specs.declared.expr.BinaryOperator.TheVariants.{Add, Sub, Mod, Equal, Differs, More, AtLeast, And, Union, Has, Entry}
-use Rattle.round_lang.specs.declared.expr.Constant.TheVariants.{True, False, Empty, Zero, Me, Nodes, Faults, Phase, Dest}
+use Rattle.round_lang.specs.declared.expr.BinaryOperator.TheVariants.{Add, Sub, Mod, Equal, Differs}
+use Rattle.round_lang.specs.declared.expr.BinaryOperator.TheVariants.{More, AtLeast, And, Union}
+use Rattle.round_lang.specs.declared.expr.BinaryOperator.TheVariants.{Has, Entry}
+use Rattle.round_lang.specs.declared.expr.Constant.TheVariants.{True, False, Empty, Zero, Me, Nodes}
+use Rattle.round_lang.specs.declared.expr.Constant.TheVariants.{Faults, Phase, Dest}
 use Rattle.round_lang.specs.declared.expr.Ty.{Ty}
 use Rattle.round_lang.specs.declared.expr.Ty.TheVariants as ty
 use Rattle.round_lang.specs.declared.expr.UnaryOperator.TheVariants.{Single, Size, Least}
@@ -13,7 +16,8 @@ use Rattle.round_lang.specs.declared.program.VariableKind.TheVariants.{Input, St
 use Rattle.round_lang.specs.declared.value.Value.{Value}
 use Rattle.round_lang.specs.declared.value.Value.TheVariants.{Num}
 use Rattle.round_lang.specs.Syntax.{BlockTree, ProgramTree}
-use Rattle.round_lang.specs.Tree.{Tree, TNumber, TFixed, TNamed, TUnary, TBinary, TIf, TSetOf, TRowOf}
+use Rattle.round_lang.specs.Tree.{Tree, TNumber, TFixed, TNamed, TUnary, TBinary, TIf, TSetOf}
+use Rattle.round_lang.specs.Tree.{TRowOf}
 use Rattle.round_lang.specs.Values.{row}
 use Rattle.round_meaning.specs.Meaning.{find_var, or_value}
 
@@ -107,7 +111,8 @@ more_proper = assign proper (TBinary Union (TNamed proper) (TNamed p))
 -- {v : has(proper, v) and size({w : w <> v and locks[w] > 0}) = 0}
 abbrev pub acceptable_values : Tree
 acceptable_values =
-    TSetOf v (TBinary And (has proper v) (is_empty (TSetOf w (TBinary And another (is_some (entry locks w))))))
+    TSetOf v (TBinary And (has proper v)
+    (is_empty (TSetOf w (TBinary And another (is_some (entry locks w))))))
 
 -- [v : if has(list, v) then lists[v] + 1 else lists[v]]
 abbrev pub counted_lists : Tree
@@ -118,7 +123,8 @@ counted_lists =
 abbrev pub proposal : Tree
 proposal =
     TIf (TBinary Equal (TFixed Me) owner)
-    (TUnary Single (TUnary Least (TSetOf v (TBinary AtLeast (entry lists v) (TBinary Sub (TFixed Nodes) (TFixed Faults))))))
+    (TUnary Single (TUnary Least
+    (TSetOf v (TBinary AtLeast (entry lists v) (TBinary Sub (TFixed Nodes) (TFixed Faults))))))
     (TFixed Empty)
 
 -- lists go to the owner, who proposes the least value that enough nodes accept
@@ -150,8 +156,8 @@ locking = record {
 -- if size(done) = 0 and acks >= t + 1 then prop else done
 abbrev pub decided_set : Tree
 decided_set =
-    TIf (TBinary And (is_empty (TNamed done)) (TBinary AtLeast (TNamed acks) (TBinary Add (TFixed Faults) (TNumber 1))))
-    (TNamed prop)
+    TIf (TBinary And (is_empty (TNamed done))
+    (TBinary AtLeast (TNamed acks) (TBinary Add (TFixed Faults) (TNumber 1)))) (TNamed prop)
     (TNamed done)
 
 -- acknowledgements go to the owner, who decides where there are enough
@@ -170,7 +176,8 @@ acknowledging = record {
 -- {w : w <> v and l[w] > 0 and l[w] >= locks[v]}
 abbrev pub as_late : Tree
 as_late =
-    TSetOf w (TBinary And (TBinary And another (is_some (entry l w))) (TBinary AtLeast (entry l w) (entry locks v)))
+    TSetOf w (TBinary And (TBinary And another (is_some (entry l w)))
+    (TBinary AtLeast (entry l w) (entry locks v)))
 
 -- [v : if size(..) > 0 then 0 else locks[v]], with that set
 abbrev pub released : Tree

@@ -1,10 +1,13 @@
 -- When all nodes are sent the same.
 use Rattle.std.specs.Prelude.{◌≡◌, ℕ, Bool, true, false, ◌||◌, List, [], ◌∷◌, Option, Some, None}
 use Rattle.round_lang.specs.declared.expr.Constant.{Constant}
-use Rattle.round_lang.specs.declared.expr.Constant.TheVariants.{True, False, Empty, All, Zero, Me, Nodes, Faults, Round, Phase, Dest, From}
+use Rattle.round_lang.specs.declared.expr.Constant.TheVariants.{True, False, Empty, All, Zero, Me}
+use Rattle.round_lang.specs.declared.expr.Constant.TheVariants.{Nodes, Faults, Round, Phase, Dest}
+use Rattle.round_lang.specs.declared.expr.Constant.TheVariants.{From}
 use Rattle.round_lang.specs.declared.value.Value.{Value}
 use Rattle.round_lang.specs.Syntax.{BlockTree}
-use Rattle.round_lang.specs.Tree.{Tree, TNumber, TFixed, TNamed, TUnary, TBinary, TIf, TSetOf, TRowOf}
+use Rattle.round_lang.specs.Tree.{Tree, TNumber, TFixed, TNamed, TUnary, TBinary, TIf, TSetOf}
+use Rattle.round_lang.specs.Tree.{TRowOf}
 use Rattle.round_meaning.specs.Rounds.{Algorithm}
 
 abbrev pub is_dest : Constant → Bool

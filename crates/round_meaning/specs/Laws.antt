@@ -11,12 +11,14 @@ use Rattle.round_meaning.specs.Rounds.{Algorithm, inbox, rounds}
 -- a sum is the numbers' sum, where that isn't past the greatest number
 abbrev pub SumsAreExact : Type 0
 SumsAreExact =
-    (a b : ℕ) (env : Env) → a + b ≤ max_number → value (TBinary Add (TNumber a) (TNumber b)) env ≡ Num (a + b)
+    (a b : ℕ) (env : Env) → a + b ≤ max_number
+    → value (TBinary Add (TNumber a) (TNumber b)) env ≡ Num (a + b)
 
 -- a sum past the greatest number is that number
 abbrev pub SumsStop : Type 0
 SumsStop =
-    (a b : ℕ) (env : Env) → max_number ≤ a + b → value (TBinary Add (TNumber a) (TNumber b)) env ≡ Num max_number
+    (a b : ℕ) (env : Env) → max_number ≤ a + b
+    → value (TBinary Add (TNumber a) (TNumber b)) env ≡ Num max_number
 
 -- a difference is what is to be added
 abbrev pub DifferencesAreExact : Type 0
@@ -25,24 +27,31 @@ DifferencesAreExact =
 
 -- a difference below 0 is 0
 abbrev pub DifferencesStop : Type 0
-DifferencesStop = (a b : ℕ) (env : Env) → a ≤ b → value (TBinary Sub (TNumber a) (TNumber b)) env ≡ Num 0
+DifferencesStop =
+    (a b : ℕ) (env : Env) → a ≤ b → value (TBinary Sub (TNumber a) (TNumber b)) env ≡ Num 0
 
 -- omission tests of a round that agree on the nodes that do send give the same inbox
 abbrev pub OnlySendersCount : Type 0
 OnlySendersCount =
-    (a : Algorithm) (o p : ℕ → Bool) (states : ℕ → List Value) (r i : ℕ) → ((j : ℕ) → j < a.nodes → IsSome (a.send r (states j) j i) → o j ≡ p j) → inbox a o states r i ≡ inbox a p states r i
+    (a : Algorithm) (o p : ℕ → Bool) (states : ℕ → List Value) (r i : ℕ)
+    → ((j : ℕ) → j < a.nodes → IsSome (a.send r (states j) j i) → o j ≡ p j)
+    → inbox a o states r i ≡ inbox a p states r i
 
 -- the tests agree, in rounds 1 to n of the first one's run, on the nodes that do send
 abbrev pub AgreeOnSenders : Algorithm → (ℕ → ℕ → ℕ → Bool) → (ℕ → ℕ → ℕ → Bool) → ℕ → Type 0
 AgreeOnSenders a o p n =
-    (r i j : ℕ) → r < n → i < a.nodes → j < a.nodes → IsSome (a.send (suc r) (rounds a o r j) j i) → o i (suc r) j ≡ p i (suc r) j
+    (r i j : ℕ) → r < n → i < a.nodes → j < a.nodes → IsSome (a.send (suc r) (rounds a o r j) j i)
+    → o i (suc r) j ≡ p i (suc r) j
 
 -- such tests give the same states
 abbrev pub OnlySendersCountInRuns : Type 0
 OnlySendersCountInRuns =
-    (a : Algorithm) (o p : ℕ → ℕ → ℕ → Bool) (n i : ℕ) → AgreeOnSenders a o p n → i < a.nodes → rounds a o n i ≡ rounds a p n i
+    (a : Algorithm) (o p : ℕ → ℕ → ℕ → Bool) (n i : ℕ) → AgreeOnSenders a o p n → i < a.nodes
+    → rounds a o n i ≡ rounds a p n i
 
 -- tests that agree on rounds 1 to n give the same states after n rounds
 abbrev pub OnlyPastCounts : Type 0
 OnlyPastCounts =
-    (a : Algorithm) (o p : ℕ → ℕ → ℕ → Bool) (n i : ℕ) → ((r k j : ℕ) → 0 < r → r ≤ n → k < a.nodes → j < a.nodes → o k r j ≡ p k r j) → i < a.nodes → rounds a o n i ≡ rounds a p n i
+    (a : Algorithm) (o p : ℕ → ℕ → ℕ → Bool) (n i : ℕ)
+    → ((r k j : ℕ) → 0 < r → r ≤ n → k < a.nodes → j < a.nodes → o k r j ≡ p k r j) → i < a.nodes
+    → rounds a o n i ≡ rounds a p n i

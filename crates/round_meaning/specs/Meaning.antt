@@ -1,18 +1,23 @@
 -- The value of an expression.
-use Rattle.std.specs.Prelude.{ℕ, true, false, List, [], ◌∷◌, map, Option, Some, None, if◌then◌else◌, replicate}
+use Rattle.std.specs.Prelude.{ℕ, true, false, List, [], ◌∷◌, map, Option, Some, None, if◌then◌else◌}
+use Rattle.std.specs.Prelude.{replicate}
 use Rattle.std.specs.List.{range_with_len}
 use Rattle.std.specs.Str.{bytes_eq}
 use Rattle.round_lang.specs.declared.block.Field.{Field}
 use Rattle.round_lang.specs.declared.expr.Constant.{Constant}
-use Rattle.round_lang.specs.declared.expr.Constant.TheVariants.{True, False, Empty, All, Zero, Me, Nodes, Faults, Round, Phase, Dest, From}
+use Rattle.round_lang.specs.declared.expr.Constant.TheVariants.{True, False, Empty, All, Zero, Me}
+use Rattle.round_lang.specs.declared.expr.Constant.TheVariants.{Nodes, Faults, Round, Phase, Dest}
+use Rattle.round_lang.specs.declared.expr.Constant.TheVariants.{From}
 use Rattle.round_lang.specs.declared.program.Variable.{Variable}
 use Rattle.round_lang.specs.declared.value.Value.{Value}
 use Rattle.round_lang.specs.declared.value.Value.TheVariants.{Num, Flag, Row}
 use Rattle.round_lang.specs.Sets.{set_of, everything}
-use Rattle.round_lang.specs.Tree.{Tree, TNumber, TFixed, TNamed, TUnary, TBinary, TIf, TSetOf, TRowOf}
+use Rattle.round_lang.specs.Tree.{Tree, TNumber, TFixed, TNamed, TUnary, TBinary, TIf, TSetOf}
+use Rattle.round_lang.specs.Tree.{TRowOf}
 use Rattle.round_lang.specs.Values.{num, flag, of_set, unary, binary}
 
--- what an expression is computed with: K, what the node knows of itself and its round, and what names stand for
+-- what an expression is computed with: K, what the node knows of itself and its round, and what
+-- names stand for
 pub record Env : Type 0 where
   pub values : ℕ
   pub me : ℕ
@@ -56,7 +61,8 @@ or_number (Some n) other = Num n
 -- what a name stands for: a comprehension variable, else a field, else a variable
 abbrev pub look_up : Env → List ℕ → Value
 look_up env x =
-    or_number (find_bound env.bound x) (or_value (find_field env.fields env.message x) (or_value (find_var env.variables env.vars x) (Num 0)))
+    or_number (find_bound env.bound x) (or_value (find_field env.fields env.message x)
+    (or_value (find_var env.variables env.vars x) (Num 0)))
 
 -- the same with one more comprehension variable
 abbrev pub bind : List ℕ → Env → ℕ → Env

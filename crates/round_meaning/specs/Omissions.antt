@@ -13,4 +13,5 @@ is_omitted os i r j = list_any (omits i r j) os
 
 -- the new table omits what the old one does, and one message more
 abbrev pub AddsOmission : List Omission → List Omission → Omission → Type 0
-AddsOmission old new o = (i r j : ℕ) → is_omitted new i r j ≡ (omits i r j o || is_omitted old i r j)
+AddsOmission old new o =
+    (i r j : ℕ) → is_omitted new i r j ≡ (omits i r j o || is_omitted old i r j)

@@ -1,5 +1,6 @@
 -- The run in rounds under an omission table (the paper's basic round model).
-use Rattle.std.specs.Prelude.{ℕ, zero, suc, Bool, List, Option, Some, None, if◌then◌else◌, slice_index}
+use Rattle.std.specs.Prelude.{ℕ, zero, suc, Bool, List, Option, Some, None, if◌then◌else◌}
+use Rattle.std.specs.Prelude.{slice_index}
 use Rattle.std.specs.List.{range_with_len, filter_map}
 use Rattle.round_lang.specs.declared.value.Value.{Value}
 use Rattle.round_lang.specs.Syntax.{ProgramTree}
@@ -32,7 +33,8 @@ inbox a omitted states r i = filter_map (heard a omitted states r i) (range_with
 -- the state of each node after r rounds; `omits i r j`: i doesn't get j's message of round r
 unfoldable pub rounds : Algorithm → (ℕ → ℕ → ℕ → Bool) → ℕ → ℕ → List Value
 rounds a omits zero i = a.init i
-rounds a omits (suc r) i = a.end (suc r) i (inbox a (omits i (suc r)) (rounds a omits r) (suc r) i) (rounds a omits r i)
+rounds a omits (suc r) i =
+    a.end (suc r) i (inbox a (omits i (suc r)) (rounds a omits r) (suc r) i) (rounds a omits r i)
 
 -- what node j in a state sends to i in round r
 abbrev pub send : ProgramTree → ℕ → ℕ → ℕ → List Value → ℕ → ℕ → Option (List Value)

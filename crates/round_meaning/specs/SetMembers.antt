@@ -1,5 +1,6 @@
 -- Sets of values by their members, whatever numbers stand for them.
-use Rattle.std.specs.Prelude.{◌≡◌, ℕ, ◌^◌, ◌<◌, ◌≤◌, Bool, true, false, ◌&&◌, ◌||◌, not, nat_eq, nat_lt}
+use Rattle.std.specs.Prelude.{◌≡◌, ℕ, ◌^◌, ◌<◌, ◌≤◌, Bool, true, false, ◌&&◌, ◌||◌, not, nat_eq}
+use Rattle.std.specs.Prelude.{nat_lt}
 use Rattle.std.specs.List.{count_by, range_with_len}
 use Rattle.round_lang.specs.Sets.{everything, inter, is_in, least, minus, only, set_of, size, union}
 
@@ -13,9 +14,11 @@ pub record SetsAreMembers : Type 0 where
   pub either : (a b v : ℕ) → v < 64 → is_in (union a b) v ≡ (is_in a v || is_in b v)
   pub both : (a b v : ℕ) → v < 64 → is_in (inter a b) v ≡ (is_in a v && is_in b v)
   pub without : (a b v : ℕ) → v < 64 → is_in (minus a b) v ≡ (is_in a v && not (is_in b v))
-  pub same : (a b : ℕ) → a < 2 ^ 64 → b < 2 ^ 64 → ((v : ℕ) → v < 64 → is_in a v ≡ is_in b v) → a ≡ b
+  pub same : (a b : ℕ) → a < 2 ^ 64 → b < 2 ^ 64
+      → ((v : ℕ) → v < 64 → is_in a v ≡ is_in b v) → a ≡ b
   -- the size is how many values are members
   pub counted : (s : ℕ) → size s ≡ count_by (is_in s) (range_with_len 0 64)
   -- the least member is one, and no member is less; it's K where there is none
-  pub least_member : (k s v : ℕ) → v < 64 → is_in s v ≡ true → (is_in s (least k s) ≡ true) × (least k s ≤ v)
+  pub least_member : (k s v : ℕ) → v < 64 → is_in s v ≡ true
+      → (is_in s (least k s) ≡ true) × (least k s ≤ v)
   pub least_of_none : (k s : ℕ) → ((v : ℕ) → v < 64 → is_in s v ≡ false) → least k s ≡ k

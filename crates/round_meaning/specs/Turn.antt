@@ -1,5 +1,6 @@
 -- What a node sends in a round, and the state that the round ends with.
-use Rattle.std.specs.Prelude.{ℕ, ⊤, ◌+◌, ◌-◌, ◌≤◌, ◌/◌, ◌%◌, List, [], ◌∷◌, map, Option, Some, None, if◌then◌else◌, position, slice_set, slice_get}
+use Rattle.std.specs.Prelude.{ℕ, ⊤, ◌+◌, ◌-◌, ◌≤◌, ◌/◌, ◌%◌, List, [], ◌∷◌, map, Option, Some, None}
+use Rattle.std.specs.Prelude.{if◌then◌else◌, position, slice_set, slice_get}
 use Rattle.std.specs.Str.{bytes_eq}
 use Rattle.round_lang.specs.declared.block.Assignment.{Assignment}
 use Rattle.round_lang.specs.declared.block.Field.{Field}
@@ -30,7 +31,8 @@ put vs (Some i) v = slice_set vs i v
 
 -- one assignment, to the variable of its target's name
 abbrev pub assigned : Env → Assignment → List Value → List Value
-assigned env a vs = put vs (position (λ (d : Variable). bytes_eq d.name a.target) env.variables) (value a.formula (with_vars vs env))
+assigned env a vs = put vs (position (λ (d : Variable). bytes_eq d.name a.target) env.variables)
+    (value a.formula (with_vars vs env))
 
 -- assignments one after the other, each seeing those before
 abbrev pub runs : Env → List Assignment → List Value → List Value
@@ -81,7 +83,8 @@ IsInbox ms = RiseFrom 0 ms
 -- `on message` once for each entry of the inbox, in its order
 abbrev pub folded : BlockTree → Env → List Received → List Value → List Value
 folded b env [] vs = vs
-folded b env (m ∷ ms) vs = folded b env ms (runs (with_message m.from b.fields m.message env) b.on_message vs)
+folded b env (m ∷ ms) vs =
+    folded b env ms (runs (with_message m.from b.fields m.message env) b.on_message vs)
 
 -- the inbox is folded, then `end` is run
 abbrev pub ended : Option BlockTree → Env → List Received → List Value → List Value
@@ -111,7 +114,8 @@ begins env x (State ty e) = value e env
 -- the initial state of node i whose input is x: its formulas know me, n, t and the input
 abbrev pub initial : ProgramTree → ℕ → ℕ → ℕ → ℕ → List Value
 initial p n t x i =
-    map (λ (d : Variable). begins (bind_input (input_name p.variables) x (node_env p n t 0 i)) x d.kind) p.variables
+    map (λ (d : Variable).
+    begins (bind_input (input_name p.variables) x (node_env p n t 0 i)) x d.kind) p.variables
 
 -- the set that the decided variable holds, empty where nothing is decided
 abbrev pub decided : ProgramTree → List Value → List (List ℕ) → ℕ

@@ -1,5 +1,6 @@
 -- Values of their types: what the types of a checked program promise.
-use Rattle.std.specs.Prelude.{◌≡◌, ℕ, ◌^◌, ◌<◌, ◌≤◌, List, [], ◌∷◌, All, IfSome, length, map, Option, Some, None, ⊤}
+use Rattle.std.specs.Prelude.{◌≡◌, ℕ, ◌^◌, ◌<◌, ◌≤◌, List, [], ◌∷◌, All, IfSome, length, map}
+use Rattle.std.specs.Prelude.{Option, Some, None, ⊤}
 use Rattle.round_check.specs.Types.{Context, field_type, kind_type, type_of, variable_type}
 use Rattle.round_lang.specs.declared.block.Field.{Field}
 use Rattle.round_lang.specs.declared.expr.Ty.{Ty}
@@ -14,7 +15,8 @@ use Rattle.round_meaning.specs.Meaning.{Env, find_field, find_var, value}
 use Rattle.round_meaning.specs.Rounds.{end, send}
 use Rattle.round_meaning.specs.Turn.{block_at, initial}
 
--- a value of a type, over the values below k: a set has members below k alone, a row a number for each
+-- a value of a type, over the values below k: a set has members below k alone, a row a number for
+-- each
 abbrev pub HasType : ℕ → Ty → Value → Type 0
 HasType k ty.Num (Num n) = ⊤
 HasType k ty.Bool (Flag b) = ⊤
@@ -47,13 +49,16 @@ Suits k (Some t) (Some v) = HasType k t v
 pub record Fits (c : Context) (env : Env) : Type 0 where
   pub values : env.values ≤ 64
   pub bound : map (λ (b : List ℕ × ℕ). b.0) env.bound ≡ c.bound
-  pub fields : (x : List ℕ) → Suits env.values (field_type c.fields x) (find_field env.fields env.message x)
-  pub variables : (x : List ℕ) → Suits env.values (variable_type c.variables x) (find_var env.variables env.vars x)
+  pub fields : (x : List ℕ)
+      → Suits env.values (field_type c.fields x) (find_field env.fields env.message x)
+  pub variables : (x : List ℕ)
+      → Suits env.values (variable_type c.variables x) (find_var env.variables env.vars x)
 
 -- an expression of a type has a value of that type, in every environment that fits
 abbrev pub TypedValuesFit : Type 0
 TypedValuesFit =
-    (e : Tree) (c : Context) (env : Env) (t : Ty) → Fits c env → type_of e c ≡ Some t → HasType env.values t (value e env)
+    (e : Tree) (c : Context) (env : Env) (t : Ty) → Fits c env → type_of e c ≡ Some t
+    → HasType env.values t (value e env)
 
 -- the fields of a round's message, none where there is no block
 abbrev pub fields_in : Option BlockTree → List Field
@@ -82,9 +87,11 @@ StartsAreStates p = (n t x i : ℕ) → IsStateOf p (initial p n t x i)
 -- what a node sends in such a state is a message of the round's block
 abbrev pub SendsAreMessages : ProgramTree → Type 0
 SendsAreMessages p =
-    (n t r : ℕ) (vs : List Value) (j i : ℕ) → IsStateOf p vs → IfSome (send p n t r vs j i) (IsMessageOf p r)
+    (n t r : ℕ) (vs : List Value) (j i : ℕ) → IsStateOf p vs
+    → IfSome (send p n t r vs j i) (IsMessageOf p r)
 
 -- and a round ends with such a state, where it began with one and the inbox has such messages
 abbrev pub EndsAreStates : ProgramTree → Type 0
 EndsAreStates p =
-    (n t r i : ℕ) (ms : List Received) (vs : List Value) → IsStateOf p vs → IsInboxOf p r ms → IsStateOf p (end p n t r i ms vs)
+    (n t r i : ℕ) (ms : List Received) (vs : List Value) → IsStateOf p vs → IsInboxOf p r ms
+    → IsStateOf p (end p n t r i ms vs)

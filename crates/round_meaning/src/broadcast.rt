@@ -1,7 +1,8 @@
 //! When all nodes are sent the same.
 ghost use Rattle.std.specs.Prelude.{◌≡◌, IsTrue, not};
 ghost use Rattle.round_lang.specs.Tree.{tree_of};
-ghost use Rattle.round_meaning.specs.Broadcast.{IsBroadcast, any_names_dest, names_dest, sends_by_dest};
+ghost use Rattle.round_meaning.specs.Broadcast.{IsBroadcast, any_names_dest, names_dest};
+ghost use Rattle.round_meaning.specs.Broadcast.{sends_by_dest};
 ghost use Rattle.round_meaning.specs.Rounds.{algorithm_of};
 ghost use Rattle.round_meaning.specs.Turn.{block_at};
 ghost use Rattle.round_meaning.specs.declared.setup.Setup.{Setup};
@@ -10,11 +11,12 @@ use crate::turn::block_at;
 use round_check::Checked;
 use round_lang::{Constant, Expr, Formula, Program};
 
-/// Whether a node sends the same to all in a round, as its text shows: `dest` doesn't stand in what the
-/// round's block says of sending.
+/// Whether a node sends the same to all in a round, as its text shows: `dest` doesn't stand in what
+/// the round's block says of sending.
 pub fn is_broadcast(program: &Checked, round: u32) -> bool
     ensures text { result ≡ not (sends_by_dest (block_at program.now round)) }
-    ensures broadcast { IsTrue result → (s : Setup) → IsBroadcast (algorithm_of program.now s) round }
+    ensures broadcast { IsTrue result
+        → (s : Setup) → IsBroadcast (algorithm_of program.now s) round }
 {
     !sends_by_dest(program.program(), round)
 }

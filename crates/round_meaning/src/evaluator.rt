@@ -33,8 +33,8 @@ fn fixed(alloc: Global, word: Constant, env: &Env<'_>) -> Result<Value, NoMemory
     }
 }
 
-/// The value of an expression; K is at most 64. Sets that are joined, and rows that are asked for an entry, are
-/// read where they lie.
+/// The value of an expression; K is at most 64. Sets that are joined, and rows that are asked for
+/// an entry, are read where they lie.
 #[cycle(eval)]
 pub fn eval(alloc: Global, expr: &Expr, env: &Env<'_>) -> Result<Value, NoMemory>
     requires { env.now.values ≤ 64 }
@@ -97,7 +97,8 @@ fn eval_members(alloc: Global, expr: &Expr, env: &Env<'_>) -> Result<ValueSet, N
 #[cycle(eval)]
 fn eval_entry(alloc: Global, row: &Expr, place: u32, env: &Env<'_>) -> Result<u32, NoMemory>
     requires { env.now.values ≤ 64 }
-    ensures { IfOk result (λ n. n ≡ slice_index (row_in (value (tree_of row.now) (env_of env.now))) place) }
+    ensures { IfOk result (λ n. n
+        ≡ slice_index (row_in (value (tree_of row.now) (env_of env.now))) place) }
 {
     match row {
         Expr::Named(name) => Ok(env.entry(name, place)),

@@ -1,7 +1,11 @@
 //! Laws of the definitions; the functions do nothing.
-ghost use Rattle.round_meaning.specs.Typed.{EndsAreStates, SendsAreMessages, StartsAreStates, TypedValuesFit};
-ghost use Rattle.round_meaning.specs.Agreement.{Agreement, DecisionsAreLocked, NoOtherLocks, Validity};
-ghost use Rattle.round_meaning.specs.Laws.{DifferencesAreExact, DifferencesStop, OnlyPastCounts, OnlySendersCount, OnlySendersCountInRuns, SumsAreExact, SumsStop};
+ghost use Rattle.round_meaning.specs.Typed.{EndsAreStates, SendsAreMessages, StartsAreStates};
+ghost use Rattle.round_meaning.specs.Typed.{TypedValuesFit};
+ghost use Rattle.round_meaning.specs.Agreement.{Agreement, DecisionsAreLocked, NoOtherLocks};
+ghost use Rattle.round_meaning.specs.Agreement.{Validity};
+ghost use Rattle.round_meaning.specs.Laws.{DifferencesAreExact, DifferencesStop, OnlyPastCounts};
+ghost use Rattle.round_meaning.specs.Laws.{OnlySendersCount, OnlySendersCountInRuns, SumsAreExact};
+ghost use Rattle.round_meaning.specs.Laws.{SumsStop};
 ghost use Rattle.round_meaning.specs.Places.{PlacesAreKept};
 ghost use Rattle.round_meaning.specs.SetMembers.{SetsAreMembers};
 
@@ -47,17 +51,17 @@ pub fn types_are_kept(program: &Checked)
     let _values = program.program().values();
 }
 
-/// No value of a checked program depends on what means nothing where it is computed: an initial value
-/// on no round, phase, receiver or sender, what is sent on no sender, what is done with a message on
-/// no receiver, and how a round ends on neither.
+/// No value of a checked program depends on what means nothing where it is computed: an initial
+/// value on no round, phase, receiver or sender, what is sent on no sender, what is done with a
+/// message on no receiver, and how a round ends on neither.
 pub fn places_are_kept(program: &Checked)
     ensures { PlacesAreKept program.now }
 {
     program.typed();
 }
 
-/// Algorithm 1 under every omission table: any two decisions, of any nodes at any rounds, are equal,
-/// and each is some node's input.
+/// Algorithm 1 under every omission table: any two decisions, of any nodes at any rounds, are
+/// equal, and each is some node's input.
 pub fn decisions_agree()
     ensures agreement { Agreement }
     ensures validity { Validity }

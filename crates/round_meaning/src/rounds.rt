@@ -3,7 +3,8 @@ ghost use Rattle.std.specs.Prelude.{◌≡◌, ℕ, Bool, ◌+◌, ◌^◌, ◌<
 ghost use Rattle.round_meaning.specs.Agreement.{DecisionsAgree, DecisionsAreInputs, RunsAlgorithm1};
 ghost use Rattle.round_meaning.specs.Omissions.{is_omitted};
 ghost use Rattle.round_meaning.specs.Rounds.{algorithm_of, heard, inbox};
-ghost use Rattle.round_meaning.specs.States.{HasRun, initial_states, next_state, state_in, states_after};
+ghost use Rattle.round_meaning.specs.States.{HasRun, initial_states, next_state, state_in};
+ghost use Rattle.round_meaning.specs.States.{states_after};
 
 use crate::omissions::OmissionTable;
 use crate::received::{Heard, Received};
@@ -14,9 +15,9 @@ use round_check::Checked;
 use round_lang::{NoMemory, Vars};
 use std::alloc::Global;
 
-/// The states of all nodes after each of some rounds, where all nodes go on at once: the basic round
-/// model. Where the program is Algorithm 1, for a setup with fewer than half of the nodes faulty,
-/// all decisions are equal, and each is some node's input.
+/// The states of all nodes after each of some rounds, where all nodes go on at once: the basic
+/// round model. Where the program is Algorithm 1, for a setup with fewer than half of the nodes
+/// faulty, all decisions are equal, and each is some node's input.
 pub fn run_rounds(
     alloc: Global,
     program: &Checked,

@@ -96,8 +96,9 @@ impl Eq for Inputs {
     ghost laws = { is_same_equiv inputs.the_row.coded };
 }
 
-/// N nodes of which up to t may fail, each node's input, and how many rounds are to be run. A lawful
-/// one has 1 to 16 nodes, 0 to 15 faults, 1 to 4,096 rounds and an input below K for each node.
+/// N nodes of which up to t may fail, each node's input, and how many rounds are to be run. A
+/// lawful one has 1 to 16 nodes, 0 to 15 faults, 1 to 4,096 rounds and an input below K for each
+/// node.
 #[derive(PartialEq, Eq, Drop, Debug)]
 pub struct Setup {
     pub nodes: u32,

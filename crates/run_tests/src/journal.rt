@@ -22,7 +22,8 @@ use step_machine::Node;
 /// The nodes of a run, and then their doubles: with three nodes the double of node 0 is 3.
 fn all_nodes(alloc: Global, program: &Checked, setup: &Setup) -> Result<Vec<Node>, Fault>
     requires { IsSized setup.now }
-    ensures { IfOk result (λ nodes. All (λ n. (n.program ≡ program.now) × (n.setup ≡ setup.now)) nodes.items) }
+    ensures { IfOk result
+        (λ nodes. All (λ n. (n.program ≡ program.now) × (n.setup ≡ setup.now)) nodes.items) }
 {
     let mut nodes = Vec::new(alloc);
     for place in 0..2 * setup.nodes {
@@ -72,6 +73,7 @@ fn reserve(journal: &mut Journal<Known>, events: u32, out: &mut String) -> Resul
 
 /// Answers each line's act.
 fn answer_all(
+    alloc: Global,
     program: &Checked,
     setup: &Setup,
     journal: &mut Journal<Known>,
@@ -86,7 +88,7 @@ fn answer_all(
     for line in input.lines() {
         match act_of(line)? {
             Act::Do { by, deed } => perform(program, setup, journal, nodes, by, deed, out)?,
-            Act::Ask(asked) => telling::answer(journal, asked, out)?,
+            Act::Ask(asked) => telling::answer(alloc, journal, asked, out)?,
             Act::Reserve(events) => reserve(journal, events, out)?,
         }
         out.push_str("\n")?;
@@ -109,7 +111,7 @@ fn ask_program(
     }
     let mut journal = Journal::open(alloc, program, setup, plan)?;
     let mut nodes = all_nodes(alloc, program, setup)?;
-    answer_all(program, setup, &mut journal, &mut nodes, input, out)
+    answer_all(alloc, program, setup, &mut journal, &mut nodes, input, out)
 }
 
 /// Acts on a journal of the program that a text is.

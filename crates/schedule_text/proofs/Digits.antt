@@ -1,5 +1,7 @@
 -- Written numbers are read as what they were.
-use Rattle.std.proofs.Common.{◌≡◌, ℕ, ◌+◌, ◌-◌, ◌*◌, ◌^◌, ◌<◌, Bool, true, false, cond, eqb, List, [], ◌∷◌, ◌++◌, Some, option_map, Ok, leb, le-leb, append_assoc, refl, sym, ap, ◌∙◌, arith, rules}
+use Rattle.std.proofs.Common.{◌≡◌, ℕ, ◌+◌, ◌-◌, ◌*◌, ◌^◌, ◌<◌, Bool, true, false, cond, eqb, List}
+use Rattle.std.proofs.Common.{[], ◌∷◌, ◌++◌, Some, option_map, Ok, leb, le-leb, append_assoc, refl}
+use Rattle.std.proofs.Common.{sym, ap, ◌∙◌, arith, rules}
 use Rattle.std.specs.Char.{is_ascii_digit}
 use Rattle.std.specs.Fmt.{decimal}
 use Rattle.std.specs.List.{list_all, flat_map, fold, AllByRecursion}
@@ -10,7 +12,8 @@ use Rattle.std.proofs.lemmas.Str.Parse.{IsNumeralModel, numerals_by_fold}
 use Rattle.step_machine.specs.declared.event.Name.{Name}
 use Rattle.schedule_text.specs.Numbers.{is_number, value_of, max_number}
 use Rattle.schedule_text.specs.Small.{IsSmall, IsSmallName}
-use Rattle.schedule_text.specs.Stages.{one_of, all_of, name_of, sized_name, whole_name_of, numbers_in}
+use Rattle.schedule_text.specs.Stages.{one_of, all_of, name_of, sized_name, whole_name_of}
+use Rattle.schedule_text.specs.Stages.{numbers_in}
 use Rattle.schedule_text.specs.Writing.{copy_ending}
 use Rattle.schedule_text.proofs.Numbers.{some_digits, numbers-alone, numbers-more}
 

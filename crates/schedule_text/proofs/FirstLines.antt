@@ -1,5 +1,8 @@
 -- The first line of a text.
-use Rattle.std.proofs.Common.{◌≡◌, ℕ, ◌+◌, ◌<◌, ◌≤◌, Bool, true, false, cond, eqb, leb, le-leb, List, [], ◌∷◌, ◌++◌, length, take, drop, get_or, get_or-take, length-take, Some, None, option_map, Ok, codes, append_assoc, refl, sym, ap, subst, ◌∙◌, length-append, arith}
+use Rattle.std.proofs.Common.{◌≡◌, ℕ, ◌+◌, ◌<◌, ◌≤◌, Bool, true, false, cond, eqb, leb, le-leb}
+use Rattle.std.proofs.Common.{List, [], ◌∷◌, ◌++◌, length, take, drop, get_or, get_or-take}
+use Rattle.std.proofs.Common.{length-take, Some, None, option_map, Ok, codes, append_assoc, refl}
+use Rattle.std.proofs.Common.{sym, ap, subst, ◌∙◌, length-append, arith}
 use Rattle.std.specs.Prelude.{not}
 use Rattle.std.specs.Char.{is_ascii_digit}
 use Rattle.std.specs.Str.{bytes_eq}
@@ -16,9 +19,11 @@ use Rattle.step_machine.specs.declared.event.Event.TheVariants.{Step, Release}
 use Rattle.schedule_text.specs.declared.draft.Stage.TheVariants.{Whole}
 use Rattle.schedule_text.specs.Numbers.{is_number, max_number, value_of}
 use Rattle.schedule_text.specs.Fronts.{IsFrontEvent, IsNumberBefore}
-use Rattle.schedule_text.specs.Stages.{State, after, event_of, line_step, by_stage, mapped, release_of, step_of, numbers_in}
+use Rattle.schedule_text.specs.Stages.{State, after, event_of, line_step, by_stage, mapped}
+use Rattle.schedule_text.specs.Stages.{release_of, step_of, numbers_in}
 use Rattle.schedule_text.proofs.Numbers.{numbers-alone, numbers-more}
-use Rattle.schedule_text.proofs.Split.{is_plain, lines-first, parts_more, plain-append, plain_digits}
+use Rattle.schedule_text.proofs.Split.{is_plain, lines-first, parts_more, plain-append}
+use Rattle.schedule_text.proofs.Split.{plain_digits}
 
 all_digits : (ds : List ℕ) → is_number ds ≡ true → list_all is_ascii_digit ds ≡ true
 all_digits [] h = cc

@@ -1,5 +1,7 @@
 -- What is read of a line at its place is what its form says.
-use Rattle.std.proofs.Common.{◌≡◌, ℕ, ◌<◌, leb, Bool, true, false, cond, List, [], ◌∷◌, ◌++◌, length, Option, Some, None, Result, Ok, Err, codes, ◌⊎◌, inl, inr, refl, sym, ap, subst, ◌∙◌, arith}
+use Rattle.std.proofs.Common.{◌≡◌, ℕ, ◌<◌, leb, Bool, true, false, cond, List, [], ◌∷◌, ◌++◌}
+use Rattle.std.proofs.Common.{length, Option, Some, None, Result, Ok, Err, codes, ◌⊎◌, inl, inr}
+use Rattle.std.proofs.Common.{refl, sym, ap, subst, ◌∙◌, arith}
 use Rattle.std.specs.Prelude.{option_and_then}
 use Rattle.std.specs.List.{AllZip, join_with_byte, list_all}
 use Rattle.std.specs.Str.{bytes_eq}
@@ -13,8 +15,12 @@ use Rattle.step_machine.specs.declared.event.Name.{Name}
 use Rattle.schedule_text.specs.declared.fault.LineFault.{LineFault}
 use Rattle.schedule_text.specs.declared.fault.LineFault.TheVariants as line
 use Rattle.schedule_text.specs.Numbers.{IsNumeral, max_number, words_of}
-use Rattle.schedule_text.specs.Lines.{Line, nodes, faults, inputs, rounds, plan, event, first_words, name_numbers, numbers_of, AreNumerals, IsOriginal, HasValue, HasForm}
-use Rattle.schedule_text.specs.Stages.{after, all_of, behind, copy_of, drop_of, event_of, inputs_of, mapped, name_of, numbers_in, one_after, one_of, plan_of, release_of, sized, sized_name, step_of, whole_name_of}
+use Rattle.schedule_text.specs.Lines.{Line, nodes, faults, inputs, rounds, plan, event, first_words}
+use Rattle.schedule_text.specs.Lines.{name_numbers, numbers_of, AreNumerals, IsOriginal, HasValue}
+use Rattle.schedule_text.specs.Lines.{HasForm}
+use Rattle.schedule_text.specs.Stages.{after, all_of, behind, copy_of, drop_of, event_of, inputs_of}
+use Rattle.schedule_text.specs.Stages.{mapped, name_of, numbers_in, one_after, one_of, plan_of}
+use Rattle.schedule_text.specs.Stages.{release_of, sized, sized_name, step_of, whole_name_of}
 use Rattle.schedule_text.proofs.FirstLines.{after_parts}
 use Rattle.schedule_text.proofs.Words.{numbers_said, rest_read, some_numbers}
 

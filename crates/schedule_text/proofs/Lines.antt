@@ -1,5 +1,6 @@
 -- The loop over the lines of a text.
-use Rattle.std.proofs.Common.{◌≡◌, ℕ, ◌+◌, ◌≤◌, List, [], ◌∷◌, ◌++◌, length, Result, Ok, Err, sym, ap, ◌∙◌, true, eqb}
+use Rattle.std.proofs.Common.{◌≡◌, ℕ, ◌+◌, ◌≤◌, List, [], ◌∷◌, ◌++◌, length, Result, Ok, Err, sym}
+use Rattle.std.proofs.Common.{ap, ◌∙◌, true, eqb}
 use Rattle.std.proofs.lemmas.Bool.{eqb-true}
 use Rattle.std.proofs.lemmas.List.{nil_from_length}
 use Rattle.std.specs.Str.Lines.{lines}
@@ -9,12 +10,14 @@ use Rattle.schedule_text.specs.declared.draft.Stage.TheVariants.{Whole}
 use Rattle.schedule_text.specs.declared.draft.Draft.{Draft}
 use Rattle.schedule_text.specs.declared.fault.LineFault.{LineFault}
 use Rattle.schedule_text.specs.declared.fault.LineFault.TheVariants as line
-use Rattle.schedule_text.specs.Stages.{State, start, at_line, line_step, go_on, ended, from_line}
+use Rattle.schedule_text.specs.Stages.{State, start, at_line, line_step, go_on, answer_at_end}
+use Rattle.schedule_text.specs.Stages.{from_line}
 use Rattle.schedule_text.specs.Outcome.{GivesFront, GivesState}
 use Rattle.schedule_text.specs.Fronts.{IsFrontEvent}
 use Rattle.schedule_text.proofs.FirstLines.{event_taken}
 
--- What is left, read from this state, gives what all of it gives; each line before it has taken a byte at least.
+-- What is left, read from this state, gives what all of it gives; each line before it has taken a
+-- byte at least.
 pub record Comes (text rest : List ℕ) (k : ℕ) (s : State) : Type 0 where
   pub number : k + length rest ≤ length text + 1
   pub same : from_line k s (lines rest) ≡ from_line 1 start (lines text)
@@ -42,7 +45,7 @@ pub event_front : (text rest : List ℕ) (s after : State) (n t r : ℕ) (p : Pl
 event_front text rest s after n t r p e stage front after-is = line_taken text front.line rest s front.first after (event_taken s n t r p front.line e stage front.event ∙ ap (λ (x : State). Ok x) (sym after-is))
 
 -- at the end nothing is left
-pub comes_last : (text rest : List ℕ) (k : ℕ) (s : State) → Comes text rest k s → eqb (length rest) 0 ≡ true → from_line 1 start (lines text) ≡ ended k s.stage s
+pub comes_last : (text rest : List ℕ) (k : ℕ) (s : State) → Comes text rest k s → eqb (length rest) 0 ≡ true → from_line 1 start (lines text) ≡ answer_at_end k s.stage s
 unfolding from_line
 comes_last text rest k s comes none =
     sym comes.same ∙ ap (λ t. from_line k s (lines t)) (nil_from_length rest (eqb-true (length rest) 0 none))

@@ -1,5 +1,7 @@
 -- No text has two readings.
-use Rattle.std.proofs.Common.{◌≡◌, ℕ, zero, suc, ◌+◌, ◌<◌, ◌≤◌, Bool, true, false, cond, List, [], ◌∷◌, ◌++◌, length, map, take, drop, get_or, Ok, Err, ◌⊎◌, inl, inr, refl, sym, ap, subst, ◌∙◌, arith, length-append}
+use Rattle.std.proofs.Common.{◌≡◌, ℕ, zero, suc, ◌+◌, ◌<◌, ◌≤◌, Bool, true, false, cond, List, []}
+use Rattle.std.proofs.Common.{◌∷◌, ◌++◌, length, map, take, drop, get_or, Ok, Err, ◌⊎◌, inl, inr}
+use Rattle.std.proofs.Common.{refl, sym, ap, subst, ◌∙◌, arith, length-append}
 use Rattle.std.specs.List.{AllZip, filter}
 use Rattle.std.specs.Str.Lines.{lines}
 use Rattle.std.proofs.Math.Seq.{get_or-append_seam, take-length}
@@ -13,7 +15,8 @@ use Rattle.schedule_text.specs.declared.fault.ScheduleFault.{ScheduleFault}
 use Rattle.schedule_text.specs.declared.fault.ScheduleFault.TheVariants as fault
 use Rattle.schedule_text.specs.Lines.{Line, nodes, faults, inputs, rounds, plan, event, Tells}
 use Rattle.schedule_text.specs.Texts.{Says, counts, lines_for, max_text}
-use Rattle.schedule_text.specs.Readings.{Answer, IsBad, IsFirst, IsGood, IsLarge, IsReading, MayStandAt, Read, line_at, place_of}
+use Rattle.schedule_text.specs.Readings.{Answer, IsBad, IsFirst, IsGood, IsLarge, IsReading}
+use Rattle.schedule_text.specs.Readings.{MayStandAt, Read, line_at, place_of}
 use Rattle.schedule_text.proofs.Places.{sized_ok, sized_small, tells_one, tells_read}
 use Rattle.schedule_text.proofs.Sound.{zip_length}
 

@@ -1,5 +1,6 @@
 -- Which line may stand at which place, and whether its numbers are small.
-use Rattle.std.proofs.Common.{◌≡◌, ℕ, zero, suc, ◌≤◌, leb, le-leb, Bool, true, false, cond, List, [], ◌∷◌, get_or, Ok, Err, refl, sym, ap, subst, ◌∙◌, arith}
+use Rattle.std.proofs.Common.{◌≡◌, ℕ, zero, suc, ◌≤◌, leb, le-leb, Bool, true, false, cond, List}
+use Rattle.std.proofs.Common.{[], ◌∷◌, get_or, Ok, Err, refl, sym, ap, subst, ◌∙◌, arith}
 use Rattle.std.specs.List.{list_all}
 use Rattle.std.proofs.lemmas.Bool.{leb-true}
 use Rattle.std.proofs.lemmas.List.{get_or_past}
@@ -7,10 +8,12 @@ use Rattle.std.proofs.lemmas.List.Sums.{AllPass-from_list_all, list_all-from_All
 use Rattle.schedule_text.specs.declared.fault.LineFault.{LineFault}
 use Rattle.schedule_text.specs.declared.fault.LineFault.TheVariants as line
 use Rattle.schedule_text.specs.Numbers.{max_number}
-use Rattle.schedule_text.specs.Lines.{Line, nodes, faults, inputs, rounds, plan, event, HasForm, HasSmallNumbers, Tells, numbers_of}
+use Rattle.schedule_text.specs.Lines.{Line, nodes, faults, inputs, rounds, plan, event, HasForm}
+use Rattle.schedule_text.specs.Lines.{HasSmallNumbers, Tells, numbers_of}
 use Rattle.schedule_text.specs.Readings.{MayStandAt}
 use Rattle.schedule_text.specs.Stages.{sized}
-use Rattle.schedule_text.proofs.Forms.{Place, at_nodes, at_faults, at_inputs, at_rounds, at_plan, at_event, form_read, line_of, stands_at}
+use Rattle.schedule_text.proofs.Forms.{Place, at_nodes, at_faults, at_inputs, at_rounds, at_plan}
+use Rattle.schedule_text.proofs.Forms.{at_event, form_read, line_of, stands_at}
 
 -- the place of the line behind so many
 abbrev pub place_at : ℕ → Place

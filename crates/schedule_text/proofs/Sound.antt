@@ -1,5 +1,8 @@
 -- What the reader's stages answer is the text's reading.
-use Rattle.std.proofs.Common.{◌≡◌, ℕ, suc, ◌+◌, ◌<◌, ◌≤◌, ltb, below_more, Bool, true, false, cond, eqb, List, [], ◌∷◌, ◌++◌, length, map, take, get_or, Result, Ok, Err, codes, inl, inr, append_assoc, refl, sym, ap, subst, ◌∙◌, arith, length-append}
+use Rattle.std.proofs.Common.{◌≡◌, ℕ, suc, ◌+◌, ◌<◌, ◌≤◌, ltb, below_more, Bool, true, false, cond}
+use Rattle.std.proofs.Common.{eqb, List, [], ◌∷◌, ◌++◌, length, map, take, get_or, Result, Ok, Err}
+use Rattle.std.proofs.Common.{codes, inl, inr, append_assoc, refl, sym, ap, subst, ◌∙◌, arith}
+use Rattle.std.proofs.Common.{length-append}
 use Rattle.std.specs.Prelude.{not}
 use Rattle.std.specs.List.{AllZip, filter}
 use Rattle.std.specs.Str.Lines.{lines}
@@ -10,14 +13,19 @@ use Rattle.std.proofs.lemmas.List.Elements.{filter-append}
 use Rattle.slot_plans.specs.declared.kind.PlanKind.{PlanKind}
 use Rattle.step_machine.specs.declared.event.Event.{Event}
 use Rattle.schedule_text.specs.declared.draft.Stage.{Stage}
-use Rattle.schedule_text.specs.declared.draft.Stage.TheVariants.{Start, Nodes, Faults, Inputs, Rounds, Whole}
+use Rattle.schedule_text.specs.declared.draft.Stage.TheVariants.{Start, Nodes, Faults, Inputs}
+use Rattle.schedule_text.specs.declared.draft.Stage.TheVariants.{Rounds, Whole}
 use Rattle.schedule_text.specs.declared.fault.LineFault.{LineFault}
 use Rattle.schedule_text.specs.declared.fault.LineFault.TheVariants as line
 use Rattle.schedule_text.specs.declared.fault.ScheduleFault.TheVariants as fault
-use Rattle.schedule_text.specs.Lines.{Line, nodes, faults, inputs, rounds, plan, event, HasForm, HasSmallNumbers, Tells, numbers_of}
+use Rattle.schedule_text.specs.Lines.{Line, nodes, faults, inputs, rounds, plan, event, HasForm}
+use Rattle.schedule_text.specs.Lines.{HasSmallNumbers, Tells, numbers_of}
 use Rattle.schedule_text.specs.Texts.{counts, lines_for, max_text}
-use Rattle.schedule_text.specs.Readings.{Answer, IsBad, IsFirst, IsFormed, IsGood, IsLarge, IsReading, line_at, place_of}
-use Rattle.schedule_text.specs.Stages.{State, by_stage, ended, event_of, from_line, go_on, inputs_of, line_step, mapped, one_after, plan_of, sized, start}
+use Rattle.schedule_text.specs.Readings.{Answer, IsBad, IsFirst, IsFormed, IsGood, IsLarge}
+use Rattle.schedule_text.specs.Readings.{IsReading, line_at, place_of}
+use Rattle.schedule_text.specs.Stages.{State, by_stage, answer_at_end, event_of, from_line, go_on}
+use Rattle.schedule_text.specs.Stages.{inputs_of, line_step, mapped, one_after, plan_of, sized}
+use Rattle.schedule_text.specs.Stages.{start}
 use Rattle.schedule_text.proofs.Forms.{Formed, line_formed, line_of, stands_at}
 use Rattle.schedule_text.proofs.Places.{may_stand, place_at, sized_err, sized_ok, tells_read}
 
@@ -134,7 +142,7 @@ module _ (all : List (List ℕ)) (good : Before all all) where
       let place : place_of all (length all) ≡ length xs = ap (λ ls. length (filter counts ls)) whole ∙ zip_length (filter counts all) xs told in
       record { index = length all; number = refl; before = good; wrong = inr (refl, omega (arith, place, few)) }
 
-  at_end : (g : Stage) (vs : List ℕ) (es : List Event) → AllZip Tells (filter counts all) (said_by g vs es) → IsReadingOf all (ended (length all + 1) g (record { stage = g; inputs = vs; events = es }))
+  at_end : (g : Stage) (vs : List ℕ) (es : List Event) → AllZip Tells (filter counts all) (said_by g vs es) → IsReadingOf all (answer_at_end (length all + 1) g (record { stage = g; inputs = vs; events = es }))
   at_end Start vs es told = within [] told (omega arith)
   at_end (Nodes n) vs es told = within (nodes n ∷ []) told (omega arith)
   at_end (Faults n t) vs es told = within (nodes n ∷ faults t ∷ []) told (omega arith)
@@ -241,7 +249,7 @@ reads : (all ls done : List (List ℕ)) (s : State) → all ≡ done ++ ls → B
 unfolding from_line
 reads all [] done s whole good early told =
     let all-is : done ≡ all = sym (append-nil done) ∙ sym whole in
-    subst (λ (d : List (List ℕ)). IsReadingOf all (ended (length d + 1) s.stage s)) (sym all-is)
+    subst (λ (d : List (List ℕ)). IsReadingOf all (answer_at_end (length d + 1) s.stage s)) (sym all-is)
     (at_end all (subst (λ (d : List (List ℕ)). Before all d) all-is good) s.stage s.inputs s.events (subst (λ (d : List (List ℕ)). AllZip Tells (filter counts d) (said_of s)) all-is told))
 reads all (l ∷ ls) done s whole good early told =
     reads_line all done l ls whole good s early told (λ next early' told' here.

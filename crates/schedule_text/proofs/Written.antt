@@ -1,5 +1,7 @@
 -- What is written is read back.
-use Rattle.std.proofs.Common.{◌≡◌, ℕ, ◌+◌, ◌<◌, ◌≤◌, Bool, true, false, cond, eqb, List, [], ◌∷◌, ◌++◌, length, map, Ok, codes, append_assoc, refl, sym, ap, subst, ◌∙◌, arith}
+use Rattle.std.proofs.Common.{◌≡◌, ℕ, ◌+◌, ◌<◌, ◌≤◌, Bool, true, false, cond, eqb, List, [], ◌∷◌}
+use Rattle.std.proofs.Common.{◌++◌, length, map, Ok, codes, append_assoc, refl, sym, ap, subst, ◌∙◌}
+use Rattle.std.proofs.Common.{arith}
 use Rattle.std.specs.Fmt.{decimal}
 use Rattle.std.specs.List.{flat_map, AllByRecursion}
 use Rattle.std.specs.Str.Lines.{lines}
@@ -13,12 +15,15 @@ use Rattle.slot_plans.specs.declared.kind.PlanKind.TheVariants.{Known, Growing}
 use Rattle.step_machine.specs.declared.event.Event.{Event}
 use Rattle.step_machine.specs.declared.event.Event.TheVariants.{Step, Release, Drop, Copy}
 use Rattle.step_machine.specs.declared.event.Name.{Name}
-use Rattle.schedule_text.specs.declared.draft.Stage.TheVariants.{Nodes, Faults, Inputs, Rounds, Whole}
+use Rattle.schedule_text.specs.declared.draft.Stage.TheVariants.{Nodes, Faults, Inputs, Rounds}
+use Rattle.schedule_text.specs.declared.draft.Stage.TheVariants.{Whole}
 use Rattle.schedule_text.specs.Small.{IsSmall, IsSmallPlan, IsSmallName, IsSmallEvent, IsSmallSetup}
 use Rattle.schedule_text.specs.Readings.{Answer, IsReading}
 use Rattle.schedule_text.specs.Texts.{Says, max_text}
-use Rattle.schedule_text.specs.Stages.{State, start, after, one_after, inputs_of, plan_of, event_of, mapped, line_step, go_on, from_line}
-use Rattle.schedule_text.specs.Writing.{number_line, inputs_line, plan_line, name_line, copy_ending, event_line, line_text, header_lines, text_of}
+use Rattle.schedule_text.specs.Stages.{State, start, after, one_after, inputs_of, plan_of, event_of}
+use Rattle.schedule_text.specs.Stages.{mapped, line_step, go_on, from_line}
+use Rattle.schedule_text.specs.Writing.{number_line, inputs_line, plan_line, name_line, copy_ending}
+use Rattle.schedule_text.specs.Writing.{event_line, line_text, header_lines, text_of}
 use Rattle.schedule_text.proofs.Digits.{digits, one_read, values_read, name_read, whole_name_read}
 use Rattle.schedule_text.proofs.Split.{is_plain, plain-append, plain_digits, lines-text}
 use Rattle.schedule_text.proofs.Sound.{short_sound}

@@ -1,5 +1,6 @@
 -- The number at the front of a text.
-use Rattle.std.specs.Prelude.{◌≡◌, ℕ, ◌<◌, ◌≤◌, true, List, [], ◌∷◌, ◌++◌, length, Option, Some, None, Ok, option_map, min, if◌then◌else◌}
+use Rattle.std.specs.Prelude.{◌≡◌, ℕ, ◌<◌, ◌≤◌, true, List, [], ◌∷◌, ◌++◌, length, Option, Some}
+use Rattle.std.specs.Prelude.{None, Ok, option_map, min, if◌then◌else◌}
 use Rattle.std.specs.Borrow.{Bor}
 use Rattle.schedule_text.specs.declared.number.Front.{Front}
 use Rattle.schedule_text.specs.Numbers.{value_of, words_of, is_number, max_number}

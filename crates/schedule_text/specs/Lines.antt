@@ -51,8 +51,8 @@ numbers_of (event (Copy m)) = name_numbers m
 abbrev pub IsOriginal : List (List ℕ) → Name → Type 0
 IsOriginal words m = (m.copy ≡ 0) × AllZip IsNumeral words (m.from ∷ m.to ∷ m.round ∷ [])
 
--- the words that follow the first are its numbers in digits, and then comes nothing; a copy 0 may be
--- left out behind `release` and `drop`
+-- the words that follow the first are its numbers in digits, and then comes nothing; a copy 0 may
+-- be left out behind `release` and `drop`
 abbrev pub AreNumerals : List (List ℕ) → Line → Type 0
 AreNumerals words (event (Release m)) = AllZip IsNumeral words (name_numbers m) ⊎ IsOriginal words m
 AreNumerals words (event (Drop m)) = AllZip IsNumeral words (name_numbers m) ⊎ IsOriginal words m

@@ -29,8 +29,8 @@ GivesState (Ok _) d said = said ≡ Ok (state_of d)
 GivesState (Err line.NoMemory) d said = Unit {0}
 GivesState (Err e) d said = said ≡ Err e
 
--- the first line was taken in and the rest is left, so that all lines say what those of the rest say
--- then; only memory excuses another fault than that of the line
+-- the first line was taken in and the rest is left, so that all lines say what those of the rest
+-- say then; only memory excuses another fault than that of the line
 abbrev pub GivesFront : Result (Bor (List ℕ)) LineFault → State → Draft → List ℕ → Type 0
 GivesFront (Ok rest) s d text =
     (length rest.now < length text)

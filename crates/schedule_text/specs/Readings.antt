@@ -1,12 +1,14 @@
 -- What reading a text answers: its schedule, or the first line at fault.
-use Rattle.std.specs.Prelude.{◌≡◌, ℕ, ◌+◌, ◌<◌, ◌≤◌, ◌⊎◌, true, false, List, [], length, take, filter, slice_index_or, Result, Ok, Err}
+use Rattle.std.specs.Prelude.{◌≡◌, ℕ, ◌+◌, ◌<◌, ◌≤◌, ◌⊎◌, true, false, List, [], length, take}
+use Rattle.std.specs.Prelude.{filter, slice_index_or, Result, Ok, Err}
 use Rattle.std.specs.Str.Lines.{lines}
 use Rattle.round_meaning.specs.declared.setup.Setup.{Setup}
 use Rattle.slot_plans.specs.declared.kind.PlanKind.{PlanKind}
 use Rattle.step_machine.specs.declared.event.Event.{Event}
 use Rattle.schedule_text.specs.declared.fault.ScheduleFault.{ScheduleFault}
 use Rattle.schedule_text.specs.declared.fault.ScheduleFault.TheVariants as fault
-use Rattle.schedule_text.specs.Lines.{Line, nodes, faults, inputs, rounds, plan, event, HasForm, HasSmallNumbers}
+use Rattle.schedule_text.specs.Lines.{Line, nodes, faults, inputs, rounds, plan, event, HasForm}
+use Rattle.schedule_text.specs.Lines.{HasSmallNumbers}
 use Rattle.schedule_text.specs.Texts.{Says, counts, max_text}
 
 -- the line at index k
@@ -17,8 +19,8 @@ line_at ls k = slice_index_or ls k []
 abbrev pub place_of : List (List ℕ) → ℕ → ℕ
 place_of ls k = length (filter counts (take k ls))
 
--- which of the lines that count may say this, by how many do before it: the header's five lines come
--- first, in order, and then events
+-- which of the lines that count may say this, by how many do before it: the header's five lines
+-- come first, in order, and then events
 abbrev pub MayStandAt : ℕ → Line → Type 0
 MayStandAt place (nodes n) = place ≡ 0
 MayStandAt place (faults t) = place ≡ 1
@@ -73,8 +75,8 @@ Read = Setup × PlanKind × List Event
 abbrev pub Answer : Type 0
 Answer = Result Read ScheduleFault
 
--- the answer of reading a text, where there is memory: the schedule that it says, TooLong where it is
--- that, or else the first line at fault, with its number
+-- the answer of reading a text, where there is memory: the schedule that it says, TooLong where it
+-- is that, or else the first line at fault, with its number
 abbrev pub IsReading : List ℕ → Answer → Type 0
 IsReading text (Ok r) = Says text r.0 r.1 r.2
 IsReading text (Err fault.TooLong) = max_text < length text

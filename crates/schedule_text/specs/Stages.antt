@@ -1,5 +1,7 @@
 -- The stages that the reader goes through, line by line.
-use Rattle.std.specs.Prelude.{ℕ, ◌+◌, ◌==◌, nat_le, if◌then◌else◌, List, [], ◌∷◌, ◌++◌, length, map, take, drop, Option, Some, None, option_and_then, Result, Ok, Err, codes}
+use Rattle.std.specs.Prelude.{ℕ, ◌+◌, ◌==◌, nat_le, if◌then◌else◌, List, [], ◌∷◌, ◌++◌, length, map}
+use Rattle.std.specs.Prelude.{take, drop, Option, Some, None, option_and_then, Result, Ok, Err}
+use Rattle.std.specs.Prelude.{codes}
 use Rattle.std.specs.List.{list_all}
 use Rattle.std.specs.Str.{bytes_eq}
 use Rattle.slot_plans.specs.declared.kind.PlanKind.{PlanKind}
@@ -12,7 +14,8 @@ use Rattle.schedule_text.specs.declared.fault.LineFault.TheVariants as line
 use Rattle.schedule_text.specs.declared.fault.ScheduleFault.{ScheduleFault}
 use Rattle.schedule_text.specs.declared.fault.ScheduleFault.TheVariants as fault
 use Rattle.schedule_text.specs.declared.draft.Stage.{Stage}
-use Rattle.schedule_text.specs.declared.draft.Stage.TheVariants.{Start, Nodes, Faults, Inputs, Rounds, Whole}
+use Rattle.schedule_text.specs.declared.draft.Stage.TheVariants.{Start, Nodes, Faults, Inputs}
+use Rattle.schedule_text.specs.declared.draft.Stage.TheVariants.{Rounds, Whole}
 use Rattle.schedule_text.specs.Numbers.{is_number, max_number, value_of, words_of}
 use Rattle.schedule_text.specs.Readings.{Answer}
 
@@ -144,14 +147,14 @@ go_on k (Ok s) next = next s
 go_on k (Err e) next = Err (at_line k e)
 
 -- at the end the header has to be whole; k is the number after the last line's
-abbrev pub ended : ℕ → Stage → State → Answer
-ended k (Whole n t r p) s =
+abbrev pub answer_at_end : ℕ → Stage → State → Answer
+answer_at_end k (Whole n t r p) s =
     Ok (record { nodes = n; faults = t; inputs = s.inputs; rounds = r }, p, s.events)
-ended k _ s = Err (fault.BadLine k)
+answer_at_end k _ s = Err (fault.BadLine k)
 
 -- the lines from number k on
 unfoldable pub from_line : ℕ → State → List (List ℕ) → Answer
-from_line k s [] = ended k s.stage s
+from_line k s [] = answer_at_end k s.stage s
 from_line k s (l ∷ ls) = go_on k (line_step s l) (λ s. from_line (k + 1) s ls)
 
 -- before the first line

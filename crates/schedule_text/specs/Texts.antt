@@ -1,6 +1,7 @@
--- Which schedule a text is. Its lines are those of the standard library: LF ends a line, the last may
--- lack it, and a CR before it is dropped.
-use Rattle.std.specs.Prelude.{◌≡◌, ℕ, ◌≤◌, Bool, false, not, ◌==◌, List, [], ◌∷◌, length, filter, map}
+-- Which schedule a text is. Its lines are those of the standard library: LF ends a line, the last
+-- may lack it, and a CR before it is dropped.
+use Rattle.std.specs.Prelude.{◌≡◌, ℕ, ◌≤◌, Bool, false, not, ◌==◌, List, [], ◌∷◌, length, filter}
+use Rattle.std.specs.Prelude.{map}
 use Rattle.std.specs.List.{AllZip}
 use Rattle.std.specs.Str.Lines.{lines}
 use Rattle.round_meaning.specs.declared.setup.Setup.{Setup}
@@ -22,8 +23,8 @@ abbrev pub lines_for : Setup → PlanKind → List Event → List Line
 lines_for s p es =
     nodes s.nodes ∷ faults s.faults ∷ inputs s.inputs ∷ rounds s.rounds ∷ plan p ∷ map event es
 
--- the text is the schedule of this setup and plan with these events: it isn't too long, and its lines
--- that count say just that
+-- the text is the schedule of this setup and plan with these events: it isn't too long, and its
+-- lines that count say just that
 pub record Says (text : List ℕ) (s : Setup) (p : PlanKind) (es : List Event) : Type 0 where
   pub short : length text ≤ max_text
   pub each : AllZip Tells (filter counts (lines text)) (lines_for s p es)

@@ -31,8 +31,8 @@ name_line start m =
 abbrev pub copy_ending : ℕ → List ℕ
 copy_ending copy = if copy == 0 then [] else 32 ∷ decimal copy
 
--- the line of an event: `step I`, `release J I R Y`, `drop J I R Y` or `copy J I R Y`, where `release`
--- and `drop` have no Y that is 0
+-- the line of an event: `step I`, `release J I R Y`, `drop J I R Y` or `copy J I R Y`, where
+-- `release` and `drop` have no Y that is 0
 abbrev pub event_line : Event → List ℕ
 event_line (Step i) = number_line (codes "step ") i
 event_line (Release m) = name_line (codes "release ") m ++ copy_ending m.copy

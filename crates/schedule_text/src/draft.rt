@@ -46,8 +46,8 @@ impl Draft {
         })
     }
 
-    /// Takes in the first line of a text and answers what follows it; a draft that has refused one is
-    /// of no use.
+    /// Takes in the first line of a text and answers what follows it; a draft that has refused one
+    /// is of no use.
     pub fn read_front<'a>(&mut self, alloc: Global, text: &'a [u8]) -> Result<&'a [u8], LineFault>
         requires { 0 < length text.now }
         ensures { GivesFront result (state_of self.old) self.new text.now }
@@ -101,7 +101,7 @@ impl Draft {
 
     /// The schedule, where the header is whole; else the fault at the line past the last.
     pub fn finish(self, number: u64) -> Result<Schedule, ScheduleFault>
-        ensures ended { Gives result (spec.ended number self.stage (state_of self)) }
+        ensures ended { Gives result (spec.answer_at_end number self.stage (state_of self)) }
         ensures short { result ≢ Err ScheduleFault.TooLong }
     {
         let Draft {

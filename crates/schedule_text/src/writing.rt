@@ -27,7 +27,8 @@ pub fn write_schedule(
 ) -> Result<String, NoMemory>
     ensures spelled { IfOk result (λ text. string_bytes text ≡ text_of setup.now plan events.now) }
     ensures read_back { IfOk result (λ text. 0 < length setup.now.inputs
-        → length (string_bytes text) ≤ max_text → Says (string_bytes text) setup.now plan events.now) }
+        → length (string_bytes text) ≤ max_text
+        → Says (string_bytes text) setup.now plan events.now) }
 {
     let mut text = String::new(alloc);
     write_header(&mut text, setup, plan)?;

@@ -1,4 +1,5 @@
-use Rattle.std.proofs.Common.{◌≡◌, ℕ, ◌+◌, Bool, true, false, IsTrue, ◌↔◌, refl, ap, sym, subst, arith}
+use Rattle.std.proofs.Common.{◌≡◌, ℕ, ◌+◌, Bool, true, false, IsTrue, ◌↔◌, refl, ap, sym, subst}
+use Rattle.std.proofs.Common.{arith}
 use Rattle.slot_plans.specs.declared.slot.Slot.{Slot}
 use Rattle.slot_plans.specs.declared.slot.Slot.TheVariants.{Send, Receive}
 use Rattle.slot_plans.specs.Slot.{IsSlotOf, IsSendSlot, IsReceiveSlot}

@@ -31,5 +31,7 @@ pub record IsClear (receives start : ℕ → ℕ) (delta gst r : ℕ) : Type 0 w
 -- the first clear round, or none where no round is clear
 abbrev pub IsClearRound : (ℕ → ℕ) → (ℕ → ℕ) → ℕ → ℕ → Option ℕ → Type 0
 IsClearRound receives start delta gst (Some r) =
-    IsRound r × IsClear receives start delta gst r × ((s : ℕ) → 1 ≤ s → s < r → ¬ IsClear receives start delta gst s)
-IsClearRound receives start delta gst None = (s : ℕ) → IsRound s → ¬ IsClear receives start delta gst s
+    IsRound r × IsClear receives start delta gst r
+    × ((s : ℕ) → 1 ≤ s → s < r → ¬ IsClear receives start delta gst s)
+IsClearRound receives start delta gst None =
+    (s : ℕ) → IsRound s → ¬ IsClear receives start delta gst s

@@ -1,5 +1,7 @@
 -- What a journal hands out is for the node, and is what the run in rounds says.
-use Rattle.std.proofs.Common.{◌≡◌, ℕ, ◌-◌, ◌==◌, ◌<◌, ◌≤◌, Bool, true, false, ◌&&◌, List, [], ◌∷◌, length, get_or, if◌then◌else◌, sym, subst, ap, ◌∙◌, arith, ◌⊎◌, inl, inr}
+use Rattle.std.proofs.Common.{◌≡◌, ℕ, ◌-◌, ◌==◌, ◌<◌, ◌≤◌, Bool, true, false, ◌&&◌, List, [], ◌∷◌}
+use Rattle.std.proofs.Common.{length, get_or, if◌then◌else◌, sym, subst, ap, ◌∙◌, arith, ◌⊎◌, inl}
+use Rattle.std.proofs.Common.{inr}
 use Rattle.std.specs.Prelude.{All}
 use Rattle.std.proofs.lemmas.Bool.{cases_eq, cases_lt, ne_eqb}
 use Rattle.std.proofs.lemmas.List.{get_or-map, get_or_past, length-map}
@@ -9,15 +11,16 @@ use Rattle.step_machine.specs.declared.event.Event.{Event}
 use Rattle.step_machine.specs.declared.event.Event.TheVariants.{Step, Release, Drop, Copy}
 use Rattle.step_machine.specs.declared.event.Name.{Name}
 use Rattle.step_machine.specs.Frames.{Frame, sent_under}
-use Rattle.step_journal.specs.declared.mark.Mark.{Mark}
-use Rattle.step_journal.specs.declared.mark.Mark.TheVariants.{Unsent, Silent, Flying, Released, Lost}
-use Rattle.step_journal.specs.Agreed.{IsSaid}
-use Rattle.step_journal.specs.Agreement.{Row, row}
-use Rattle.step_journal.specs.History.{arrival, arrived, buffer_of}
-use Rattle.step_journal.specs.Log.{IsFaithful, Log, Recorded, history, world_of}
-use Rattle.step_journal.specs.Stock.{Fits, IsGenuine, IsMail, Stock, names_in, stock_at}
-use Rattle.step_journal.specs.Fates.{is_take}
-use Rattle.step_journal.specs.World.{World}
+use Rattle.step_book.specs.declared.mark.Mark.{Mark}
+use Rattle.step_book.specs.declared.mark.Mark.TheVariants.{Unsent, Silent, Flying, Released, Lost}
+use Rattle.step_book.specs.Agreed.{IsSaid}
+use Rattle.step_book.specs.Agreement.{Row, row}
+use Rattle.step_book.specs.History.{arrival, arrived, buffer_of}
+use Rattle.step_book.specs.Log.{IsFaithful, Log, Recorded, history, world_of}
+use Rattle.step_book.specs.Stock.{IsGenuine, IsMail, Stock, names_in}
+use Rattle.step_journal.specs.Fits.{Fits, stock_at}
+use Rattle.step_book.specs.Fates.{is_take}
+use Rattle.step_book.specs.World.{World}
 use Rattle.step_journal.proofs.Stocks.{stock_read}
 
 abbrev pub IsTo : ℕ → Name → Type 0

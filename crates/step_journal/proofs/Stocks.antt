@@ -1,9 +1,13 @@
 -- What each event leaves of the frames.
-use Rattle.std.proofs.Common.{◌≡◌, ◌≢◌, ℕ, ◌+◌, ◌-◌, ◌<◌, ◌≤◌, All, List, [], ◌∷◌, ◌++◌, length, get_or, set, Option, Some, None, sym, subst, refl, ap, if◌then◌else◌, ◌∙◌, arith, Bool, ◌⊎◌, inl, inr}
+use Rattle.std.proofs.Common.{◌≡◌, ◌≢◌, ℕ, ◌+◌, ◌-◌, ◌<◌, ◌≤◌, All, List, [], ◌∷◌, ◌++◌, length}
+use Rattle.std.proofs.Common.{get_or, set, Option, Some, None, sym, subst, refl, ap, if◌then◌else◌}
+use Rattle.std.proofs.Common.{◌∙◌, arith, Bool, ◌⊎◌, inl, inr}
 use Rattle.std.specs.Prelude.{IsSomeAnd, option_map, option_to_list}
 use Rattle.std.proofs.lemmas.Bool.{cases_eq, cases_lt}
-use Rattle.std.proofs.lemmas.List.{get_or-set_same, get_or-set_other, length-set, map-append, append-nil, get_or_append_left, get_or_default, get_or_past, length_push}
-use Rattle.std.proofs.lemmas.List.Elements.{All-same, All-push}
+use Rattle.std.proofs.lemmas.List.{get_or-set_same, get_or-set_other, length-set, map-append}
+use Rattle.std.proofs.lemmas.List.{append-nil, get_or_append_left, get_or_default, get_or_past}
+use Rattle.std.proofs.lemmas.List.{length_push}
+use Rattle.std.proofs.lemmas.List.Elements.{All-same, All-push, All-set}
 use Rattle.round_lang.specs.declared.value.Value.{Value}
 use Rattle.round_lang.specs.Syntax.{ProgramTree}
 use Rattle.round_meaning.specs.declared.setup.Setup.{Setup}
@@ -11,23 +15,28 @@ use Rattle.round_meaning.specs.Rounds.{Algorithm, algorithm_of}
 use Rattle.step_machine.specs.declared.event.Event.{Event}
 use Rattle.step_machine.specs.declared.event.Event.TheVariants.{Step, Release, Drop, Copy}
 use Rattle.step_machine.specs.declared.event.Name.{Name}
-use Rattle.step_machine.specs.Frames.{Frame, Ready, IsPrepared, copied_as, frame_of, original}
+use Rattle.step_machine.specs.Frames.{Frame, Ready, IsPrepared, Spells, copied_as, frame_of}
+use Rattle.step_machine.specs.Frames.{original}
 use Rattle.step_machine.specs.Nodes.{NodeView}
-use Rattle.step_journal.specs.declared.mark.Mark.{Mark}
-use Rattle.step_journal.specs.declared.mark.Mark.TheVariants.{Unsent, Silent, Flying, Released, Lost}
-use Rattle.step_journal.specs.Agreement.{Row, row}
-use Rattle.step_journal.specs.Trace.{steps}
-use Rattle.step_journal.specs.History.{arrival, buffer_of, copied, dropped, let_go, spoken}
-use Rattle.step_journal.specs.Log.{CanCopy, Log, Recorded, IsFlying, SameMarks, SameMarksBut, SameWaiting, SameWaitingBut, closed, count_of, ended, happened, mark_in, opened, round_of, waiting_in, world_of}
-use Rattle.step_journal.specs.Names.{IsName}
-use Rattle.step_journal.specs.Causes.{IsSendFit}
-use Rattle.step_journal.specs.Tables.{HasPlace, Puts, SameTables, read_at}
-use Rattle.step_journal.proofs.Keeps.{RowOf, Grown, Stays, row_of, row_same}
-use Rattle.step_journal.proofs.Events.{arrival_idle, copied_idle, copied_now, dropped_idle, let_go_idle}
-use Rattle.step_journal.proofs.Kept.{mark_before}
-use Rattle.step_journal.proofs.Names.{name_cases, name_same, original_named}
-use Rattle.step_journal.proofs.Tables.{has_place}
-use Rattle.step_journal.specs.Stock.{Stock, AreEmpty, Fits, Flies, IsGenuine, flying_at, names_in, no_stock, place_among, stock_at}
+use Rattle.step_book.specs.declared.mark.Mark.{Mark}
+use Rattle.step_book.specs.declared.mark.Mark.TheVariants.{Unsent, Silent, Flying, Released, Lost}
+use Rattle.step_book.specs.Agreement.{Row, row}
+use Rattle.step_book.specs.Trace.{steps}
+use Rattle.step_book.specs.History.{arrival, buffer_of, copied, dropped, let_go, spoken}
+use Rattle.step_book.specs.Log.{CanCopy, Log, Recorded, IsFlying, SameMarks, SameMarksBut}
+use Rattle.step_book.specs.Log.{SameWaiting, SameWaitingBut, closed, count_of, end_state, happened}
+use Rattle.step_book.specs.Log.{mark_in, opened, round_of, waiting_in, world_of}
+use Rattle.step_book.specs.Names.{IsName}
+use Rattle.step_book.specs.Causes.{IsSendFit}
+use Rattle.step_book.specs.Tables.{HasPlace, Puts, SameTables, read_at}
+use Rattle.step_book.proofs.Keeps.{RowOf, Grown, Stays, row_of, row_same}
+use Rattle.step_book.proofs.Events.{arrival_idle, copied_idle, copied_now, dropped_idle}
+use Rattle.step_book.proofs.Events.{let_go_idle}
+use Rattle.step_book.proofs.Kept.{mark_before}
+use Rattle.step_book.proofs.Names.{name_cases, name_same, original_named}
+use Rattle.step_book.proofs.Tables.{has_place}
+use Rattle.step_book.specs.Stock.{Stock, IsGenuine, IsSameRun, flying_at, names_in, run_of}
+use Rattle.step_journal.specs.Fits.{AreEmpty, Fits, Flies, IsOfRun, no_stock, place_among, stock_at}
 
 -- what holds of the view holds of the fields
 pub fits_view : {P : Type 0} {s v : Recorded P} {bs : List Stock} (start : P → ℕ → ℕ) → s ≡ v → Fits (start v.plan) v.log bs → Fits (start s.plan) s.log bs
@@ -124,11 +133,19 @@ work_view {P} p e h = subst (λ (z : Recorded P). IsPrepared (algorithm_of z.log
 pub place_view : {P : Type 0} {s v : Recorded P} (n : Name) (place : ℕ) → s ≡ v → place ≡ place_among v.log.setup.nodes n → place ≡ place_among s.log.setup.nodes n
 place_view {P} n place e h = subst (λ (z : Recorded P). place ≡ place_among z.log.setup.nodes n) (sym e) h
 
+-- a stock of the run that is written over one of the run
+runs_set : {p : ProgramTree} {s : Setup} (bs : List Stock) (k : ℕ) (old new : Stock) → k < length bs
+    → old ≡ get_or bs k old → IsSameRun old new → All (IsOfRun p s) bs → All (IsOfRun p s) (set bs k new)
+runs_set {p} {s} bs k old new l h r all =
+    let was : IsOfRun p s old = subst (IsOfRun p s) (sym h) (all k old l) in
+    All-set (IsOfRun p s) bs k new (record { program = r.program ∙ was.program; setup = r.setup ∙ was.setup }) all
+
 -- a run that begins has no frames
-pub fits_open : (start : ℕ → ℕ) (p : ProgramTree) (s : Setup) (bs : List Stock) → AreEmpty s.nodes bs → Fits start (opened p s) bs
+pub fits_open : (start : ℕ → ℕ) (p : ProgramTree) (s : Setup) (bs : List Stock) → AreEmpty p s s.nodes bs → Fits start (opened p s) bs
 unfolding buffer_of steps
 fits_open start p s bs h = record {
   sized = h.sized;
+  runs = h.runs;
   waiting = λ i l. ap names_in (stock i l).1;
   genuine = λ i l. All-same (IsGenuine (algorithm_of p s) (opened p s).rows) _ [] (stock i l).1 (λ x y z. absurd (omega arith));
   flying = λ n a. flies_same (algorithm_of p s) (opened p s).rows n Unsent _ None _ (before n) (ap (λ (x : List (List (Option Frame))). read_at None x n.copy (place_among s.nodes n)) (stock n.to a.to).0) refl;
@@ -141,17 +158,20 @@ fits_open start p s bs h = record {
     before n = mark_before (world_of start (opened p s)) [] n (omega arith)
 
 -- one empty stock more
-pub empty_push : (n : ℕ) (xs ys : List Stock) (b : Stock) → ys ≡ xs ++ b ∷ [] → b.flying ≡ [] → b.waiting ≡ [] → AreEmpty n xs → AreEmpty (n + 1) ys
-empty_push n xs ys b e x y h = record {
+pub empty_push : (p : ProgramTree) (s : Setup) (n : ℕ) (xs ys : List Stock) (b : Stock) → ys ≡ xs ++ b ∷ []
+    → b.program ≡ p → b.setup ≡ s → b.flying ≡ [] → b.waiting ≡ [] → AreEmpty p s n xs → AreEmpty p s (n + 1) ys
+empty_push p s n xs ys b e q r x y h = record {
   sized = ap length e ∙ length_push xs b ∙ ap (λ z. z + 1) h.sized;
+  runs = All-same (IsOfRun p s) _ _ e (All-push (IsOfRun p s) xs b h.runs (record { program = q; setup = r }));
   each = All-same (λ (b : Stock). (b.flying ≡ []) × (b.waiting ≡ [])) _ _ e (All-push (λ (b : Stock). (b.flying ≡ []) × (b.waiting ≡ [])) xs b h.each (x, y));
 }
 
 module _ {start : ℕ → ℕ} {v : Log} {bs : List Stock} (f : Fits start v bs) where
   -- a receive takes what waits for its node, and leaves all else
-  pub fits_receive : (k : ℕ) (old new : Stock) → k < v.setup.nodes → old ≡ get_or bs k old → new.flying ≡ old.flying → new.waiting ≡ [] → SameMarks start v (happened v (Step k)) → waiting_in start (happened v (Step k)) k ≡ [] → SameWaitingBut start k v (happened v (Step k)) → Fits start (happened v (Step k)) (set bs k new)
-  fits_receive k old new l h e d marks own others = record {
+  pub fits_receive : (k : ℕ) (old new : Stock) → k < v.setup.nodes → old ≡ get_or bs k old → IsSameRun old new → new.flying ≡ old.flying → new.waiting ≡ [] → SameMarks start v (happened v (Step k)) → waiting_in start (happened v (Step k)) k ≡ [] → SameWaitingBut start k v (happened v (Step k)) → Fits start (happened v (Step k)) (set bs k new)
+  fits_receive k old new l h r e d marks own others = record {
     sized = length-set bs k new ∙ f.sized;
+    runs = runs_set bs k old new in_list h r f.runs;
     waiting = λ i m. waits i m (cases_eq i k);
     genuine = λ i m. each i m (cases_eq i k);
     flying = λ n a. flies_same _ _ n _ _ _ _ (marks n a) (flies n a (cases_eq n.to k)) (f.flying n a);
@@ -180,15 +200,17 @@ module _ {start : ℕ → ℕ} {v : Log} {bs : List Stock} (f : Fits start v bs)
   pub fits_same : (e : Event) → SameMarks start v (happened v e) → SameWaiting start v (happened v e) → Fits start (happened v e) bs
   fits_same e marks waits = record {
     sized = f.sized;
+    runs = f.runs;
     waiting = λ i m. f.waiting i m ∙ sym (waits i);
     genuine = f.genuine;
     flying = λ n a. flies_same _ _ n _ _ _ _ (marks n a) refl (f.flying n a);
   }
 
   -- one stock that reads the same
-  pub fits_kept : (k : ℕ) (old new : Stock) → k < v.setup.nodes → old ≡ get_or bs k old → SameTables None old.flying new.flying → new.waiting ≡ old.waiting → Fits start v (set bs k new)
-  fits_kept k old new l h e d = record {
+  pub fits_kept : (k : ℕ) (old new : Stock) → k < v.setup.nodes → old ≡ get_or bs k old → IsSameRun old new → SameTables None old.flying new.flying → new.waiting ≡ old.waiting → Fits start v (set bs k new)
+  fits_kept k old new l h r e d = record {
     sized = length-set bs k new ∙ f.sized;
+    runs = runs_set bs k old new in_list h r f.runs;
     waiting = λ i m. ap names_in (waits i (cases_eq i k)) ∙ f.waiting i m;
     genuine = λ i m. All-same (IsGenuine (algorithm_of v.program v.setup) v.rows) _ _ (waits i (cases_eq i k)) (f.genuine i m);
     flying = λ n a. flies_same _ _ n _ _ _ _ refl (flies n (cases_eq n.to k)) (f.flying n a);
@@ -212,10 +234,11 @@ module _ {start : ℕ → ℕ} {v : Log} {bs : List Stock} (f : Fits start v bs)
       flies n (inr apart) = ap (λ (b : Stock). flying_at b n.copy (place_among v.setup.nodes n)) (written_off bs k n.to new apart)
 
   -- one frame's place in flight is written, as the mark of its message is
-  pub fits_mark : (e : Event) (n : Name) (old new : Stock) (o : Option Frame) → IsName v.setup n → old ≡ get_or bs n.to old → Puts None old.flying new.flying n.copy (place_among v.setup.nodes n) o → SameMarksBut start n v (happened v e) → Flies (algorithm_of v.program v.setup) v.rows n (mark_in start (happened v e) n) o →
+  pub fits_mark : (e : Event) (n : Name) (old new : Stock) (o : Option Frame) → IsName v.setup n → old ≡ get_or bs n.to old → IsSameRun old new → Puts None old.flying new.flying n.copy (place_among v.setup.nodes n) o → SameMarksBut start n v (happened v e) → Flies (algorithm_of v.program v.setup) v.rows n (mark_in start (happened v e) n) o →
       names_in new.waiting ≡ waiting_in start (happened v e) n.to → All (IsGenuine (algorithm_of v.program v.setup) v.rows) new.waiting → SameWaitingBut start n.to v (happened v e) → Fits start (happened v e) (set bs n.to new)
-  fits_mark e n old new o a h puts marks own names genuine waits = record {
+  fits_mark e n old new o a h r puts marks own names genuine waits = record {
     sized = length-set bs n.to new ∙ f.sized;
+    runs = runs_set bs n.to old new in_list h r f.runs;
     waiting = λ i m. wait i m (cases_eq i n.to);
     genuine = λ i m. each i m (cases_eq i n.to);
     flying = λ m b. flies m b (name_cases m n);
@@ -251,6 +274,7 @@ module _ {start : ℕ → ℕ} {v : Log} {bs : List Stock} (f : Fits start v bs)
   pub fits_silent : (n : Name) → mark_in start v n ≡ Unsent → mark_in start (happened v (Step n.from)) n ≡ Silent → SameMarksBut start n v (happened v (Step n.from)) → SameWaiting start v (happened v (Step n.from)) → Fits start (happened v (Step n.from)) bs
   fits_silent n before after marks waits = record {
     sized = f.sized;
+    runs = f.runs;
     waiting = λ i m. f.waiting i m ∙ sym (waits i);
     genuine = f.genuine;
     flying = λ m b. flies m b (name_cases m n);
@@ -266,11 +290,11 @@ module _ {start : ℕ → ℕ} {v : Log} {bs : List Stock} (f : Fits start v bs)
       flies m b (inr apart) = flies_same _ _ m _ _ _ _ (marks m b apart) refl (f.flying m b)
 
   -- what is sent, or copied, flies
-  pub fits_put : (e : Event) (n : Name) (frame : Frame) (old new : Stock) → IsName v.setup n → frame.name ≡ n → IsGenuine (algorithm_of v.program v.setup) v.rows frame → old ≡ get_or bs n.to old → Puts None old.flying new.flying n.copy (place_among v.setup.nodes n) (Some frame) → new.waiting ≡ old.waiting → mark_in start (happened v e) n ≡ Flying → SameMarksBut start n v (happened v e) → SameWaiting start v (happened v e) → Fits start (happened v e) (set bs n.to new)
-  fits_put e n frame old new a named genuine h puts d flying marks waits =
+  pub fits_put : (e : Event) (n : Name) (frame : Frame) (old new : Stock) → IsName v.setup n → frame.name ≡ n → IsGenuine (algorithm_of v.program v.setup) v.rows frame → old ≡ get_or bs n.to old → IsSameRun old new → Puts None old.flying new.flying n.copy (place_among v.setup.nodes n) (Some frame) → new.waiting ≡ old.waiting → mark_in start (happened v e) n ≡ Flying → SameMarksBut start n v (happened v e) → SameWaiting start v (happened v e) → Fits start (happened v e) (set bs n.to new)
+  fits_put e n frame old new a named genuine h r puts d flying marks waits =
       let a0 = algorithm_of v.program v.setup in
       let was : stock_at bs n.to ≡ old = stock_read bs n.to old (let s = f.sized in let t = a.to in omega arith) h in
-      fits_mark e n old new (Some frame) a h puts marks
+      fits_mark e n old new (Some frame) a h r puts marks
       (flies_same a0 v.rows n Flying _ (Some frame) (Some frame) flying refl (named, genuine))
       (ap names_in d ∙ ap (λ (b : Stock). names_in b.waiting) (sym was) ∙ f.waiting n.to a.to ∙ sym (waits n.to))
       (All-same (IsGenuine a0 v.rows) _ _ (d ∙ ap (λ (b : Stock). b.waiting) (sym was)) (f.genuine n.to a.to))
@@ -283,26 +307,26 @@ module _ {start : ℕ → ℕ} {v : Log} {bs : List Stock} (f : Fits start v bs)
       flies_same (algorithm_of v.program v.setup) v.rows n _ Flying _ _ (sym fly) (ap (λ (b : Stock). flying_at b n.copy (place_among v.setup.nodes n)) (sym was)) (f.flying n a)
 
   -- a copy in flight goes to those that wait
-  pub fits_move : (n : Name) (old new : Stock) → IsName v.setup n → IsFlying start v n → old ≡ get_or bs n.to old → Puts None old.flying new.flying n.copy (place_among v.setup.nodes n) None → new.waiting ≡ old.waiting ++ option_to_list (flying_at old n.copy (place_among v.setup.nodes n)) → mark_in start (happened v (Release n)) n ≡ let_go (count_of v n.to) (mark_in start v n) → SameMarksBut start n v (happened v (Release n)) → waiting_in start (happened v (Release n)) n.to ≡ waiting_in start v n.to ++ arrival n (mark_in start v n) → SameWaitingBut start n.to v (happened v (Release n)) → Fits start (happened v (Release n)) (set bs n.to new)
-  fits_move n old new a fly h puts d mark marks names waits =
+  pub fits_move : (n : Name) (old new : Stock) → IsName v.setup n → IsFlying start v n → old ≡ get_or bs n.to old → IsSameRun old new → Puts None old.flying new.flying n.copy (place_among v.setup.nodes n) None → new.waiting ≡ old.waiting ++ option_to_list (flying_at old n.copy (place_among v.setup.nodes n)) → mark_in start (happened v (Release n)) n ≡ let_go (count_of v n.to) (mark_in start v n) → SameMarksBut start n v (happened v (Release n)) → waiting_in start (happened v (Release n)) n.to ≡ waiting_in start v n.to ++ arrival n (mark_in start v n) → SameWaitingBut start n.to v (happened v (Release n)) → Fits start (happened v (Release n)) (set bs n.to new)
+  fits_move n old new a fly h r puts d mark marks names waits =
       let a0 = algorithm_of v.program v.setup in
       let was : stock_at bs n.to ≡ old = stock_read bs n.to old (let s = f.sized in let t = a.to in omega arith) h in
       let there = frame_there n old a fly h in
       let released : mark_in start (happened v (Release n)) n ≡ Released (count_of v n.to) = mark ∙ ap (let_go (count_of v n.to)) fly in
       let arrived = arrives a0 v.rows n old.waiting (flying_at old n.copy (place_among v.setup.nodes n)) there in
-      fits_mark (Release n) n old new None a h puts marks
+      fits_mark (Release n) n old new None a h r puts marks
       (flies_same a0 v.rows n (Released (count_of v n.to)) _ None None released refl refl)
       (ap names_in d ∙ arrived.0 ∙ ap (λ x. x ++ n ∷ []) (ap (λ (b : Stock). names_in b.waiting) (sym was) ∙ f.waiting n.to a.to) ∙ ap (λ x. waiting_in start v n.to ++ arrival n x) (sym fly) ∙ sym names)
       (All-same (IsGenuine a0 v.rows) _ _ d (arrived.1 (All-same (IsGenuine a0 v.rows) _ _ (ap (λ (b : Stock). b.waiting) (sym was)) (f.genuine n.to a.to))))
       waits
 
   -- a copy in flight is lost
-  pub fits_lost : (n : Name) (old new : Stock) → IsName v.setup n → IsFlying start v n → old ≡ get_or bs n.to old → Puts None old.flying new.flying n.copy (place_among v.setup.nodes n) None → new.waiting ≡ old.waiting → mark_in start (happened v (Drop n)) n ≡ dropped (mark_in start v n) → SameMarksBut start n v (happened v (Drop n)) → SameWaiting start v (happened v (Drop n)) → Fits start (happened v (Drop n)) (set bs n.to new)
-  fits_lost n old new a fly h puts d mark marks waits =
+  pub fits_lost : (n : Name) (old new : Stock) → IsName v.setup n → IsFlying start v n → old ≡ get_or bs n.to old → IsSameRun old new → Puts None old.flying new.flying n.copy (place_among v.setup.nodes n) None → new.waiting ≡ old.waiting → mark_in start (happened v (Drop n)) n ≡ dropped (mark_in start v n) → SameMarksBut start n v (happened v (Drop n)) → SameWaiting start v (happened v (Drop n)) → Fits start (happened v (Drop n)) (set bs n.to new)
+  fits_lost n old new a fly h r puts d mark marks waits =
       let a0 = algorithm_of v.program v.setup in
       let was : stock_at bs n.to ≡ old = stock_read bs n.to old (let s = f.sized in let t = a.to in omega arith) h in
       let gone : mark_in start (happened v (Drop n)) n ≡ Lost = mark ∙ ap dropped fly in
-      fits_mark (Drop n) n old new None a h puts marks
+      fits_mark (Drop n) n old new None a h r puts marks
       (flies_same a0 v.rows n Lost _ None None gone refl refl)
       (ap names_in d ∙ ap (λ (b : Stock). names_in b.waiting) (sym was) ∙ f.waiting n.to a.to ∙ sym (waits n.to))
       (All-same (IsGenuine a0 v.rows) _ _ (d ∙ ap (λ (b : Stock). b.waiting) (sym was)) (f.genuine n.to a.to))
@@ -339,15 +363,16 @@ module _ {start : ℕ → ℕ} {v : Log} {bs : List Stock} (f : Fits start v bs)
   pub fits_close : (n : NodeView) → n.me < v.setup.nodes → length v.rows ≡ v.setup.nodes → Fits start (closed v n) bs
   fits_close n l long = record {
     sized = f.sized;
+    runs = f.runs;
     waiting = f.waiting;
-    genuine = λ i m. λ k d x. grown_frame (algorithm_of v.program v.setup) v.rows (closed v n).rows n.me (ended n) _ (row_of v.rows n.me (ended n) _ (omega arith)) (f.genuine i m k d x);
-    flying = λ m b. grown_flies (algorithm_of v.program v.setup) v.rows n.me (ended n) m (mark_in start v m) _ (omega arith) (f.flying m b);
+    genuine = λ i m. λ k d x. grown_frame (algorithm_of v.program v.setup) v.rows (closed v n).rows n.me (end_state n) _ (row_of v.rows n.me (end_state n) _ (omega arith)) (f.genuine i m k d x);
+    flying = λ m b. grown_flies (algorithm_of v.program v.setup) v.rows n.me (end_state n) m (mark_in start v m) _ (omega arith) (f.flying m b);
   }
 
 module _ {start : ℕ → ℕ} {v : Log} {bs : List Stock} (f : Fits start v bs) where
   -- a send with its frame, from the room that was made for it
-  pub fits_sent : (p : Ready) (n : Name) (o : Option Frame) (frame : Frame) (place : ℕ) (b0 b1 b2 b3 : Stock) → n ≡ p.name → n.copy ≡ 0 → IsName v.setup p.name → IsPrepared (algorithm_of v.program v.setup) p → IsSendFit start v p → round_of v p.name.from ≡ p.name.round → place ≡ place_among v.setup.nodes n → b0 ≡ get_or bs n.to b0 → SameTables None b0.flying b1.flying → b1.waiting ≡ b0.waiting → o ≡ frame_of p → o ≡ Some frame → b2 ≡ get_or (set bs n.to b1) n.to b2 → Puts None b2.flying b3.flying 0 place (Some frame) → b3.waiting ≡ b2.waiting → mark_in start (happened v (Step p.name.from)) p.name ≡ spoken p.message → SameMarksBut start p.name v (happened v (Step p.name.from)) → SameWaiting start v (happened v (Step p.name.from)) → Fits start (happened v (Step p.name.from)) (set (set bs n.to b1) n.to b3)
-  fits_sent p n o frame place b0 b1 b2 b3 en c a work fit round at h0 same wait is some h2 puts d mark marks waits =
+  pub fits_sent : (p : Ready) (n : Name) (o : Option Frame) (frame : Frame) (place : ℕ) (b0 b1 b2 b3 : Stock) → n ≡ p.name → n.copy ≡ 0 → IsName v.setup p.name → IsPrepared (algorithm_of v.program v.setup) p → IsSendFit start v p → round_of v p.name.from ≡ p.name.round → place ≡ place_among v.setup.nodes n → b0 ≡ get_or bs n.to b0 → IsSameRun b0 b1 → SameTables None b0.flying b1.flying → b1.waiting ≡ b0.waiting → o ≡ frame_of p → o ≡ Some frame → b2 ≡ get_or (set bs n.to b1) n.to b2 → IsSameRun b2 b3 → Puts None b2.flying b3.flying 0 place (Some frame) → b3.waiting ≡ b2.waiting → mark_in start (happened v (Step p.name.from)) p.name ≡ spoken p.message → SameMarksBut start p.name v (happened v (Step p.name.from)) → SameWaiting start v (happened v (Step p.name.from)) → Fits start (happened v (Step p.name.from)) (set (set bs n.to b1) n.to b3)
+  fits_sent p n o frame place b0 b1 b2 b3 en c a work fit round at h0 r0 same wait is some h2 r2 puts d mark marks waits =
       let a0 = algorithm_of v.program v.setup in
       let to : n.to ≡ p.name.to = ap (λ (x : Name). x.to) en in
       let made = frame_made p frame (sym is ∙ some) in
@@ -357,26 +382,26 @@ module _ {start : ℕ → ℕ} {v : Log} {bs : List Stock} (f : Fits start v bs)
       let there : Puts None b2.flying b3.flying p.name.copy (place_among v.setup.nodes p.name) (Some frame) =
       subst (λ (x : Name). Puts None b2.flying b3.flying x.copy (place_among v.setup.nodes x) (Some frame)) en
       (subst (λ (z : ℕ). Puts None b2.flying b3.flying z (place_among v.setup.nodes n) (Some frame)) (sym c) (subst (λ (z : ℕ). Puts None b2.flying b3.flying 0 z (Some frame)) at puts)) in
-      let done = fits_put (fits_kept f n.to b0 b1 (let t = a.to in omega arith) h0 same wait) (Step p.name.from) p.name frame b2 b3 a named genuine
-      (h2 ∙ ap (λ k. get_or (set bs n.to b1) k b2) to) there d (mark ∙ ap spoken made.1) marks waits in
+      let done = fits_put (fits_kept f n.to b0 b1 (let t = a.to in omega arith) h0 r0 same wait) (Step p.name.from) p.name frame b2 b3 a named genuine
+      (h2 ∙ ap (λ k. get_or (set bs n.to b1) k b2) to) r2 there d (mark ∙ ap spoken made.1) marks waits in
       subst (λ (k : ℕ). Fits start (happened v (Step p.name.from)) (set (set bs n.to b1) k b3)) (sym to) done
 
   -- a send with silence, from the room that was made
-  pub fits_hushed : (p : Ready) (n : Name) (o : Option Frame) (b0 b1 : Stock) → n ≡ p.name → IsName v.setup p.name → b0 ≡ get_or bs n.to b0 → SameTables None b0.flying b1.flying → b1.waiting ≡ b0.waiting → o ≡ frame_of p → o ≡ None → mark_in start v p.name ≡ Unsent → mark_in start (happened v (Step p.name.from)) p.name ≡ spoken p.message → SameMarksBut start p.name v (happened v (Step p.name.from)) → SameWaiting start v (happened v (Step p.name.from)) → Fits start (happened v (Step p.name.from)) (set bs n.to b1)
-  fits_hushed p n o b0 b1 en a h0 same wait is none before mark marks waits =
+  pub fits_hushed : (p : Ready) (n : Name) (o : Option Frame) (b0 b1 : Stock) → n ≡ p.name → IsName v.setup p.name → b0 ≡ get_or bs n.to b0 → IsSameRun b0 b1 → SameTables None b0.flying b1.flying → b1.waiting ≡ b0.waiting → o ≡ frame_of p → o ≡ None → mark_in start v p.name ≡ Unsent → mark_in start (happened v (Step p.name.from)) p.name ≡ spoken p.message → SameMarksBut start p.name v (happened v (Step p.name.from)) → SameWaiting start v (happened v (Step p.name.from)) → Fits start (happened v (Step p.name.from)) (set bs n.to b1)
+  fits_hushed p n o b0 b1 en a h0 r0 same wait is none before mark marks waits =
       let to : n.to ≡ p.name.to = ap (λ (x : Name). x.to) en in
-      fits_silent (fits_kept f n.to b0 b1 (let t = a.to in omega arith) h0 same wait) p.name before (mark ∙ ap spoken (silence p (sym is ∙ none))) marks waits
+      fits_silent (fits_kept f n.to b0 b1 (let t = a.to in omega arith) h0 r0 same wait) p.name before (mark ∙ ap spoken (silence p (sym is ∙ none))) marks waits
 
   -- a release of what is in flight, from the room that was made
-  pub fits_moved : (n : Name) (place : ℕ) (b0 b1 b2 b3 : Stock) → IsName v.setup n → IsFlying start v n → place ≡ place_among v.setup.nodes n → b0 ≡ get_or bs n.to b0 → b1.flying ≡ b0.flying → b1.waiting ≡ b0.waiting → b2 ≡ get_or (set bs n.to b1) n.to b2 → Puts None b2.flying b3.flying n.copy place None → b3.waiting ≡ b2.waiting ++ option_to_list (flying_at b2 n.copy place) → mark_in start (happened v (Release n)) n ≡ let_go (count_of v n.to) (mark_in start v n) → SameMarksBut start n v (happened v (Release n)) → waiting_in start (happened v (Release n)) n.to ≡ waiting_in start v n.to ++ arrival n (mark_in start v n) → SameWaitingBut start n.to v (happened v (Release n)) → Fits start (happened v (Release n)) (set (set bs n.to b1) n.to b3)
-  fits_moved n place b0 b1 b2 b3 a fly at h0 same wait h2 e d mark marks names waits =
-      let kept = fits_kept f n.to b0 b1 a.to h0 (λ c k. ap (λ (x : List (List (Option Frame))). read_at None x c k) same) wait in
-      fits_move kept n b2 b3 a fly h2 (subst (λ (z : ℕ). Puts None b2.flying b3.flying n.copy z None) at e) (d ∙ ap (λ k. b2.waiting ++ option_to_list (flying_at b2 n.copy k)) at) mark marks names waits
+  pub fits_moved : (n : Name) (place : ℕ) (b0 b1 b2 b3 : Stock) → IsName v.setup n → IsFlying start v n → place ≡ place_among v.setup.nodes n → b0 ≡ get_or bs n.to b0 → IsSameRun b0 b1 → b1.flying ≡ b0.flying → b1.waiting ≡ b0.waiting → b2 ≡ get_or (set bs n.to b1) n.to b2 → IsSameRun b2 b3 → Puts None b2.flying b3.flying n.copy place None → b3.waiting ≡ b2.waiting ++ option_to_list (flying_at b2 n.copy place) → mark_in start (happened v (Release n)) n ≡ let_go (count_of v n.to) (mark_in start v n) → SameMarksBut start n v (happened v (Release n)) → waiting_in start (happened v (Release n)) n.to ≡ waiting_in start v n.to ++ arrival n (mark_in start v n) → SameWaitingBut start n.to v (happened v (Release n)) → Fits start (happened v (Release n)) (set (set bs n.to b1) n.to b3)
+  fits_moved n place b0 b1 b2 b3 a fly at h0 r0 same wait h2 r2 e d mark marks names waits =
+      let kept = fits_kept f n.to b0 b1 a.to h0 r0 (λ c k. ap (λ (x : List (List (Option Frame))). read_at None x c k) same) wait in
+      fits_move kept n b2 b3 a fly h2 r2 (subst (λ (z : ℕ). Puts None b2.flying b3.flying n.copy z None) at e) (d ∙ ap (λ k. b2.waiting ++ option_to_list (flying_at b2 n.copy k)) at) mark marks names waits
 
   -- the place of what is in flight is in its table
-  pub room_there : (n : Name) (place : ℕ) (b0 b1 b2 : Stock) → IsName v.setup n → IsFlying start v n → place ≡ place_among v.setup.nodes n → b0 ≡ get_or bs n.to b0 → b1.flying ≡ b0.flying → b1.waiting ≡ b0.waiting → b2 ≡ get_or (set bs n.to b1) n.to b2 → HasPlace b2.flying n.copy place
-  room_there n place b0 b1 b2 a fly at h0 same wait h2 =
-      let kept = fits_kept f n.to b0 b1 a.to h0 (λ c k. ap (λ (x : List (List (Option Frame))). read_at None x c k) same) wait in
+  pub room_there : (n : Name) (place : ℕ) (b0 b1 b2 : Stock) → IsName v.setup n → IsFlying start v n → place ≡ place_among v.setup.nodes n → b0 ≡ get_or bs n.to b0 → IsSameRun b0 b1 → b1.flying ≡ b0.flying → b1.waiting ≡ b0.waiting → b2 ≡ get_or (set bs n.to b1) n.to b2 → HasPlace b2.flying n.copy place
+  room_there n place b0 b1 b2 a fly at h0 r0 same wait h2 =
+      let kept = fits_kept f n.to b0 b1 a.to h0 r0 (λ c k. ap (λ (x : List (List (Option Frame))). read_at None x c k) same) wait in
       subst (λ (z : ℕ). HasPlace b2.flying n.copy z) (sym at) (there_in (algorithm_of v.program v.setup) v.rows n b2 n.copy (place_among v.setup.nodes n) (frame_there kept n b2 a fly h2))
 
   pub room_here : (n : Name) (place : ℕ) (b : Stock) → IsName v.setup n → IsFlying start v n → place ≡ place_among v.setup.nodes n → b ≡ get_or bs n.to b → HasPlace b.flying n.copy place
@@ -400,9 +425,28 @@ module _ {start : ℕ → ℕ} {v : Log} {bs : List Stock} (f : Fits start v bs)
       )
 
   -- a copy of what is in flight, from the room that was made
-  pub fits_made : (n : Name) (frame : Frame) (place : ℕ) (b0 b1 b2 b3 : Stock) → IsName v.setup n → CanCopy start v n → frame.name ≡ n → IsGenuine (algorithm_of v.program v.setup) v.rows frame → place ≡ place_among v.setup.nodes n → b0 ≡ get_or bs n.to b0 → SameTables None b0.flying b1.flying → b1.waiting ≡ b0.waiting → b2 ≡ get_or (set bs n.to b1) n.to b2 → Puts None b2.flying b3.flying n.copy place (Some frame) → b3.waiting ≡ b2.waiting → mark_in start (happened v (Copy n)) n ≡ copied (mark_in start v (original n)) (mark_in start v n) → SameMarksBut start n v (happened v (Copy n)) → SameWaiting start v (happened v (Copy n)) → Fits start (happened v (Copy n)) (set (set bs n.to b1) n.to b3)
-  fits_made n frame place b0 b1 b2 b3 a fit named genuine at h0 same wait h2 puts d mark marks waits =
+  pub fits_made : (n : Name) (frame : Frame) (place : ℕ) (b0 b1 b2 b3 : Stock) → IsName v.setup n → CanCopy start v n → frame.name ≡ n → IsGenuine (algorithm_of v.program v.setup) v.rows frame → place ≡ place_among v.setup.nodes n → b0 ≡ get_or bs n.to b0 → IsSameRun b0 b1 → SameTables None b0.flying b1.flying → b1.waiting ≡ b0.waiting → b2 ≡ get_or (set bs n.to b1) n.to b2 → IsSameRun b2 b3 → Puts None b2.flying b3.flying n.copy place (Some frame) → b3.waiting ≡ b2.waiting → mark_in start (happened v (Copy n)) n ≡ copied (mark_in start v (original n)) (mark_in start v n) → SameMarksBut start n v (happened v (Copy n)) → SameWaiting start v (happened v (Copy n)) → Fits start (happened v (Copy n)) (set (set bs n.to b1) n.to b3)
+  fits_made n frame place b0 b1 b2 b3 a fit named genuine at h0 r0 same wait h2 r2 puts d mark marks waits =
       let now = copied_now (mark_in start v (original n)) (mark_in start v n) fit.0 fit.1 in
-      fits_put (fits_kept f n.to b0 b1 a.to h0 same wait) (Copy n) n frame b2 b3 a named genuine h2
+      fits_put (fits_kept f n.to b0 b1 a.to h0 r0 same wait) (Copy n) n frame b2 b3 a named genuine h2 r2
       (subst (λ (z : ℕ). Puts None b2.flying b3.flying n.copy z (Some frame)) at puts) d
       (mark ∙ ap (λ (b : Bool). if b then Flying else mark_in start v n) now) marks waits
+
+-- what is spelt in the recorded run is so in a stock's
+pub run_spells : {start : ℕ → ℕ} {v : Log} {bs : List Stock} → Fits start v bs → (k : ℕ) (b : Stock) (frame : Frame)
+    → k < v.setup.nodes → b ≡ get_or bs k b → Spells (algorithm_of v.program v.setup) frame → Spells (run_of b) frame
+run_spells {start} {v} {bs} f k b frame l h said =
+    let of : IsOfRun v.program v.setup b = subst (IsOfRun v.program v.setup) (sym h) (f.runs k b (let s = f.sized in omega arith)) in
+    subst (λ p. Spells (algorithm_of p b.setup) frame) (sym of.program)
+    (subst (λ s. Spells (algorithm_of v.program s) frame) (sym of.setup) said)
+
+-- also where room was made in it
+pub run_spells_kept : {start : ℕ → ℕ} {v : Log} {bs : List Stock} → Fits start v bs → (k : ℕ) (b0 b1 b2 : Stock) (frame : Frame)
+    → k < v.setup.nodes → b0 ≡ get_or bs k b0 → IsSameRun b0 b1 → b2 ≡ get_or (set bs k b1) k b2
+    → Spells (algorithm_of v.program v.setup) frame → Spells (run_of b2) frame
+run_spells_kept {start} {v} {bs} f k b0 b1 b2 frame l h r h2 said =
+    let is : b2 ≡ b1 = h2 ∙ get_or-set_same bs k b1 b2 (let s = f.sized in omega arith) in
+    let was = run_spells f k b0 frame l h said in
+    subst (λ (b : Stock). Spells (run_of b) frame) (sym is)
+    (subst (λ p. Spells (algorithm_of p b1.setup) frame) (sym r.program)
+    (subst (λ s. Spells (algorithm_of b0.program s) frame) (sym r.setup) was))

@@ -1,26 +1,31 @@
 //! The record of a run with the frames that it names.
-ghost use Rattle.std.specs.Prelude.{◌≡◌, ◌+◌, ◌-◌, ◌*◌, ◌<◌, ◌++◌, ◌↔◌, [], All, IfErr, IfOk, IfSome, IsSome, IsTrue, OnErr, OnOk};
+ghost use Rattle.std.specs.Prelude.{◌≡◌, ◌+◌, ◌-◌, ◌*◌, ◌<◌, ◌++◌, ◌↔◌, [], All, IfErr, IfOk};
+ghost use Rattle.std.specs.Prelude.{IfSome, IsSome, IsTrue, OnErr, OnOk};
 ghost use Rattle.round_meaning.specs.Rounds.{algorithm_of};
 ghost use Rattle.round_meaning.specs.Setups.{IsLawful};
 ghost use Rattle.step_machine.specs.Frames.{IsPrepared, copied_as, original};
-ghost use Rattle.step_journal.specs.Agreed.{IsSaid, JournalAgrees, KeepsClosed};
-ghost use Rattle.step_journal.specs.Agreement.{IsBuffer};
-ghost use Rattle.step_journal.specs.Causes.{CloseCause, IdleCause, IsDueIn, IsKnown, IsReceiveFit, IsSendFit, ReceiveCause, SendCause};
-ghost use Rattle.step_journal.specs.History.{arrival, copied, dropped, let_go, spoken};
-ghost use Rattle.step_journal.specs.Log.{CanCopy, IsFlying, SameMarks, SameMarksBut, SameWaiting, SameWaitingBut, closed, count_of, happened, history, mark_in, opened, round_of, waiting_in, world_of};
-ghost use Rattle.step_journal.specs.Names.{IsName};
-ghost use Rattle.step_journal.specs.Stock.{AreEmpty, IsGenuine, IsMail, names_in, place_among};
+ghost use Rattle.step_book.specs.Agreed.{IsSaid, JournalAgrees, KeepsClosed};
+ghost use Rattle.step_book.specs.Agreement.{IsBuffer};
+ghost use Rattle.step_book.specs.Causes.{CloseCause, IdleCause, IsDueIn, EndsAsRecorded};
+ghost use Rattle.step_book.specs.Causes.{IsReceiveFit, IsSendFit, ReceiveCause, SendCause};
+ghost use Rattle.step_book.specs.Flight.{IsFlight};
+ghost use Rattle.step_book.specs.History.{arrival, copied, dropped, let_go, spoken};
+ghost use Rattle.step_book.specs.Log.{CanCopy, IsFlying, SameMarks, SameMarksBut, SameWaiting};
+ghost use Rattle.step_book.specs.Log.{SameWaitingBut, closed, count_of, happened, history, mark_in};
+ghost use Rattle.step_book.specs.Log.{opened, round_of, waiting_in, world_of};
+ghost use Rattle.step_book.specs.Names.{IsName};
+ghost use Rattle.step_book.specs.Stock.{IsGenuine, IsMail, names_in};
+ghost use Rattle.step_journal.specs.Fits.{AreEmpty, Fits, place_among};
 
-use crate::book::Book;
-use crate::buffer::Buffer;
-use crate::fault::{CloseFault, IdleFault, ReceiveFault, Refused, SendFault};
+use crate::fitting::{fits, place};
 use round_check::Checked;
 use round_lang::NoMemory;
 use round_meaning::Setup;
 use slot_plans::Plan;
 use std::alloc::Global;
 use std::marker::Model;
-use step_machine::{Event, Finished, Name, Prepared, Sealed};
+use step_book::{Book, Buffer, CloseFault, IdleFault, ReceiveFault, Refused};
+use step_machine::{Event, Finished, InFlight, Name, Prepared, Sealed};
 
 /// What a receive handed out, in the order of the releases.
 #[derive(Drop)]
@@ -38,26 +43,27 @@ pub struct Journal<P: Plan> {
 impl<P: Plan> Model for Journal<P> {
     ghost use Rattle.round_lang.specs.contracts.formula.Formula as formula;
     ghost use Rattle.std.specs.Coded.{codes};
-    ghost use Rattle.step_journal.specs.Log.{Recorded};
+    ghost use Rattle.step_book.specs.Log.{Recorded};
 
     ghost Value = { Recorded P };
 
     ghost coded = { Prim.hlevel (codes, formula.the_row.coded) };
 
-    ghost use Rattle.step_journal.specs.Stock.{Fits};
+    ghost use Rattle.step_journal.specs.Fits.{Fits};
 
     ghost view = { λ s. s.book };
 
     ghost invariant = { λ s. Fits (P.start s.book.plan) s.book.log s.buffers.items };
 }
 
-/// As many empty buffers.
-fn no_buffers(alloc: Global, count: u32) -> Result<Vec<Buffer>, NoMemory>
-    ensures { IfOk result (λ buffers. AreEmpty count buffers.items) }
+/// An empty buffer for each node.
+fn no_buffers(alloc: Global, program: &Checked, setup: &Setup) -> Result<Vec<Buffer>, NoMemory>
+    ensures { IfOk result (λ buffers.
+        AreEmpty program.now setup.now setup.now.nodes buffers.items) }
 {
     let mut buffers = Vec::new(alloc);
-    for _node in 0..count {
-        buffers.push(Buffer::new(alloc))?;
+    for _node in 0..setup.nodes {
+        buffers.push(Buffer::new(alloc, program, setup)?)?;
     }
     Ok(buffers)
 }
@@ -72,11 +78,39 @@ impl<P: Plan> Journal<P> {
     ) -> Result<Journal<P>, NoMemory>
         requires lawful { IsLawful program.now.values setup.now }
         requires nodes { P.nodes plan ≡ setup.now.nodes }
-        ensures { IfOk result (λ journal. journal ≡ record { plan = plan; log = opened program.now setup.now }) }
+        ensures { IfOk result (λ journal. journal
+            ≡ record { plan = plan; log = opened program.now setup.now }) }
     {
-        let buffers = no_buffers(alloc, setup.nodes)?;
+        let buffers = no_buffers(alloc, program, setup)?;
         let book = Book::open(alloc, program, setup, plan)?;
         Ok(Journal { book, buffers })
+    }
+
+    /// Its book, and its buffers by node. Takes no memory.
+    pub fn split(self) -> (Book<P>, Vec<Buffer>)
+        ensures book { result.0 ≡ self }
+        ensures fits { Fits (P.start self.plan) self.log result.1.items }
+    {
+        let Journal { book, buffers } = self;
+        (book, buffers)
+    }
+
+    /// The journal of a book with its buffers, for which [`Journal::fits`] is the test. Takes no
+    /// memory.
+    pub fn join(book: Book<P>, buffers: Vec<Buffer>) -> Journal<P>
+        requires { Fits (P.start book.plan) book.log buffers.items }
+        ensures { result ≡ book }
+    {
+        Journal { book, buffers }
+    }
+
+    /// Whether the buffers are of the book's run, one for each node, and hold the frames that it
+    /// names, each of its sender's recorded state. Takes no memory, and looks at each message of
+    /// the run.
+    pub fn fits(book: &Book<P>, buffers: &[Buffer]) -> bool
+        ensures { IsTrue result ↔ Fits (P.start book.now.plan) book.now.log buffers.now }
+    {
+        fits(book, buffers)
     }
 
     /// Makes room for so many events more, so that recording them moves none of those before.
@@ -96,7 +130,9 @@ impl<P: Plan> Journal<P> {
     /// What is recorded agrees with the run in rounds: the messages, the states, the closed and due
     /// rounds, what is in flight, and what waits.
     pub fn agrees(&self)
-        ensures { JournalAgrees (P.start self.now.plan) self.now.log (mark_in (P.start self.now.plan) self.now.log) (waiting_in (P.start self.now.plan) self.now.log) }
+        ensures { JournalAgrees (P.start self.now.plan) self.now.log
+            (mark_in (P.start self.now.plan) self.now.log)
+            (waiting_in (P.start self.now.plan) self.now.log) }
     {
         self.book.agrees_by_places();
     }
@@ -117,11 +153,20 @@ impl<P: Plan> Journal<P> {
         requires { IsName self.now.log.setup name }
         ensures there { IsSome result ↔ IsFlying (P.start self.now.plan) self.now.log name }
         ensures named { IfSome result (λ frame. frame.now.name ≡ name) }
-        ensures said { IfSome result (λ frame. IsSaid (P.start self.now.plan) self.now.log frame.now) }
+        ensures said { IfSome result
+            (λ frame. IsSaid (P.start self.now.plan) self.now.log frame.now) }
     {
         self.book.agrees();
         let buffer = &self.buffers[name.to as usize];
         buffer.flying(name.copy, self.place(name))
+    }
+
+    /// The copies in flight, by their messages' serials and then by their copy numbers.
+    pub fn flight(&self, alloc: Global) -> Result<Vec<InFlight>, NoMemory>
+        ensures { IfOk result (λ flight.
+            IsFlight (P.start self.now.plan) self.now.log flight.items) }
+    {
+        self.book.flight(alloc)
     }
 
     /// The place of a message among those to its receiver.
@@ -129,22 +174,26 @@ impl<P: Plan> Journal<P> {
         requires { IsName self.now.log.setup name }
         ensures { result ≡ place_among self.now.log.setup.nodes name }
     {
-        let nodes = self.book.setup().nodes as usize;
-        (name.round as usize - 1) * nodes + name.from as usize
+        place(&self.book, name)
     }
 
     /// A send step: the message is in flight, or there was silence.
     pub fn send(&mut self, prepared: Prepared) -> Result<(), Refused>
         requires name { IsName self.old.log.setup prepared.name }
         requires work { IsPrepared (algorithm_of self.old.log.program self.old.log.setup) prepared }
-        ensures ok { OnOk result (self.new ≡ record self.old { log = happened self.old.log (Event.Step prepared.name.from) }) }
+        ensures ok { OnOk result (self.new
+            ≡ record self.old { log = happened self.old.log (Event.Step prepared.name.from) }) }
         ensures err { OnErr result (self.new ≡ self.old) }
-        ensures cause { IfErr result (λ refused. SendCause (P.start self.old.plan) self.old.log prepared refused.fault) }
+        ensures cause { IfErr result
+            (λ refused. SendCause (P.start self.old.plan) self.old.log prepared refused.fault) }
         ensures back { IfErr result (λ refused. refused.prepared ≡ prepared) }
         ensures fit { OnOk result (IsSendFit (P.start self.old.plan) self.old.log prepared) }
-        ensures sent { OnOk result (mark_in (P.start self.old.plan) self.new.log prepared.name ≡ spoken prepared.message) }
-        ensures marks { OnOk result (SameMarksBut (P.start self.old.plan) prepared.name self.old.log self.new.log) }
-        ensures waiting { OnOk result (SameWaiting (P.start self.old.plan) self.old.log self.new.log) }
+        ensures sent { OnOk result
+            (mark_in (P.start self.old.plan) self.new.log prepared.name ≡ spoken prepared.message) }
+        ensures marks { OnOk result
+            (SameMarksBut (P.start self.old.plan) prepared.name self.old.log self.new.log) }
+        ensures waiting { OnOk result
+            (SameWaiting (P.start self.old.plan) self.old.log self.new.log) }
         ensures kept { OnOk result (KeepsClosed (P.start self.old.plan) self.old.log self.new.log) }
     {
         if let Some(fault) = self.book.refuses_send(&prepared) {
@@ -174,18 +223,26 @@ impl<P: Plan> Journal<P> {
     /// A receive step: every frame that was released to the node and not yet taken.
     pub fn receive(&mut self, node: u32) -> Result<Took, ReceiveFault>
         requires { node < self.old.log.setup.nodes }
-        ensures ok { OnOk result (self.new ≡ record self.old { log = happened self.old.log (Event.Step node) }) }
+        ensures ok { OnOk result
+            (self.new ≡ record self.old { log = happened self.old.log (Event.Step node) }) }
         ensures err { OnErr result (self.new ≡ self.old) }
         ensures cause { IfErr result (ReceiveCause (P.start self.old.plan) self.old.log node) }
         ensures fit { OnOk result (IsReceiveFit (P.start self.old.plan) self.old.log node) }
-        ensures names { IfOk result (λ took. names_in took.frames.items ≡ waiting_in (P.start self.old.plan) self.old.log node) }
-        ensures once { IfOk result (λ took. IsBuffer (world_of (P.start self.old.plan) self.old.log) (history self.old.log) node (names_in took.frames.items)) }
-        ensures genuine { IfOk result (λ took. All (IsGenuine (algorithm_of self.old.log.program self.old.log.setup) self.old.log.rows) took.frames.items) }
-        ensures mail { IfOk result (λ took. All (IsMail (algorithm_of self.old.log.program self.old.log.setup) self.old.log.setup.nodes node) took.frames.items) }
-        ensures said { IfOk result (λ took. All (IsSaid (P.start self.old.plan) self.old.log) took.frames.items) }
+        ensures names { IfOk result (λ took. names_in took.frames.items
+            ≡ waiting_in (P.start self.old.plan) self.old.log node) }
+        ensures once { IfOk result (λ took. IsBuffer (world_of (P.start self.old.plan) self.old.log)
+            (history self.old.log) node (names_in took.frames.items)) }
+        ensures genuine { IfOk result (λ took.
+            All (IsGenuine (algorithm_of self.old.log.program self.old.log.setup) self.old.log.rows)
+            took.frames.items) }
+        ensures mail { IfOk result (λ took. All (IsMail (algorithm_of self.old.log.program
+            self.old.log.setup) self.old.log.setup.nodes node) took.frames.items) }
+        ensures said { IfOk result
+            (λ took. All (IsSaid (P.start self.old.plan) self.old.log) took.frames.items) }
         ensures marks { OnOk result (SameMarks (P.start self.old.plan) self.old.log self.new.log) }
         ensures taken { OnOk result (waiting_in (P.start self.old.plan) self.new.log node ≡ []) }
-        ensures waiting { OnOk result (SameWaitingBut (P.start self.old.plan) node self.old.log self.new.log) }
+        ensures waiting { OnOk result
+            (SameWaitingBut (P.start self.old.plan) node self.old.log self.new.log) }
         ensures kept { OnOk result (KeepsClosed (P.start self.old.plan) self.old.log self.new.log) }
     {
         self.book.agrees();
@@ -198,15 +255,21 @@ impl<P: Plan> Journal<P> {
     /// A release: true where a copy went from flight to its buffer.
     pub fn release(&mut self, name: Name) -> Result<bool, NoMemory>
         requires { IsName self.old.log.setup name }
-        ensures ok { OnOk result (self.new ≡ record self.old { log = happened self.old.log (Event.Release name) }) }
+        ensures ok { OnOk result
+            (self.new ≡ record self.old { log = happened self.old.log (Event.Release name) }) }
         ensures err { OnErr result (self.new ≡ self.old) }
-        ensures moved { IfOk result (λ moved. IsTrue moved ↔ IsFlying (P.start self.old.plan) self.old.log name) }
+        ensures moved { IfOk result (λ moved. IsTrue moved
+            ↔ IsFlying (P.start self.old.plan) self.old.log name) }
         ensures released { OnOk result (mark_in (P.start self.old.plan) self.new.log name
-            ≡ let_go (count_of self.old.log name.to) (mark_in (P.start self.old.plan) self.old.log name)) }
-        ensures marks { OnOk result (SameMarksBut (P.start self.old.plan) name self.old.log self.new.log) }
+            ≡ let_go (count_of self.old.log name.to)
+            (mark_in (P.start self.old.plan) self.old.log name)) }
+        ensures marks { OnOk result
+            (SameMarksBut (P.start self.old.plan) name self.old.log self.new.log) }
         ensures arrived { OnOk result (waiting_in (P.start self.old.plan) self.new.log name.to
-            ≡ waiting_in (P.start self.old.plan) self.old.log name.to ++ arrival name (mark_in (P.start self.old.plan) self.old.log name)) }
-        ensures waiting { OnOk result (SameWaitingBut (P.start self.old.plan) name.to self.old.log self.new.log) }
+            ≡ waiting_in (P.start self.old.plan) self.old.log name.to
+            ++ arrival name (mark_in (P.start self.old.plan) self.old.log name)) }
+        ensures waiting { OnOk result
+            (SameWaitingBut (P.start self.old.plan) name.to self.old.log self.new.log) }
         ensures kept { OnOk result (KeepsClosed (P.start self.old.plan) self.old.log self.new.log) }
     {
         let place = self.place(name);
@@ -224,13 +287,17 @@ impl<P: Plan> Journal<P> {
     /// A drop: true where a copy was in flight; its frame is gone.
     pub fn drop_frame(&mut self, name: Name) -> Result<bool, NoMemory>
         requires { IsName self.old.log.setup name }
-        ensures ok { OnOk result (self.new ≡ record self.old { log = happened self.old.log (Event.Drop name) }) }
+        ensures ok { OnOk result
+            (self.new ≡ record self.old { log = happened self.old.log (Event.Drop name) }) }
         ensures err { OnErr result (self.new ≡ self.old) }
-        ensures lost { IfOk result (λ lost. IsTrue lost ↔ IsFlying (P.start self.old.plan) self.old.log name) }
+        ensures lost { IfOk result (λ lost. IsTrue lost
+            ↔ IsFlying (P.start self.old.plan) self.old.log name) }
         ensures dropped { OnOk result (mark_in (P.start self.old.plan) self.new.log name
             ≡ dropped (mark_in (P.start self.old.plan) self.old.log name)) }
-        ensures marks { OnOk result (SameMarksBut (P.start self.old.plan) name self.old.log self.new.log) }
-        ensures waiting { OnOk result (SameWaiting (P.start self.old.plan) self.old.log self.new.log) }
+        ensures marks { OnOk result
+            (SameMarksBut (P.start self.old.plan) name self.old.log self.new.log) }
+        ensures waiting { OnOk result
+            (SameWaiting (P.start self.old.plan) self.old.log self.new.log) }
         ensures kept { OnOk result (KeepsClosed (P.start self.old.plan) self.old.log self.new.log) }
     {
         let place = self.place(name);
@@ -248,13 +315,18 @@ impl<P: Plan> Journal<P> {
     pub fn copy_frame(&mut self, name: Name) -> Result<bool, NoMemory>
         requires name { IsName self.old.log.setup name }
         requires other { 0 < name.copy }
-        ensures ok { OnOk result (self.new ≡ record self.old { log = happened self.old.log (Event.Copy name) }) }
+        ensures ok { OnOk result
+            (self.new ≡ record self.old { log = happened self.old.log (Event.Copy name) }) }
         ensures err { OnErr result (self.new ≡ self.old) }
-        ensures made { IfOk result (λ made. IsTrue made ↔ CanCopy (P.start self.old.plan) self.old.log name) }
+        ensures made { IfOk result (λ made. IsTrue made
+            ↔ CanCopy (P.start self.old.plan) self.old.log name) }
         ensures copied { OnOk result (mark_in (P.start self.old.plan) self.new.log name
-            ≡ copied (mark_in (P.start self.old.plan) self.old.log (original name)) (mark_in (P.start self.old.plan) self.old.log name)) }
-        ensures marks { OnOk result (SameMarksBut (P.start self.old.plan) name self.old.log self.new.log) }
-        ensures waiting { OnOk result (SameWaiting (P.start self.old.plan) self.old.log self.new.log) }
+            ≡ copied (mark_in (P.start self.old.plan) self.old.log (original name))
+            (mark_in (P.start self.old.plan) self.old.log name)) }
+        ensures marks { OnOk result
+            (SameMarksBut (P.start self.old.plan) name self.old.log self.new.log) }
+        ensures waiting { OnOk result
+            (SameWaiting (P.start self.old.plan) self.old.log self.new.log) }
         ensures kept { OnOk result (KeepsClosed (P.start self.old.plan) self.old.log self.new.log) }
     {
         let Some(frame) = self.copy_of(name)? else {
@@ -276,9 +348,11 @@ impl<P: Plan> Journal<P> {
     /// The frame of a copy, where copy 0 is in flight.
     fn copy_of(&self, name: Name) -> Result<Option<Sealed>, NoMemory>
         requires { IsName self.now.log.setup name }
-        ensures there { IfOk result (λ o. IsSome o ↔ IsFlying (P.start self.now.plan) self.now.log (original name)) }
+        ensures there { IfOk result (λ o. IsSome o
+            ↔ IsFlying (P.start self.now.plan) self.now.log (original name)) }
         ensures named { IfOk result (λ o. IfSome o (λ frame. frame.name ≡ name)) }
-        ensures genuine { IfOk result (λ o. IfSome o (λ frame. IsGenuine (algorithm_of self.now.log.program self.now.log.setup) self.now.log.rows frame)) }
+        ensures genuine { IfOk result (λ o. IfSome o (λ frame. IsGenuine
+            (algorithm_of self.now.log.program self.now.log.setup) self.now.log.rows frame)) }
     {
         let buffer = &self.buffers[name.to as usize];
         match buffer.flying(0, self.place(name)) {
@@ -291,11 +365,14 @@ impl<P: Plan> Journal<P> {
     pub fn close(&mut self, finished: &Finished<'_>) -> Result<(), CloseFault>
         requires program { finished.now.node.now.program ≡ self.old.log.program }
         requires setup { finished.now.node.now.setup ≡ self.old.log.setup }
-        ensures ok { OnOk result (self.new ≡ record self.old { log = closed self.old.log finished.now.node.now }) }
+        ensures ok { OnOk result
+            (self.new ≡ record self.old { log = closed self.old.log finished.now.node.now }) }
         ensures err { OnErr result (self.new ≡ self.old) }
-        ensures cause { IfErr result (CloseCause (P.start self.old.plan) self.old.log finished.now.node.now) }
-        ensures fit { OnOk result (IsDueIn (P.start self.old.plan) self.old.log finished.now.node.now
-            × IsKnown (P.start self.old.plan) self.old.log finished.now.node.now) }
+        ensures cause { IfErr result
+            (CloseCause (P.start self.old.plan) self.old.log finished.now.node.now) }
+        ensures fit { OnOk result
+            (IsDueIn (P.start self.old.plan) self.old.log finished.now.node.now
+            × EndsAsRecorded (P.start self.old.plan) self.old.log finished.now.node.now) }
         ensures kept { OnOk result (KeepsClosed (P.start self.old.plan) self.old.log self.new.log) }
     {
         self.book.agrees();
@@ -307,12 +384,14 @@ impl<P: Plan> Journal<P> {
     /// A step after the last round.
     pub fn idle_step(&mut self, node: u32) -> Result<(), IdleFault>
         requires { node < self.old.log.setup.nodes }
-        ensures ok { OnOk result (self.new ≡ record self.old { log = happened self.old.log (Event.Step node) }) }
+        ensures ok { OnOk result
+            (self.new ≡ record self.old { log = happened self.old.log (Event.Step node) }) }
         ensures err { OnErr result (self.new ≡ self.old) }
         ensures cause { IfErr result (IdleCause self.old.log node) }
         ensures fit { OnOk result (self.old.log.setup.rounds < round_of self.old.log node) }
         ensures marks { OnOk result (SameMarks (P.start self.old.plan) self.old.log self.new.log) }
-        ensures waiting { OnOk result (SameWaiting (P.start self.old.plan) self.old.log self.new.log) }
+        ensures waiting { OnOk result
+            (SameWaiting (P.start self.old.plan) self.old.log self.new.log) }
         ensures kept { OnOk result (KeepsClosed (P.start self.old.plan) self.old.log self.new.log) }
     {
         self.book.idle_step(node)?;

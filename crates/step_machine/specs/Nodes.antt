@@ -1,5 +1,6 @@
 -- A node, as contracts see it, and what it ends a round with.
-use Rattle.std.specs.Prelude.{◌≡◌, ℕ, suc, ◌+◌, ◌-◌, ◌<◌, ◌≤◌, List, [], Option, Some, None, IsSome, length, option_map, slice_index_or, slice_set}
+use Rattle.std.specs.Prelude.{◌≡◌, ℕ, suc, ◌+◌, ◌-◌, ◌<◌, ◌≤◌, List, [], Option, Some, None, IsSome}
+use Rattle.std.specs.Prelude.{length, option_map, slice_index_or, slice_set}
 use Rattle.std.specs.Option.{ForSome}
 use Rattle.std.specs.List.{filter_map}
 use Rattle.round_lang.specs.declared.value.Value.{Value}
@@ -30,7 +31,8 @@ algorithm_in n = algorithm_of n.program n.setup
 
 -- what the node says to another in its round
 abbrev pub said_to : NodeView → ℕ → Saying
-said_to n dest = record { state = n.state; message = (algorithm_in n).send n.round n.state n.me dest }
+said_to n dest =
+    record { state = n.state; message = (algorithm_in n).send n.round n.state n.me dest }
 
 -- in its round the node says this to every node
 abbrev pub IsToldToAll : NodeView → Saying → Type 0
@@ -46,7 +48,8 @@ held_now n = held_of n 0
 
 -- the frames as an inbox, in rising order of sender
 abbrev pub inbox_of : HeldRow → List Received
-inbox_of held = filter_map (λ (o : Option Frame). option_map (λ (f : Frame). record { from = f.name.from; message = f.message }) o) held
+inbox_of held = filter_map (λ (o : Option Frame).
+    option_map (λ (f : Frame). record { from = f.name.from; message = f.message }) o) held
 
 -- a frame of round r from j to i that says what its state sends
 pub record IsFrom (a : Algorithm) (j i r : ℕ) (f : Frame) : Type 0 where

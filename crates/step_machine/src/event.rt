@@ -39,5 +39,5 @@ pub enum Event {
 pub struct InFlight {
     pub name: Name,
     pub sent_at: u32,
-    pub serial: u32,
+    pub serial: usize,
 }

@@ -1,5 +1,6 @@
 //! The frames of one round that a node holds.
-ghost use Rattle.std.specs.Prelude.{◌≡◌, ◌↔◌, ◌<◌, ℕ, IfOk, IsSome, IsTrue, None, Some, length, replicate, slice_set};
+ghost use Rattle.std.specs.Prelude.{◌≡◌, ◌↔◌, ◌<◌, ℕ, IfOk, IsSome, IsTrue, None, Some, length};
+ghost use Rattle.std.specs.Prelude.{replicate, slice_set};
 ghost use Rattle.step_machine.specs.Frames.{held_at};
 
 use crate::sealed::Sealed;

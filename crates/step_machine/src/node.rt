@@ -1,11 +1,13 @@
 //! A node.
 ghost use Rattle.std.specs.Arc.{arc_value};
 ghost use Rattle.std.specs.Borrow.{sem};
-ghost use Rattle.std.specs.Prelude.{◌≡◌, ◌≢◌, suc, ◌+◌, ◌<◌, ◌≤◌, ◌↔◌, IfOk, IsSome, None, option_map, replicate};
+ghost use Rattle.std.specs.Prelude.{◌≡◌, ◌≢◌, suc, ◌+◌, ◌<◌, ◌≤◌, ◌↔◌, IfOk, IsSome, None};
+ghost use Rattle.std.specs.Prelude.{option_map, replicate};
 ghost use Rattle.round_meaning.specs.Rounds.{algorithm_of};
 ghost use Rattle.round_meaning.specs.Setups.{IsSized};
 ghost use Rattle.step_machine.specs.Frames.{Spells};
-ghost use Rattle.step_machine.specs.Nodes.{HasSettled, IsDoubled, IsEnd, IsSameTurn, ahead, algorithm_in, held_now, held_with, inbox_of, said_to};
+ghost use Rattle.step_machine.specs.Nodes.{HasSettled, IsDoubled, IsEnd, IsSameTurn, ahead};
+ghost use Rattle.step_machine.specs.Nodes.{algorithm_in, held_now, held_with, inbox_of, said_to};
 
 mod finished;
 
@@ -174,7 +176,8 @@ impl Node {
         ensures late { (result ≡ Taken.Late) ↔ (frame.name.round < self.old.round) }
         ensures early { (result ≡ Taken.Early) ↔ (self.old.round + ahead < frame.name.round) }
         ensures doubled { (result ≡ Taken.Doubled) ↔ IsDoubled self.old frame }
-        ensures kept { (result ≡ Taken.Kept) → self.new ≡ record self.old { held = held_with self.old frame } }
+        ensures kept { (result ≡ Taken.Kept)
+            → self.new ≡ record self.old { held = held_with self.old frame } }
         ensures dropped { (result ≢ Taken.Kept) → self.new ≡ self.old }
     {
         let name = frame.name();
@@ -207,7 +210,8 @@ impl Node {
     /// The state after the round.
     fn next_state(&mut self) -> Result<Arc<Vars>, NoMemory>
         ensures state { IfOk result (λ s. arc_value s
-            ≡ (algorithm_in self.old).end self.old.round self.old.me (inbox_of (held_now self.old)) self.old.state) }
+            ≡ (algorithm_in self.old).end self.old.round self.old.me
+            (inbox_of (held_now self.old)) self.old.state) }
         ensures same { self.new ≡ self.old }
     {
         let next = self.machine.end(

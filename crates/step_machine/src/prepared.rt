@@ -22,7 +22,11 @@ impl Model for Prepared {
 
     ghost Value = { Ready };
 
-    ghost view = { λ s. record { name = s.name; state = (arc_value s.said).state; message = (arc_value s.said).message } };
+    ghost view = { λ s. record {
+      name = s.name;
+      state = (arc_value s.said).state;
+      message = (arc_value s.said).message;
+    } };
 
     ghost invariant = { λ s. s.name.copy ≡ 0 };
 }
@@ -33,7 +37,11 @@ impl Prepared {
 
     pub(crate) fn new(name: Name, said: Arc<Said>) -> Prepared
         requires { name.copy ≡ 0 }
-        ensures { result ≡ record { name = name; state = (arc_value said).state; message = (arc_value said).message } }
+        ensures { result ≡ record {
+          name = name;
+          state = (arc_value said).state;
+          message = (arc_value said).message;
+        } }
     {
         Prepared { name, said }
     }

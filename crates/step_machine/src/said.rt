@@ -37,7 +37,8 @@ impl Said {
 
     /// The message, none for silence.
     pub(crate) fn message(&self) -> Option<&Message>
-        ensures { MatchOption result (self.now.message ≡ None) (λ m. self.now.message ≡ Some m.now) }
+        ensures { MatchOption result (self.now.message ≡ None)
+            (λ m. self.now.message ≡ Some m.now) }
     {
         self.message.as_ref()
     }

@@ -8,8 +8,8 @@ use round_lang::{Message, NoMemory, Vars};
 use std::marker::Model;
 use std::sync::Arc;
 
-/// A message under its name, with the state that its sender was in. Both are shared, since one state
-/// sends many messages, and often the same to all.
+/// A message under its name, with the state that its sender was in. Both are shared, since one
+/// state sends many messages, and often the same to all.
 #[derive(Drop)]
 pub struct Sealed {
     name: Name,
@@ -23,7 +23,11 @@ impl Model for Sealed {
 
     ghost Value = { Frame };
 
-    ghost view = { λ s. record { name = s.name; state = (arc_value s.said).state; message = message_in (arc_value s.said) } };
+    ghost view = { λ s. record {
+      name = s.name;
+      state = (arc_value s.said).state;
+      message = message_in (arc_value s.said);
+    } };
 
     ghost invariant = { λ s. IsSome (arc_value s.said).message };
 }
@@ -35,7 +39,11 @@ impl Sealed {
 
     pub(crate) fn new(name: Name, said: Arc<Said>) -> Sealed
         requires { IsSome (arc_value said).message }
-        ensures { result ≡ record { name = name; state = (arc_value said).state; message = message_in (arc_value said) } }
+        ensures { result ≡ record {
+          name = name;
+          state = (arc_value said).state;
+          message = message_in (arc_value said);
+        } }
     {
         Sealed { name, said }
     }

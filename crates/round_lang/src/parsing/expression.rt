@@ -63,7 +63,8 @@ fn at_level<'t, 'a>(
     tokens: &'t [Token<'a>],
 ) -> Nested<'t, 'a>
     requires { inner < MAX_NESTING }
-    ensures gives { Gives expr_found result (reading.level_at (reading.parse inner) (suc inner) level (lexemes tokens.now)) }
+    ensures gives { Gives expr_found result
+        (reading.level_at (reading.parse inner) (suc inner) level (lexemes tokens.now)) }
     ensures nests { IfOk result (λ x. x.1 ≤ suc inner) }
 {
     match level {
@@ -89,7 +90,8 @@ fn closed<'t, 'a>(
     tokens: &'t [Token<'a>],
 ) -> Nested<'t, 'a>
     requires { inner < MAX_NESTING }
-    ensures gives { Gives expr_found result (reading.closed (reading.parse inner) (suc inner) mark (lexemes tokens.now)) }
+    ensures gives { Gives expr_found result
+        (reading.closed (reading.parse inner) (suc inner) mark (lexemes tokens.now)) }
     ensures nests { IfOk result (λ x. x.1 ≤ inner) }
 {
     let (expr, depth, rest) = read(parser, inner, Level::Whole, tokens)?;
@@ -101,7 +103,8 @@ fn closed<'t, 'a>(
 #[tactic(auto, unfolding(crate::specs::Reading::chosen, crate::specs::Reading::choice))]
 fn whole<'t, 'a>(parser: Parser, inner: usize, tokens: &'t [Token<'a>]) -> Nested<'t, 'a>
     requires { inner < MAX_NESTING }
-    ensures gives { Gives expr_found result (reading.level_at (reading.parse inner) (suc inner) Level.Whole (lexemes tokens.now)) }
+    ensures gives { Gives expr_found result
+        (reading.level_at (reading.parse inner) (suc inner) Level.Whole (lexemes tokens.now)) }
     ensures nests { IfOk result (λ x. x.1 ≤ suc inner) }
 {
     match after(Mark::If, tokens) {
@@ -130,7 +133,8 @@ fn chain<'t, 'a>(
 ) -> Nested<'t, 'a>
     requires room { inner < MAX_NESTING }
     requires chain { IsChainLevel level }
-    ensures gives { Gives expr_found result (reading.level_at (reading.parse inner) (suc inner) level (lexemes tokens.now)) }
+    ensures gives { Gives expr_found result
+        (reading.level_at (reading.parse inner) (suc inner) level (lexemes tokens.now)) }
     ensures nests { IfOk result (λ x. x.1 ≤ suc inner) }
 {
     let (mut left, mut depth, mut rest) = at_level(parser, inner, tighter(level), tokens)?;
@@ -150,7 +154,8 @@ fn chain<'t, 'a>(
 #[tactic(auto, unfolding(crate::specs::Reading::comparisons, crate::specs::Reading::compared, crate::specs::Reading::operand))]
 fn comparison<'t, 'a>(parser: Parser, inner: usize, tokens: &'t [Token<'a>]) -> Nested<'t, 'a>
     requires { inner < MAX_NESTING }
-    ensures gives { Gives expr_found result (reading.level_at (reading.parse inner) (suc inner) Level.Comparison (lexemes tokens.now)) }
+    ensures gives { Gives expr_found result
+        (reading.level_at (reading.parse inner) (suc inner) Level.Comparison (lexemes tokens.now)) }
     ensures nests { IfOk result (λ x. x.1 ≤ suc inner) }
 {
     let (left, depth, rest) = at_level(parser, inner, Level::Sum, tokens)?;
@@ -171,7 +176,8 @@ fn comparison<'t, 'a>(parser: Parser, inner: usize, tokens: &'t [Token<'a>]) -> 
 #[tactic(auto, unfolding(crate::specs::Reading::negations, crate::specs::Reading::negated))]
 fn negation<'t, 'a>(parser: Parser, inner: usize, tokens: &'t [Token<'a>]) -> Nested<'t, 'a>
     requires { inner < MAX_NESTING }
-    ensures gives { Gives expr_found result (reading.level_at (reading.parse inner) (suc inner) Level.Negation (lexemes tokens.now)) }
+    ensures gives { Gives expr_found result
+        (reading.level_at (reading.parse inner) (suc inner) Level.Negation (lexemes tokens.now)) }
     ensures nests { IfOk result (λ x. x.1 ≤ suc inner) }
 {
     match after(Mark::Not, tokens) {
@@ -188,7 +194,8 @@ fn negation<'t, 'a>(parser: Parser, inner: usize, tokens: &'t [Token<'a>]) -> Ne
 #[tactic(auto, unfolding(crate::specs::Reading::postfixes, crate::specs::Reading::postfixed, crate::specs::Reading::indexed))]
 fn postfix<'t, 'a>(parser: Parser, inner: usize, tokens: &'t [Token<'a>]) -> Nested<'t, 'a>
     requires { inner < MAX_NESTING }
-    ensures gives { Gives expr_found result (reading.level_at (reading.parse inner) (suc inner) Level.Postfix (lexemes tokens.now)) }
+    ensures gives { Gives expr_found result
+        (reading.level_at (reading.parse inner) (suc inner) Level.Postfix (lexemes tokens.now)) }
     ensures nests { IfOk result (λ x. x.1 ≤ suc inner) }
 {
     let (row, depth, rest) = at_level(parser, inner, Level::Atom, tokens)?;
@@ -209,7 +216,8 @@ fn postfix<'t, 'a>(parser: Parser, inner: usize, tokens: &'t [Token<'a>]) -> Nes
 #[tactic(auto, unfolding(crate::specs::Reading::atom))]
 fn atom<'t, 'a>(parser: Parser, inner: usize, tokens: &'t [Token<'a>]) -> Nested<'t, 'a>
     requires { inner < MAX_NESTING }
-    ensures gives { Gives expr_found result (reading.atom (reading.parse inner) (suc inner) (lexemes tokens.now)) }
+    ensures gives { Gives expr_found result
+        (reading.atom (reading.parse inner) (suc inner) (lexemes tokens.now)) }
     ensures nests { IfOk result (λ x. x.1 ≤ suc inner) }
 {
     match tokens {
@@ -244,7 +252,8 @@ fn call<'t, 'a>(
     tokens: &'t [Token<'a>],
 ) -> Nested<'t, 'a>
     requires { inner < MAX_NESTING }
-    ensures gives { Gives expr_found result (reading.called (reading.parse inner) (suc inner) operator (lexemes tokens.now)) }
+    ensures gives { Gives expr_found result
+        (reading.called (reading.parse inner) (suc inner) operator (lexemes tokens.now)) }
     ensures nests { IfOk result (λ x. x.1 ≤ suc inner) }
 {
     if inner == 0 {
@@ -260,7 +269,8 @@ fn call<'t, 'a>(
 #[tactic(auto, unfolding(crate::specs::Reading::has))]
 fn has<'t, 'a>(parser: Parser, inner: usize, tokens: &'t [Token<'a>]) -> Nested<'t, 'a>
     requires { inner < MAX_NESTING }
-    ensures gives { Gives expr_found result (reading.has (reading.parse inner) (suc inner) (lexemes tokens.now)) }
+    ensures gives { Gives expr_found result
+        (reading.has (reading.parse inner) (suc inner) (lexemes tokens.now)) }
     ensures nests { IfOk result (λ x. x.1 ≤ suc inner) }
 {
     if inner == 0 {
@@ -278,7 +288,8 @@ fn has<'t, 'a>(parser: Parser, inner: usize, tokens: &'t [Token<'a>]) -> Nested<
 #[tactic(auto, unfolding(crate::specs::Reading::brackets))]
 fn brackets<'t, 'a>(parser: Parser, inner: usize, tokens: &'t [Token<'a>]) -> Nested<'t, 'a>
     requires { inner < MAX_NESTING }
-    ensures gives { Gives expr_found result (reading.brackets (reading.parse inner) (suc inner) (lexemes tokens.now)) }
+    ensures gives { Gives expr_found result
+        (reading.brackets (reading.parse inner) (suc inner) (lexemes tokens.now)) }
     ensures nests { IfOk result (λ x. x.1 ≤ suc inner) }
 {
     let (expr, depth, rest) = closed(parser, inner, Mark::Close, tokens)?;
@@ -290,7 +301,8 @@ fn brackets<'t, 'a>(parser: Parser, inner: usize, tokens: &'t [Token<'a>]) -> Ne
 #[tactic(auto, unfolding(crate::specs::Reading::comprehension))]
 fn set_of<'t, 'a>(parser: Parser, inner: usize, tokens: &'t [Token<'a>]) -> Nested<'t, 'a>
     requires { inner < MAX_NESTING }
-    ensures gives { Gives expr_found result (reading.comprehension (reading.parse inner) (suc inner) TSetOf Mark.CloseCurly (lexemes tokens.now)) }
+    ensures gives { Gives expr_found result (reading.comprehension (reading.parse inner)
+        (suc inner) TSetOf Mark.CloseCurly (lexemes tokens.now)) }
     ensures nests { IfOk result (λ x. x.1 ≤ suc inner) }
 {
     if inner == 0 {
@@ -309,7 +321,8 @@ fn set_of<'t, 'a>(parser: Parser, inner: usize, tokens: &'t [Token<'a>]) -> Nest
 #[tactic(auto, unfolding(crate::specs::Reading::comprehension))]
 fn row_of<'t, 'a>(parser: Parser, inner: usize, tokens: &'t [Token<'a>]) -> Nested<'t, 'a>
     requires { inner < MAX_NESTING }
-    ensures gives { Gives expr_found result (reading.comprehension (reading.parse inner) (suc inner) TRowOf Mark.CloseSquare (lexemes tokens.now)) }
+    ensures gives { Gives expr_found result (reading.comprehension (reading.parse inner)
+        (suc inner) TRowOf Mark.CloseSquare (lexemes tokens.now)) }
     ensures nests { IfOk result (λ x. x.1 ≤ suc inner) }
 {
     if inner == 0 {

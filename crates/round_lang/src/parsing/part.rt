@@ -1,7 +1,8 @@
 //! The parts of a program: declarations, blocks and assignments.
 ghost use Rattle.std.specs.Prelude.{◌≡◌, ◌≤◌, ◌++◌, [], ◌∷◌, IfOk, length, vec_len};
 ghost use Rattle.round_lang.specs.CodeTokens.{lexemes};
-ghost use Rattle.round_lang.specs.Outcome.{Gives, name_found, left_of, list_found, head_found, sending_found, declared_found};
+ghost use Rattle.round_lang.specs.Outcome.{Gives, name_found, left_of, list_found, head_found};
+ghost use Rattle.round_lang.specs.Outcome.{sending_found, declared_found};
 ghost use Rattle.round_lang.specs.Parts as parts;
 ghost use Rattle.round_lang.specs.Source.{variables_of, decides_of};
 
@@ -142,8 +143,10 @@ pub struct Declared {
 
 impl Declared {
     fn push(&mut self, declaration: Declaration) -> Result<(), NoMemory>
-        ensures variables { IfOk result (λ _. self.new.variables.items ≡ self.old.variables.items ++ variables_of (declaration ∷ [])) }
-        ensures decides { IfOk result (λ _. self.new.decides.items ≡ self.old.decides.items ++ decides_of (declaration ∷ [])) }
+        ensures variables { IfOk result (λ _. self.new.variables.items
+            ≡ self.old.variables.items ++ variables_of (declaration ∷ [])) }
+        ensures decides { IfOk result (λ _. self.new.decides.items
+            ≡ self.old.decides.items ++ decides_of (declaration ∷ [])) }
     {
         match declaration {
             Declaration::Variable(variable) => self.variables.push(variable)?,

@@ -3,7 +3,8 @@ use crate::fault::Fault;
 use crate::reading::{cut, number, two};
 use step_machine::Name;
 
-/// What is done. A node that isn't the journal's own, a double, does the same with frames of its own.
+/// What is done. A node that isn't the journal's own, a double, does the same with frames of its
+/// own.
 #[derive(Clone, Copy)]
 pub enum Deed {
     Send(u32),
@@ -32,7 +33,9 @@ pub enum Question {
     Waiting(u32),
     Handed(u32, u32),
     Mark(Name),
-    Flight(Name),
+    /// What is in flight, or whether a copy is.
+    Flight,
+    InFlight(Name),
 }
 
 /// A deed and the node that does it, or what a journal is asked.
@@ -85,7 +88,8 @@ fn asked(verb: &str, rest: &str) -> Result<Act, Fault> {
         "node" => Question::Node(number(rest)?),
         "waiting" => Question::Waiting(number(rest)?),
         "mark" => Question::Mark(name(rest)?),
-        "flight" => Question::Flight(name(rest)?),
+        "flight" if rest.is_empty() => Question::Flight,
+        "flight" => Question::InFlight(name(rest)?),
         _ => return Err(Fault::Unreadable),
     };
     Ok(Act::Ask(question))

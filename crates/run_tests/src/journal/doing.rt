@@ -1,7 +1,8 @@
-//! Deeds on a journal. A call that is refused for memory must leave all as it was, and is made again.
+//! Deeds on a journal. A call that is refused for memory must leave all as it was, and is made
+//! again.
 ghost use Rattle.std.specs.Prelude.{◌≡◌, ◌<◌, ◌≤◌, IfSome, OnErr};
 ghost use Rattle.run_tests.specs.declared.journal.act.Network.TheVariants as Network;
-ghost use Rattle.step_journal.specs.Names.{IsName};
+ghost use Rattle.step_book.specs.Names.{IsName};
 ghost use Rattle.step_machine.specs.Nodes.{algorithm_in};
 
 use crate::fault::Fault;
@@ -11,7 +12,8 @@ use crate::journal::taking::receive;
 use crate::journal::telling::within;
 use round_lang::NoMemory;
 use slot_plans::Known;
-use step_journal::{CloseFault, IdleFault, Journal, SendFault};
+use step_book::{CloseFault, IdleFault, SendFault};
+use step_journal::Journal;
 use step_machine::{Name, Node, Prepared};
 
 /// What the node has for another.
@@ -82,8 +84,8 @@ fn send(journal: &mut Journal<Known>, node: &mut Node, to: u32) -> Answer<SendFa
     }
 }
 
-/// A node ends its round, and the journal closes it or says why not. Where only the node's memory was
-/// wanting, nothing is done.
+/// A node ends its round, and the journal closes it or says why not. Where only the node's memory
+/// was wanting, nothing is done.
 fn end_round(
     journal: &mut Journal<Known>,
     node: &mut Node,

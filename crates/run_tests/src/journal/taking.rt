@@ -1,6 +1,6 @@
 //! A receive, and what becomes of each frame.
 ghost use Rattle.std.specs.Prelude.{◌≡◌, All};
-ghost use Rattle.step_journal.specs.Stock.{IsMail};
+ghost use Rattle.step_book.specs.Stock.{IsMail};
 ghost use Rattle.step_machine.specs.Nodes.{algorithm_in};
 
 use crate::fault::Fault;
@@ -8,7 +8,8 @@ use crate::journal::doing::number_of;
 use crate::journal::seen::{Answer, Seen, tell};
 use crate::journal::telling::tell_name;
 use slot_plans::Known;
-use step_journal::{Journal, ReceiveFault};
+use step_book::ReceiveFault;
+use step_journal::Journal;
 use step_machine::{Node, Sealed};
 
 /// The node takes frames, and what becomes of each is told.

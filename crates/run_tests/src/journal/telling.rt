@@ -1,13 +1,14 @@
 //! What a journal tells.
 ghost use Rattle.std.specs.Prelude.{◌<◌, IsTrue};
-ghost use Rattle.step_journal.specs.Names.{IsName};
+ghost use Rattle.step_book.specs.Names.{IsName};
 
 use crate::fault::Fault;
 use crate::journal::act::Question;
 use round_lang::ValueSet;
 use slot_plans::Known;
+use std::alloc::Global;
 use step_journal::Journal;
-use step_machine::{MAX_COPY, Name};
+use step_machine::{InFlight, MAX_COPY, Name};
 
 const OUTSIDE: &str = "not within its limits";
 
@@ -122,8 +123,39 @@ fn tell_mark(journal: &Journal<Known>, name: Name, out: &mut String) -> Result<(
     Ok(())
 }
 
+/// The copies in flight, each by the numbers of its name, its slot's step number and its serial;
+/// where there was no memory for them, they are asked for again.
+fn tell_flight(alloc: Global, journal: &Journal<Known>, out: &mut String) -> Result<(), Fault> {
+    let flight = match journal.flight(alloc) {
+        Ok(flight) => flight,
+        Err(_) => journal.flight(alloc)?,
+    };
+    if flight.is_empty() {
+        out.push_str("-")?;
+    }
+    for (place, copy) in flight.iter().enumerate() {
+        let between = if place == 0 { "" } else { " " };
+        let InFlight {
+            name,
+            sent_at,
+            serial,
+        } = *copy;
+        let Name {
+            from,
+            to,
+            round,
+            copy,
+        } = name;
+        write!(
+            out,
+            "{between}{from}.{to}.{round}.{copy}.{sent_at}.{serial}"
+        )?;
+    }
+    Ok(())
+}
+
 /// The frame in flight: its name, and the first set of its message.
-fn tell_flight(journal: &Journal<Known>, name: Name, out: &mut String) -> Result<(), Fault>
+fn tell_in_flight(journal: &Journal<Known>, name: Name, out: &mut String) -> Result<(), Fault>
     requires { IsName journal.now.log.setup name }
 {
     let is_flying = journal.book().is_flying(name);
@@ -163,15 +195,21 @@ pub fn within(journal: &Journal<Known>, name: Name) -> bool
 fn tell_of_name(journal: &Journal<Known>, asked: Question, out: &mut String) -> Result<(), Fault> {
     match asked {
         Question::Mark(name) if within(journal, name) => tell_mark(journal, name, out),
-        Question::Flight(name) if within(journal, name) => tell_flight(journal, name, out),
+        Question::InFlight(name) if within(journal, name) => tell_in_flight(journal, name, out),
         _ => tell_of_node(journal, asked, out),
     }
 }
 
 /// Answers a question.
-pub fn answer(journal: &Journal<Known>, asked: Question, out: &mut String) -> Result<(), Fault> {
+pub fn answer(
+    alloc: Global,
+    journal: &Journal<Known>,
+    asked: Question,
+    out: &mut String,
+) -> Result<(), Fault> {
     match asked {
         Question::Book => tell_book(journal, out),
+        Question::Flight => tell_flight(alloc, journal, out),
         Question::Event(place) => tell_event(journal, place, out),
         _ => tell_of_name(journal, asked, out),
     }

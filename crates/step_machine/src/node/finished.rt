@@ -44,7 +44,8 @@ impl<'a> Finished<'a> {
     pub fn frames(&self) -> &'a [Option<Sealed>]
         ensures value { result.now ≡ held_now self.now.node.now }
         ensures sized { length result.now ≡ self.now.node.now.setup.nodes }
-        ensures held { IsHeld (algorithm_in self.now.node.now) self.now.node.now.setup.nodes self.now.node.now.me self.now.node.now.round result.now }
+        ensures held { IsHeld (algorithm_in self.now.node.now) self.now.node.now.setup.nodes
+            self.now.node.now.me self.now.node.now.round result.now }
     {
         let node = self.node;
         node.held[0].frames()

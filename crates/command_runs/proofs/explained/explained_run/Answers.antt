@@ -1,12 +1,15 @@
 use Rattle.std.proofs.Common.{◌∙◌, All, ap, subst}
 use Rattle.adversary.specs.Driving.{ClosedAreDue}
+use Rattle.omission_explainer.specs.Decided.{AreAgreed, AreInputs}
 use Rattle.omission_explainer.specs.InRounds.{IsOfRounds, printed_omits}
-use Rattle.omission_explainer.specs.Reported.{IsReported, names_in, types_in}
+use Rattle.omission_explainer.specs.Reported.{IsReported, declared_names, declared_types}
+use Rattle.omission_explainer.specs.declared.report.Report.{Report}
 use Rattle.round_lang.specs.Syntax.{ProgramTree}
+use Rattle.round_meaning.specs.Agreement.{RunsAlgorithm1}
 use Rattle.round_meaning.specs.Rounds.{algorithm_of}
-use Rattle.command_runs.proofs.Agreeing.{report_agrees}
-use Rattle.step_journal.specs.Agreed.{JournalAgrees}
-use Rattle.step_journal.specs.Log.{mark_in, waiting_in}
+use Rattle.round_meaning.specs.declared.setup.Setup.{Setup}
+use Rattle.step_book.specs.Agreed.{JournalAgrees}
+use Rattle.step_book.specs.Log.{mark_in, waiting_in}
 use Rattle.command_runs.proofs.explained.explained_run.Goals as goal
 
 pub returns-in-Ok-clause-explained : goal.returns-in-Ok-clause-explained
@@ -23,18 +26,31 @@ returns-in-Ok-clause-explained g c =
       agrees = subst (λ p. JournalAgrees (g.P.Plan.start p) run (mark_in (g.P.Plan.start p) run) (waiting_in (g.P.Plan.start p) run)) ran.plan c.agrees.ensures;
       closed = subst (λ p. ClosedAreDue (g.P.Plan.start p) run) ran.plan ran.closed;
       values = said.values ∙ ap (λ (p : ProgramTree). p.values) ran.program;
-      names = said.names ∙ ap names_in ran.program;
-      types = said.types ∙ ap types_in ran.program;
+      names = said.names ∙ ap declared_names ran.program;
+      types = said.types ∙ ap declared_types ran.program;
       listed = said.listed;
       reported = subst (λ p. All (IsReported (g.P.Plan.start p) run) rows) ran.plan said.reported;
       in_rounds = subst (λ s. All (IsOfRounds (algorithm_of c.args.program.now s) (printed_omits rows)) rows) ran.setup of_program;
       counted = said.counted;
     }
 
+-- what a report of its own run says of Algorithm 1
+abbrev Agrees : Report → ProgramTree → Setup → Type 0
+Agrees report p s = RunsAlgorithm1 p s → AreAgreed report.rows
+
+abbrev Inputs : Report → ProgramTree → Setup → Type 0
+Inputs report p s = RunsAlgorithm1 p s → AreInputs s report.rows
+
 pub returns-in-Ok-clause-agreement : goal.returns-in-Ok-clause-agreement
-returns-in-Ok-clause-agreement g c runs =
-    (report_agrees _ c.args.program.now c.args.setup.now c.args.events.now c.in-Ok.report (returns-in-Ok-clause-explained g c) runs).0
+returns-in-Ok-clause-agreement g c =
+    let ran = c.in_ok-journal.ensures in
+    let report = c.in-Ok.report in
+    subst (λ s. Agrees report c.args.program.now s) ran.setup
+    (subst (λ p. Agrees report p c.in_ok-journal.journal.log.setup) ran.program c.in-Ok.ensures.agreement)
 
 pub returns-in-Ok-clause-validity : goal.returns-in-Ok-clause-validity
-returns-in-Ok-clause-validity g c runs =
-    (report_agrees _ c.args.program.now c.args.setup.now c.args.events.now c.in-Ok.report (returns-in-Ok-clause-explained g c) runs).1
+returns-in-Ok-clause-validity g c =
+    let ran = c.in_ok-journal.ensures in
+    let report = c.in-Ok.report in
+    subst (λ s. Inputs report c.args.program.now s) ran.setup
+    (subst (λ p. Inputs report p c.in_ok-journal.journal.log.setup) ran.program c.in-Ok.ensures.validity)

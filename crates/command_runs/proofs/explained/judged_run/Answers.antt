@@ -3,8 +3,8 @@ use Rattle.std.specs.Prelude.{◌↔◌, IfSome, IsTrue}
 use Rattle.adversary.specs.Driving.{ClosedAreDue}
 use Rattle.omission_explainer.specs.Verdict.{HearsFrom, IsDelayBound}
 use Rattle.slot_plans.specs.Plan.{IsClearRound}
-use Rattle.step_journal.specs.Agreed.{JournalAgrees}
-use Rattle.step_journal.specs.Log.{mark_in, waiting_in}
+use Rattle.step_book.specs.Agreed.{JournalAgrees}
+use Rattle.step_book.specs.Log.{mark_in, waiting_in}
 use Rattle.command_runs.proofs.explained.judged_run.Goals as goal
 
 pub returns-clause-judged : goal.returns-clause-judged

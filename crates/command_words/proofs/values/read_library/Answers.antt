@@ -2,7 +2,8 @@ use Rattle.std.proofs.Common.{◌≡◌, ◌∙◌, ap, false, sym, true}
 use Rattle.command_words.specs.Values.{is_name}
 use Rattle.command_words.proofs.ValueLemmas.{library_parts, nothing_after_colon}
 use Rattle.command_words.proofs.values.read_library.Goals as goal
-use Rattle.command_words.proofs.values.read_library.Goals.{then-not-is_identifier-via-then-not-is_identifier, then-not-is_identifier-via-else-not-is_identifier+then-not-is_numeral}
+use Rattle.command_words.proofs.values.read_library.Goals.{then-not-is_identifier-via-then-not-is_identifier}
+use Rattle.command_words.proofs.values.read_library.Goals.{then-not-is_identifier-via-else-not-is_identifier+then-not-is_numeral}
 
 pub returns-in_err-name-clause-none : goal.returns-in_err-name-clause-none
 returns-in_err-name-clause-none c =

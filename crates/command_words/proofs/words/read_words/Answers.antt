@@ -1,10 +1,14 @@
-use Rattle.std.proofs.Common.{◌≡◌, ◌∙◌, ap, sym, subst, ◌⊎◌, map, option_map, is_some, false, true, Bor}
+use Rattle.std.proofs.Common.{◌≡◌, ◌∙◌, ap, sym, subst, ◌⊎◌, map, option_map, is_some, false, true}
+use Rattle.std.proofs.Common.{Bor}
 use Rattle.std.proofs.lemmas.Result.{IfOk-weaker, IfErr-weaker}
-use Rattle.clap.specs.Words.{App, Kinds, Text, IsAmong, found_of, kind_of, is_simple, is_simple_and_free, fault_of, rows_of, subcommand_of}
+use Rattle.clap.specs.Words.{App, Kinds, Text, IsAmong, found_of, kind_of, is_simple}
+use Rattle.clap.specs.Words.{is_simple_and_free, fault_of, rows_of, subcommand_of}
 use Rattle.clap.specs.declared.error.kind.ErrorKind.TheVariants.{OutOfMemory}
 use Rattle.clap.proofs.TakesLemmas.{some_rows}
 use Rattle.clap.specs.declared.parser.matches.ArgMatches.TheViews.{out-ArgMatches}
-use Rattle.command_words.proofs.GivenLemmas.{command_named, lack_explained, mistake_explained, name_given, ok_always, pair_given, roundc_is_free, roundc_is_simple}
+use Rattle.command_words.proofs.GivenLemmas.{command_named, lack_explained, mistake_explained}
+use Rattle.command_words.proofs.GivenLemmas.{name_given, ok_always, pair_given, roundc_is_free}
+use Rattle.command_words.proofs.GivenLemmas.{roundc_is_simple}
 use Rattle.command_words.proofs.words.read_words.Goals as goal
 
 pub returns-in-Err-clause-err : goal.returns-in-Err-clause-err

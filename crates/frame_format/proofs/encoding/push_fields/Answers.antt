@@ -4,7 +4,8 @@ use Rattle.round_lang.specs.declared.value.Value.TheVariants.{Num}
 use Rattle.round_lang.specs.Values.{at}
 use Rattle.round_lang.specs.Words.{IsSmall}
 use Rattle.frame_format.specs.Spelling.{field}
-use Rattle.frame_format.proofs.Pieces.{all_all, all_more, length-values, pieces_all, pieces_more, value_of_kind, width_within}
+use Rattle.frame_format.proofs.Pieces.{all_all, all_more, length-values, pieces_all, pieces_more}
+use Rattle.frame_format.proofs.Pieces.{value_of_kind, width_within}
 use Rattle.frame_format.proofs.encoding.push_fields.Goals as goal
 
 pub push_field-requires-clause-small : goal.push_field-requires-clause-small

@@ -1,5 +1,5 @@
 use Rattle.std.proofs.Common.{◌≡◌, ◌-◌, ◌∙◌, ap}
-use Rattle.step_journal.specs.Log.{round_of}
+use Rattle.step_book.specs.Log.{round_of}
 use Rattle.omission_explainer.proofs.Reports.{counts_push}
 use Rattle.omission_explainer.proofs.explaining.counts_of.Goals as goal
 

@@ -1,10 +1,12 @@
 use Rattle.std.proofs.Common.{◌≡◌, ◌∙◌, ◌<◌, ◌+◌, ap, refl, sym, arith}
 use Rattle.round_meaning.specs.declared.nodes.NodeSet.{NodeSet}
 use Rattle.omission_explainer.specs.declared.explaining.Outcome.TheVariants.{Heard, Silent, Omitted}
-use Rattle.step_journal.specs.Log.{history, world_of}
-use Rattle.step_journal.specs.Work.{any_within}
-use Rattle.step_journal.specs.World.{earliest}
-use Rattle.omission_explainer.proofs.Outcomes.{marks_to, shows, silent_unheard, sorted_none, sorted_heard, sorted_silent, sorted_omitted, within_in}
+use Rattle.step_book.specs.Log.{history, world_of}
+use Rattle.step_book.specs.Work.{any_within}
+use Rattle.step_book.specs.World.{earliest}
+use Rattle.omission_explainer.proofs.Outcomes.{marks_to, shows, silent_unheard, sorted_none}
+use Rattle.omission_explainer.proofs.Outcomes.{sorted_heard, sorted_silent, sorted_omitted}
+use Rattle.omission_explainer.proofs.Outcomes.{within_in}
 use Rattle.omission_explainer.proofs.explaining.outcomes_of.Goals as goal
 use Rattle.omission_explainer.proofs.explaining.outcomes_of.Goals.{in-Heard, in-Silent, in-Omitted}
 

@@ -1,12 +1,14 @@
 use Rattle.std.proofs.Common.{◌∙◌, ◌+◌, ◌<◌, ◌≤◌, ap, map, sym, subst, arith}
 use Rattle.std.specs.Prelude.{All}
-use Rattle.step_journal.specs.Log.{round_of}
-use Rattle.step_journal.proofs.Starts.{plan_is}
+use Rattle.step_book.specs.Log.{round_of}
+use Rattle.step_book.proofs.Starts.{plan_is}
 use Rattle.omission_explainer.proofs.PrintedRounds.{rows_in_rounds}
 use Rattle.omission_explainer.specs.Reported.{IsReported, place}
-use Rattle.omission_explainer.proofs.Reports.{reported, reported_more, listed_row, listed_none, listed_first, listed_round, listed_all}
+use Rattle.omission_explainer.proofs.Reports.{reported, reported_more, listed_row, listed_none}
+use Rattle.omission_explainer.proofs.Reports.{listed_first, listed_round, listed_all}
 use Rattle.omission_explainer.proofs.explaining.rows_of.Goals as goal
-use Rattle.omission_explainer.proofs.explaining.rows_of.Goals.{then-round-round_of+in_ok-row_of+in_ok-push, else-round-round_of}
+use Rattle.omission_explainer.proofs.explaining.rows_of.Goals.{then-round-round_of+in_ok-row_of+in_ok-push}
+use Rattle.omission_explainer.proofs.explaining.rows_of.Goals.{else-round-round_of}
 
 pub loop-node-preserved : goal.loop-node-preserved
 loop-node-preserved g c =

@@ -5,20 +5,25 @@ use Rattle.std.specs.Prelude.{IfSome}
 use Rattle.round_lang.specs.Sets.{is_in}
 use Rattle.slot_plans.specs.Plan.{IsClearRound}
 use Rattle.step_machine.specs.declared.event.Event.TheVariants.{Step, Release, Drop, Copy}
-use Rattle.step_journal.specs.Log.{history, world_of}
-use Rattle.step_journal.specs.World.{IsPlan, nodes_of}
-use Rattle.step_journal.proofs.Moments.{At}
-use Rattle.step_journal.proofs.Reading.{nodes_are}
-use Rattle.step_journal.proofs.Starts.{plan_is}
+use Rattle.step_book.specs.Log.{history, world_of}
+use Rattle.step_book.specs.World.{IsPlan, nodes_of}
+use Rattle.step_book.proofs.Moments.{At}
+use Rattle.step_book.proofs.Reading.{nodes_are}
+use Rattle.step_book.proofs.Starts.{plan_is}
 use Rattle.omission_explainer.specs.Lateness.{KeepsBound, KeepsPace}
 use Rattle.omission_explainer.specs.Verdict.{AreNodes, HearsFrom, IsDelayBound, IsLockstep}
 use Rattle.omission_explainer.proofs.Clear.{clear_hears}
 use Rattle.omission_explainer.proofs.Keeping.{has_member, member_of}
 use Rattle.omission_explainer.proofs.Moments.{moment_at, moment_short, next_moment, at_moment}
-use Rattle.omission_explainer.proofs.Passes.{IsBoundTo, IsOther, IsPacedTo, through, passed_none, passed_other, passed_step, count_below, other_step, and_then, and_not}
+use Rattle.omission_explainer.proofs.Passes.{IsBoundTo, IsOther, IsPacedTo, through, passed_none}
+use Rattle.omission_explainer.proofs.Passes.{passed_other, passed_step, count_below, other_step}
+use Rattle.omission_explainer.proofs.Passes.{and_then, and_not}
 use Rattle.omission_explainer.proofs.Verdicts.{bound_placed, lockstep_placed}
 use Rattle.omission_explainer.proofs.judging.judge.Goals as goal
-use Rattle.omission_explainer.proofs.judging.judge.Goals.{in-Step+then-contains, in-Step+else-contains, in-Release, in-Drop, in-Copy, then-lockstep, else-lockstep, then-bound, else-bound}
+use Rattle.omission_explainer.proofs.judging.judge.Goals.{in-Step+then-contains}
+use Rattle.omission_explainer.proofs.judging.judge.Goals.{in-Step+else-contains, in-Release}
+use Rattle.omission_explainer.proofs.judging.judge.Goals.{in-Drop, in-Copy, then-lockstep}
+use Rattle.omission_explainer.proofs.judging.judge.Goals.{else-lockstep, then-bound, else-bound}
 
 pub loop-event-init : goal.loop-event-init
 loop-event-init g c =

@@ -1,4 +1,4 @@
-use Rattle.step_journal.specs.Log.{history, world_of}
+use Rattle.step_book.specs.Log.{history, world_of}
 use Rattle.omission_explainer.proofs.Moments.{moment_at}
 use Rattle.omission_explainer.proofs.Passes.{Passed}
 use Rattle.omission_explainer.proofs.judging.judge.Given as goal

@@ -1,11 +1,12 @@
 use Rattle.std.proofs.Common.{◌≡◌, ◌+◌, ◌∙◌, ◌↔◌, true, max, get_or, refl, sym, ap, subst, arith}
 use Rattle.std.proofs.lemmas.Bool.{both_ways}
 use Rattle.round_lang.specs.Sets.{is_in}
-use Rattle.step_journal.specs.Log.{history, world_of}
-use Rattle.step_journal.proofs.Reading.{nodes_are}
-use Rattle.step_journal.proofs.Starts.{plan_is}
+use Rattle.step_book.specs.Log.{history, world_of}
+use Rattle.step_book.proofs.Reading.{nodes_are}
+use Rattle.step_book.proofs.Starts.{plan_is}
 use Rattle.omission_explainer.specs.Lateness.{HasReceive}
-use Rattle.omission_explainer.proofs.Keeping.{has_member, member_of, keeps_no_slot, keeps_other, keeps_at, slot_small}
+use Rattle.omission_explainer.proofs.Keeping.{has_member, member_of, keeps_no_slot, keeps_other}
+use Rattle.omission_explainer.proofs.Keeping.{keeps_at, slot_small}
 use Rattle.omission_explainer.proofs.judging.keeps_bound.Goals as goal
 
 pub returns-then-not-contains : goal.returns-then-not-contains

@@ -3,9 +3,11 @@ use Rattle.std.specs.Fmt.{decimal}
 use Rattle.std.specs.Io.KnownBytes.{Appends}
 use Rattle.round_lang.specs.Values.{at, row}
 use Rattle.omission_explainer.specs.Report.{entry_text, is_entered}
-use Rattle.omission_explainer.proofs.Texts.{entry_absent, entry_there, entry_written, passing_taken, passing_passed, comma_is_text, same_is_text}
+use Rattle.omission_explainer.proofs.Texts.{entry_absent, entry_there, entry_written, passing_taken}
+use Rattle.omission_explainer.proofs.Texts.{passing_passed, comma_is_text, same_is_text}
 use Rattle.omission_explainer.proofs.writing.write_entries.Goals as goal
-use Rattle.omission_explainer.proofs.writing.write_entries.Goals.{then-entry-ne0+in_ok-write-2, else-entry-ne0}
+use Rattle.omission_explainer.proofs.writing.write_entries.Goals.{then-entry-ne0+in_ok-write-2}
+use Rattle.omission_explainer.proofs.writing.write_entries.Goals.{else-entry-ne0}
 
 pub loop-value-preserved : goal.loop-value-preserved
 loop-value-preserved g c =

@@ -1,6 +1,7 @@
 use Rattle.std.proofs.Common.{◌∙◌, ◌<◌, length, ap, arith}
 use Rattle.round_lang.specs.Sets.{members, minus}
-use Rattle.omission_explainer.proofs.Members.{least_small, one_more, size_small, with_comma, with_none}
+use Rattle.omission_explainer.proofs.Members.{least_small, one_more, size_small, with_comma}
+use Rattle.omission_explainer.proofs.Members.{with_none}
 use Rattle.omission_explainer.proofs.writing.write_members.Goals as goal
 use Rattle.omission_explainer.proofs.writing.write_members.Goals.{then-place-gt0, else-place-gt0}
 

@@ -2,7 +2,8 @@ use Rattle.std.proofs.Common.{drop, arith, length-drop}
 use Rattle.round_lang.specs.CodeTokens.{lexeme_of}
 use Rattle.round_lang.specs.Scanning.{skip, token, bad}
 use Rattle.round_lang.proofs.Pieces.{Skips, Begins}
-use Rattle.round_lang.proofs.Scanned.{scanned_skip, scanned_token, scanned_bad, scanned_all, scanned_only, next_says, lexemes-push}
+use Rattle.round_lang.proofs.Scanned.{scanned_skip, scanned_token, scanned_bad, scanned_all}
+use Rattle.round_lang.proofs.Scanned.{scanned_only, next_says, lexemes-push}
 use Rattle.round_lang.proofs.lexing.tokens.Goals as goal
 use Rattle.round_lang.proofs.lexing.tokens.Goals.{In-Blank, In-Word}
 

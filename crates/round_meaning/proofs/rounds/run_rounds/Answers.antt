@@ -7,7 +7,8 @@ use Rattle.round_meaning.specs.Rounds.{algorithm, algorithm_of}
 use Rattle.round_meaning.specs.States.{States, states_after}
 use Rattle.round_meaning.proofs.Consensus.{table_agrees, table_decides_inputs}
 use Rattle.round_meaning.proofs.Lists.{map_push}
-use Rattle.round_meaning.proofs.RoundLaws.{HasRun-from_rows, IsComplete-from_rows, row-states_after, rows_none}
+use Rattle.round_meaning.proofs.RoundLaws.{HasRun-from_rows, IsComplete-from_rows, row-states_after}
+use Rattle.round_meaning.proofs.RoundLaws.{rows_none}
 use Rattle.round_meaning.proofs.rounds.run_rounds.Goals as goal
 
 pub loop-done-init : goal.loop-done-init

@@ -1,4 +1,5 @@
-use Rattle.std.proofs.Common.{◌≡◌, ◌∙◌, ◌+◌, ◌-◌, ◌<◌, length, take, drop, refl, sym, arith, length-drop}
+use Rattle.std.proofs.Common.{◌≡◌, ◌∙◌, ◌+◌, ◌-◌, ◌<◌, length, take, drop, refl, sym, arith}
+use Rattle.std.proofs.Common.{length-drop}
 use Rattle.std.proofs.lemmas.List.{take_all}
 use Rattle.schedule_text.proofs.Numbers.{no_number, number_alone, number_more, number_broken}
 use Rattle.schedule_text.proofs.number.first_number.Goals as goal

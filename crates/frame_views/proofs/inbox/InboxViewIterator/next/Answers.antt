@@ -1,4 +1,5 @@
-use Rattle.std.proofs.Common.{length, rules, ◌≡◌, ◌∙◌, sym, ap, ◌∷◌, ◌+◌, None, Some, get_or, drop, arith}
+use Rattle.std.proofs.Common.{length, rules, ◌≡◌, ◌∙◌, sym, ap, ◌∷◌, ◌+◌, None, Some, get_or, drop}
+use Rattle.std.proofs.Common.{arith}
 use Rattle.std.proofs.lemmas.List.{get_or_default}
 use Rattle.frame_format.specs.declared.frame.Frame.{Frame}
 use Rattle.frame_format.specs.Reading.{frame_at}

@@ -1,7 +1,8 @@
 use Rattle.std.proofs.Common.{sym}
 use Rattle.std.proofs.Math.Numerals.{add-one}
 use Rattle.std.proofs.lemmas.Result.{err_from_is_err_and}
-use Rattle.round_lang.proofs.Descent.{refused_below, goes_on_first, goes_on_end, goes_on_deep, refused_right, goes_on_next}
+use Rattle.round_lang.proofs.Descent.{refused_below, goes_on_first, goes_on_end, goes_on_deep}
+use Rattle.round_lang.proofs.Descent.{refused_right, goes_on_next}
 use Rattle.round_lang.proofs.parsing.expression.+expr.Goals as goal
 
 pub chain-returns-in_err-left-clause-gives : goal.chain-returns-in_err-left-clause-gives

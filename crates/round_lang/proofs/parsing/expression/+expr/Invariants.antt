@@ -2,7 +2,8 @@ use Rattle.std.proofs.Common.{◌+◌, ◌-◌, ◌*◌}
 use Rattle.round_lang.specs.CodeTokens.{lexemes}
 use Rattle.round_lang.specs.Tree.{tree_of}
 use Rattle.round_lang.proofs.Descent.{rank, GoesOn}
-use Rattle.round_lang.specs.declared.parsing.level.Level.TheVariants.{Whole, Negation, Comparison, Postfix}
+use Rattle.round_lang.specs.declared.parsing.level.Level.TheVariants.{Whole, Negation, Comparison}
+use Rattle.round_lang.specs.declared.parsing.level.Level.TheVariants.{Postfix}
 use Rattle.round_lang.proofs.parsing.expression.+expr.Given as goal
 
 abbrev pub decreases-read : goal.decreases-read

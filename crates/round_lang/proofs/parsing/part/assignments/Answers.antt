@@ -1,6 +1,7 @@
 use Rattle.std.proofs.Common.{sym}
 use Rattle.std.proofs.lemmas.Result.{err_from_is_err_and}
-use Rattle.round_lang.proofs.Loops.{assigns_first, assigns_fails, assigns_shorter, assigns_next, assigns_end}
+use Rattle.round_lang.proofs.Loops.{assigns_first, assigns_fails, assigns_shorter, assigns_next}
+use Rattle.round_lang.proofs.Loops.{assigns_end}
 use Rattle.round_lang.proofs.parsing.part.assignments.Goals as goal
 
 pub loop-parser-init : goal.loop-parser-init

@@ -1,6 +1,7 @@
 use Rattle.std.proofs.Common.{sym}
 use Rattle.std.proofs.lemmas.Result.{err_from_is_err_and}
-use Rattle.round_lang.proofs.Loops.{blocks_first, blocks_fails, blocks_shorter, blocks_next, blocks_end}
+use Rattle.round_lang.proofs.Loops.{blocks_first, blocks_fails, blocks_shorter, blocks_next}
+use Rattle.round_lang.proofs.Loops.{blocks_end}
 use Rattle.round_lang.proofs.parsing.part.blocks.Goals as goal
 
 pub loop-next-init : goal.loop-next-init

@@ -1,6 +1,7 @@
 use Rattle.std.proofs.Common.{sym, arith}
 use Rattle.std.proofs.lemmas.Result.{err_from_is_err_and}
-use Rattle.round_lang.proofs.Loops.{declares_first, declares_fails, declares_shorter, declares_next, declares_end}
+use Rattle.round_lang.proofs.Loops.{declares_first, declares_fails, declares_shorter, declares_next}
+use Rattle.round_lang.proofs.Loops.{declares_end}
 use Rattle.round_lang.proofs.parsing.part.declarations.Goals as goal
 
 pub loop-parser-init : goal.loop-parser-init

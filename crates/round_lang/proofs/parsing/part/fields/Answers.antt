@@ -1,6 +1,7 @@
 use Rattle.std.proofs.Common.{sym, arith}
 use Rattle.std.proofs.lemmas.Result.{err_from_is_err_and}
-use Rattle.round_lang.proofs.Loops.{fields_none, fields_first_fails, fields_first, fields_fails, fields_next, fields_shorter, fields_end}
+use Rattle.round_lang.proofs.Loops.{fields_none, fields_first_fails, fields_first, fields_fails}
+use Rattle.round_lang.proofs.Loops.{fields_next, fields_shorter, fields_end}
 use Rattle.round_lang.proofs.parsing.part.fields.Goals as goal
 
 pub returns-then-begins_with-clause-gives : goal.returns-then-begins_with-clause-gives

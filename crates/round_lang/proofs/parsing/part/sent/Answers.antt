@@ -1,6 +1,7 @@
 use Rattle.std.proofs.Common.{sym}
 use Rattle.std.proofs.lemmas.Result.{err_from_is_err_and}
-use Rattle.round_lang.proofs.Loops.{sent_none, sent_first_fails, sent_first, sent_fails, sent_next, sent_shorter, sent_end}
+use Rattle.round_lang.proofs.Loops.{sent_none, sent_first_fails, sent_first, sent_fails, sent_next}
+use Rattle.round_lang.proofs.Loops.{sent_shorter, sent_end}
 use Rattle.round_lang.proofs.parsing.part.sent.Goals as goal
 
 pub returns-then-begins_with : goal.returns-then-begins_with

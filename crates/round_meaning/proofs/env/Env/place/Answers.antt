@@ -1,9 +1,11 @@
 use Rattle.std.proofs.Common.{◌≡◌, None, sym, ◌∙◌, arith}
 use Rattle.round_meaning.specs.Envs.{env_of}
 use Rattle.round_meaning.specs.Meaning.{find_field}
-use Rattle.round_meaning.proofs.LookUps.{find_field-absent, find_field-beyond, look_up-field, look_up-nothing, look_up-variable}
+use Rattle.round_meaning.proofs.LookUps.{find_field-absent, find_field-beyond, look_up-field}
+use Rattle.round_meaning.proofs.LookUps.{look_up-nothing, look_up-variable}
 use Rattle.round_meaning.proofs.env.Env.place.Goals as goal
-use Rattle.round_meaning.proofs.env.Env.place.Goals.{in-Some-place_of_field+else-place-len, in_default-place_of_field}
+use Rattle.round_meaning.proofs.env.Env.place.Goals.{in-Some-place_of_field+else-place-len}
+use Rattle.round_meaning.proofs.env.Env.place.Goals.{in_default-place_of_field}
 
 pub returns-then-place-len : goal.returns-then-place-len
 returns-then-place-len c =

@@ -1,4 +1,4 @@
-use Rattle.step_journal.proofs.Taking.{for_now, next_for, taking_next}
+use Rattle.step_book.proofs.Taking.{for_now, next_for, taking_next}
 use Rattle.run_tests.proofs.journal.taking.take_all.Goals as goal
 
 pub take-taken-requires-clause-from : goal.take-taken-requires-clause-from

@@ -1,4 +1,4 @@
-use Rattle.step_journal.proofs.Taking.{IsTaking}
+use Rattle.step_book.proofs.Taking.{IsTaking}
 use Rattle.run_tests.proofs.journal.taking.take_all.Given as goal
 
 abbrev pub invariant-loop-frame : goal.invariant-loop-frame

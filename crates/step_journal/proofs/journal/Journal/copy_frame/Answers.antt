@@ -2,9 +2,10 @@ use Rattle.std.proofs.Common.{◌≡◌, Option, ap, subst, sym, ◌∙◌}
 use Rattle.std.specs.Prelude.{IfSome, IsSome}
 use Rattle.round_meaning.specs.Rounds.{algorithm_of}
 use Rattle.step_machine.specs.Frames.{Frame, original}
-use Rattle.step_journal.specs.Log.{IsFlying, Recorded, SameMarksBut, SameWaiting, mark_in}
-use Rattle.step_journal.specs.Stock.{IsGenuine}
-use Rattle.step_journal.proofs.Stocks.{fits_kept, fits_made, fits_not_made, fits_view, name_view, place_view}
+use Rattle.step_book.specs.Log.{IsFlying, Recorded, SameMarksBut, SameWaiting, mark_in}
+use Rattle.step_book.specs.Stock.{IsGenuine}
+use Rattle.step_journal.proofs.Stocks.{fits_kept, fits_made, fits_not_made, fits_view, name_view}
+use Rattle.step_journal.proofs.Stocks.{place_view}
 use Rattle.step_journal.proofs.journal.Journal.copy_frame.Goals as goal
 
 pub invariant_of-self-in_default : goal.invariant_of-self-in_default
@@ -27,7 +28,7 @@ invariant_of-self-in_default g c =
 pub invariant_of-self-in_err-reserve_flying : goal.invariant_of-self-in_err-reserve_flying
 invariant_of-self-in_err-reserve_flying g c =
     let a = name_view c.args.name c.self.view_is c.requires.name in
-    fits_kept c.self.invariant c.args.name.to c.index_mut-buffer.result.now c.reserve_flying.new.self a.to c.index_mut-buffer.ensures.value
+    fits_kept c.self.invariant c.args.name.to c.index_mut-buffer.result.now c.reserve_flying.new.self a.to c.index_mut-buffer.ensures.value c.reserve_flying.ensures.run
     c.in_err-reserve_flying.ensures.flying c.in_err-reserve_flying.ensures.waiting
 
 pub invariant_of-self-then-made : goal.invariant_of-self-then-made
@@ -45,8 +46,8 @@ invariant_of-self-then-made g c =
     (fits_made c.self.invariant n c.in-Some.frame c.place-place.result c.index_mut-buffer.result.now c.reserve_flying.new.self c.index_mut-buffer-then-made.result.now c.put.new.self
     (name_view n c.self.view_is c.requires.name) (c.in_ok-made-2.ensures.made.0 (cc)) named
     (subst (λ (z : Recorded _). IsGenuine (algorithm_of z.log.program z.log.setup) z.log.rows c.in-Some.frame) (sym c.self.view_is) genuine)
-    (place_view n c.place-place.result c.self.view_is c.place-place.ensures) c.index_mut-buffer.ensures.value c.in_ok-reserve_flying.ensures.flying c.in_ok-reserve_flying.ensures.waiting
-    c.index_mut-buffer-then-made.ensures.value c.put.ensures.flying c.put.ensures.waiting mark marks waits)
+    (place_view n c.place-place.result c.self.view_is c.place-place.ensures) c.index_mut-buffer.ensures.value c.reserve_flying.ensures.run c.in_ok-reserve_flying.ensures.flying c.in_ok-reserve_flying.ensures.waiting
+    c.index_mut-buffer-then-made.ensures.value c.put.ensures.run c.put.ensures.flying c.put.ensures.waiting mark marks waits)
 
 pub invariant_of-self-else-made : goal.invariant_of-self-else-made
 invariant_of-self-else-made g c =
@@ -60,12 +61,12 @@ invariant_of-self-else-made g c =
     let waits = subst (λ (z : Recorded _). SameWaiting start s.log z.log) ok c.in_ok-made-2.ensures.waiting in
     fits_view g.P.Plan.start ok
     (fits_not_made
-    (fits_kept c.self.invariant n.to c.index_mut-buffer.result.now c.reserve_flying.new.self a.to c.index_mut-buffer.ensures.value c.in_ok-reserve_flying.ensures.flying c.in_ok-reserve_flying.ensures.waiting)
+    (fits_kept c.self.invariant n.to c.index_mut-buffer.result.now c.reserve_flying.new.self a.to c.index_mut-buffer.ensures.value c.reserve_flying.ensures.run c.in_ok-reserve_flying.ensures.flying c.in_ok-reserve_flying.ensures.waiting)
     n (λ fit. (let on = c.in_ok-made-2.ensures.made.1 fit in cc)) mark marks waits)
 
 pub invariant_of-self-in_err-made-2 : goal.invariant_of-self-in_err-made-2
 invariant_of-self-in_err-made-2 g c =
     let a = name_view c.args.name c.self.view_is c.requires.name in
     fits_view g.P.Plan.start c.in_err-made-2.ensures.err
-    (fits_kept c.self.invariant c.args.name.to c.index_mut-buffer.result.now c.reserve_flying.new.self a.to c.index_mut-buffer.ensures.value
+    (fits_kept c.self.invariant c.args.name.to c.index_mut-buffer.result.now c.reserve_flying.new.self a.to c.index_mut-buffer.ensures.value c.reserve_flying.ensures.run
     c.in_ok-reserve_flying.ensures.flying c.in_ok-reserve_flying.ensures.waiting)

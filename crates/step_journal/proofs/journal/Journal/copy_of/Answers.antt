@@ -1,7 +1,7 @@
 use Rattle.std.proofs.Common.{◌≡◌, ap, subst, sym}
 use Rattle.round_meaning.specs.Rounds.{algorithm_of}
-use Rattle.step_journal.specs.Log.{Recorded}
-use Rattle.step_journal.specs.Stock.{IsGenuine}
+use Rattle.step_book.specs.Log.{Recorded}
+use Rattle.step_book.specs.Stock.{IsGenuine}
 use Rattle.step_journal.proofs.Stocks.{copy_read, name_view, place_view}
 use Rattle.step_journal.proofs.journal.Journal.copy_of.Goals as goal
 

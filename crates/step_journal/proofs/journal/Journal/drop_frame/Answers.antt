@@ -1,6 +1,6 @@
 use Rattle.std.proofs.Common.{ℕ, None, ap, subst, sym, ◌∙◌}
-use Rattle.step_journal.specs.Log.{Recorded, SameMarksBut, SameWaiting, mark_in}
-use Rattle.step_journal.specs.Tables.{Puts}
+use Rattle.step_book.specs.Log.{Recorded, SameMarksBut, SameWaiting, mark_in}
+use Rattle.step_book.specs.Tables.{Puts}
 use Rattle.step_journal.proofs.Stocks.{fits_lost, fits_view, name_view, place_view}
 use Rattle.step_journal.proofs.journal.Journal.drop_frame.Goals as goal
 
@@ -15,6 +15,6 @@ invariant_of-self-then-lost g c =
     let marks = subst (λ (z : Recorded _). SameMarksBut start n s.log z.log) ok c.in_ok-lost.ensures.marks in
     let waits = subst (λ (z : Recorded _). SameWaiting start s.log z.log) ok c.in_ok-lost.ensures.waiting in
     fits_view g.P.Plan.start ok
-    (fits_lost c.self.invariant n old c.remove.new.self (name_view n c.self.view_is c.requires) (c.in_ok-lost.ensures.lost.0 (cc)) c.index_mut-buffer.ensures.value
+    (fits_lost c.self.invariant n old c.remove.new.self (name_view n c.self.view_is c.requires) (c.in_ok-lost.ensures.lost.0 (cc)) c.index_mut-buffer.ensures.value c.remove.ensures.run
     (subst (λ (z : ℕ). Puts None old.flying c.remove.new.self.flying n.copy z None) (place_view n c.place-place.result c.self.view_is c.place-place.ensures) c.remove.ensures.flying)
     c.remove.ensures.waiting mark marks waits)

@@ -1,7 +1,8 @@
 use Rattle.std.proofs.Common.{◌<◌, sym, subst, ap, ◌∙◌}
 use Rattle.step_machine.specs.declared.event.Name.{Name}
-use Rattle.step_journal.specs.Log.{Recorded, SameMarksBut, SameWaiting, mark_in}
-use Rattle.step_journal.proofs.Stocks.{fits_hushed, fits_kept, fits_sent, fits_view, name_view, place_view, work_view}
+use Rattle.step_book.specs.Log.{Recorded, SameMarksBut, SameWaiting, mark_in}
+use Rattle.step_journal.proofs.Stocks.{fits_hushed, fits_kept, fits_sent, fits_view, name_view}
+use Rattle.step_journal.proofs.Stocks.{place_view, work_view}
 use Rattle.step_journal.proofs.journal.Journal.send.Goals as goal
 
 pub invariant_of-self-in-Some-into_sealed : goal.invariant_of-self-in-Some-into_sealed
@@ -18,8 +19,8 @@ invariant_of-self-in-Some-into_sealed g c =
     (fits_sent c.self.invariant p c.name-name.result c.into_sealed.result c.in-Some-into_sealed.frame c.place-place.result c.index_mut-buffer.result.now c.reserve_flying.new.self c.index_mut-buffer-in-Some-into_sealed.result.now c.put.new.self
     c.name-name.ensures.value c.name-name.ensures.original name (work_view p c.self.view_is c.requires.work) c.in_default.ensures c.in-Ok-record_send.ensures.round
     (place_view c.name-name.result c.place-place.result c.self.view_is c.place-place.ensures)
-    c.index_mut-buffer.ensures.value c.in-Ok.ensures.flying c.in-Ok.ensures.waiting c.into_sealed.ensures c.in-Some-into_sealed.is
-    c.index_mut-buffer-in-Some-into_sealed.ensures.value c.put.ensures.flying c.put.ensures.waiting mark marks waits)
+    c.index_mut-buffer.ensures.value c.reserve_flying.ensures.run c.in-Ok.ensures.flying c.in-Ok.ensures.waiting c.into_sealed.ensures c.in-Some-into_sealed.is
+    c.index_mut-buffer-in-Some-into_sealed.ensures.value c.put.ensures.run c.put.ensures.flying c.put.ensures.waiting mark marks waits)
 
 pub invariant_of-self-in-None : goal.invariant_of-self-in-None
 invariant_of-self-in-None g c =
@@ -33,14 +34,14 @@ invariant_of-self-in-None g c =
     let name = name_view p.name c.self.view_is c.requires.name in
     fits_view g.P.Plan.start ok
     (fits_hushed c.self.invariant p c.name-name.result c.into_sealed.result c.index_mut-buffer.result.now c.reserve_flying.new.self
-    c.name-name.ensures.value name c.index_mut-buffer.ensures.value c.in-Ok.ensures.flying c.in-Ok.ensures.waiting c.into_sealed.ensures c.in-None.is c.in-Ok-record_send.ensures.unsent mark marks waits)
+    c.name-name.ensures.value name c.index_mut-buffer.ensures.value c.reserve_flying.ensures.run c.in-Ok.ensures.flying c.in-Ok.ensures.waiting c.into_sealed.ensures c.in-None.is c.in-Ok-record_send.ensures.unsent mark marks waits)
 
 pub invariant_of-self : goal.invariant_of-self
 invariant_of-self g c =
     let s = c.self.inside.book in
     let a = name_view c.args.prepared.name c.self.view_is c.requires.name in
     let to = subst (λ (n : Name). n.to < s.log.setup.nodes) (sym c.name-name.ensures.value) a.to in
-    fits_kept c.self.invariant c.name-name.result.to c.index_mut-buffer.result.now c.reserve_flying.new.self to c.index_mut-buffer.ensures.value c.reserve_flying.ensures.flying c.reserve_flying.ensures.waiting
+    fits_kept c.self.invariant c.name-name.result.to c.index_mut-buffer.result.now c.reserve_flying.new.self to c.index_mut-buffer.ensures.value c.reserve_flying.ensures.run c.reserve_flying.ensures.flying c.reserve_flying.ensures.waiting
 
 pub invariant_of-self-in-Err-record_send : goal.invariant_of-self-in-Err-record_send
 invariant_of-self-in-Err-record_send g c =
@@ -48,7 +49,7 @@ invariant_of-self-in-Err-record_send g c =
     let a = name_view c.args.prepared.name c.self.view_is c.requires.name in
     let to = subst (λ (n : Name). n.to < s.log.setup.nodes) (sym c.name-name.ensures.value) a.to in
     fits_view g.P.Plan.start c.in-Err-record_send.ensures.err
-    (fits_kept c.self.invariant c.name-name.result.to c.index_mut-buffer.result.now c.reserve_flying.new.self to c.index_mut-buffer.ensures.value c.reserve_flying.ensures.flying c.reserve_flying.ensures.waiting)
+    (fits_kept c.self.invariant c.name-name.result.to c.index_mut-buffer.result.now c.reserve_flying.new.self to c.index_mut-buffer.ensures.value c.reserve_flying.ensures.run c.reserve_flying.ensures.flying c.reserve_flying.ensures.waiting)
 
 pub returns-in-Some-into_sealed-clause-marks : goal.returns-in-Some-into_sealed-clause-marks
 returns-in-Some-into_sealed-clause-marks g c =

@@ -1,5 +1,0 @@
-use Rattle.step_journal.proofs.Taking.{IsTakingAll}
-use Rattle.adversary.proofs.running.take_all.Given as goal
-
-abbrev pub invariant-loop-frame : goal.invariant-loop-frame
-invariant-loop-frame l = IsTakingAll l.initial.node l.node l.fn.frames.items l.frame-iterator.rest.items

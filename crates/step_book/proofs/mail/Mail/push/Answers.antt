@@ -1,0 +1,7 @@
+use Rattle.std.proofs.Common.{◌∙◌, ap}
+use Rattle.step_book.specs.Mailing.{Mailed}
+use Rattle.step_book.proofs.Mails.{handed_grown}
+use Rattle.step_book.proofs.mail.Mail.push.Goals as goal
+
+pub returns-clause-handed : goal.returns-clause-handed
+returns-clause-handed c = handed_grown c.self.invariant _ _ c.in_ok-push.ensures.items ∙ ap (λ (m : Mailed). m.handed) c.self.view_is

@@ -1,0 +1,31 @@
+-- Tables with a place for each message, one for each copy number. What they haven't reached reads
+-- as a default.
+use Rattle.std.specs.Prelude.{◌≡◌, ℕ, ◌<◌, List, [], length, map, slice_index_or, Vec}
+
+-- what stands at a place of a copy's table
+abbrev pub read_at : {A : Type 0} → A → List (List A) → ℕ → ℕ → A
+read_at none tables copy place = slice_index_or (slice_index_or tables copy []) place none
+
+-- the place is in the copy's table
+abbrev pub HasPlace : {A : Type 0} → List (List A) → ℕ → ℕ → Type 0
+HasPlace tables copy place =
+    (copy < length tables) × (place < length (slice_index_or tables copy []))
+
+-- each place of one table has what it had
+abbrev pub SameTable : {A : Type 0} → A → List A → List A → Type 0
+SameTable none old new = (k : ℕ) → slice_index_or new k none ≡ slice_index_or old k none
+
+-- each place has what it had
+abbrev pub SameTables : {A : Type 0} → A → List (List A) → List (List A) → Type 0
+SameTables none old new = (c k : ℕ) → read_at none new c k ≡ read_at none old c k
+
+-- one place has this, and each other what it had
+pub record Puts {A : Type 0} (none : A) (old new : List (List A))
+    (copy place : ℕ) (x : A) : Type 0 where
+  pub there : read_at none new copy place ≡ x
+  pub others : (c k : ℕ) → ¬ ((c ≡ copy) × (k ≡ place))
+      → read_at none new c k ≡ read_at none old c k
+
+-- the tables that vectors hold
+abbrev pub tables_of : {A B : Type 0} → List (Vec A B) → List (List A)
+tables_of xs = map (λ v. v.items) xs

@@ -1,0 +1,675 @@
+//! What a run has recorded, by the names of its messages.
+ghost use Rattle.std.specs.Prelude.{◌≡◌, ◌+◌, ◌-◌, ◌*◌, ◌^◌, ◌<◌, ◌≤◌, ◌++◌, ◌↔◌, [], IfErr, IfOk};
+ghost use Rattle.std.specs.Prelude.{IsTrue, MatchOption, OnErr, OnOk, length, option_map};
+ghost use Rattle.round_meaning.specs.Rounds.{algorithm_of};
+ghost use Rattle.round_meaning.specs.Setups.{IsLawful};
+ghost use Rattle.step_machine.specs.Frames.{IsPrepared, original};
+ghost use Rattle.step_book.specs.Agreed.{JournalAgrees, KeepsClosed};
+ghost use Rattle.step_book.specs.Agreement.{IsBuffer, row};
+ghost use Rattle.step_book.specs.Causes.{CloseCause, IdleCause, IsDueIn, EndsAsRecorded};
+ghost use Rattle.step_book.specs.Causes.{IsReceiveFit, IsSendFit, ReceiveCause, SendCause};
+ghost use Rattle.step_book.specs.Flight.{IsFlight, IsFlightBefore};
+ghost use Rattle.step_book.specs.History.{answers_of, arrival, copied, dropped, handed_of, let_go};
+ghost use Rattle.step_book.specs.History.{spoken};
+ghost use Rattle.step_book.specs.Log.{CanCopy, IsDue, IsFaithful, IsFlying, IsReceive, SameMarks};
+ghost use Rattle.step_book.specs.Log.{SameMarksBut, SameWaiting, SameWaitingBut, closed, count_of};
+ghost use Rattle.step_book.specs.Log.{happened, history, mark_in, opened, round_of, state_before};
+ghost use Rattle.step_book.specs.Log.{states_of, waiting_in, world_of};
+ghost use Rattle.step_book.specs.Names.{IsName};
+ghost use Rattle.step_book.specs.Serials.{AreSent, HasSerial};
+ghost use Rattle.step_book.specs.Work.{AreCarried, any_within, heard_from, is_within, tag_of};
+
+use crate::fault::{CloseFault, IdleFault, ReceiveFault, SendFault};
+use crate::mail::Mail;
+use crate::mark::Mark;
+use crate::marks::Marks;
+use crate::notes::{note_answer, note_close, note_receive, note_release, note_send, note_step};
+use crate::opening::{first_rows, no_mail, no_steps};
+use crate::tags::{earliest, is_tagged, is_within};
+use round_check::Checked;
+use round_lang::{NoMemory, Vars};
+use round_meaning::Setup;
+use slot_plans::Plan;
+use std::alloc::Global;
+use std::marker::Model;
+use std::sync::Arc;
+use step_machine::{Event, Finished, InFlight, MAX_COPY, Name, Prepared, Sealed};
+
+/// The record of a run: its events, the steps of each node, the states of its closed rounds, what
+/// became of each copy of each message, what each receive handed out, how each event of the network
+/// was answered, and the order in which the messages were sent.
+#[derive(Drop)]
+pub struct Book<P: Plan> {
+    program: Checked,
+    setup: Setup,
+    plan: P,
+    trace: Vec<Event>,
+    steps: Vec<u64>,
+    states: Vec<Vec<Arc<Vars>>>,
+    marks: Marks,
+    mails: Vec<Mail>,
+    answers: Vec<bool>,
+    messages: Vec<Name>,
+}
+
+impl<P: Plan> Model for Book<P> {
+    ghost use Rattle.step_book.specs.Log.{Recorded, IsBookOf, rows_of, handed_in, waits_in};
+    ghost use Rattle.round_lang.specs.contracts.formula.Formula as formula;
+    ghost use Rattle.std.specs.Coded.{codes};
+
+    ghost Value = { Recorded P };
+
+    ghost coded = { Prim.hlevel (codes, formula.the_row.coded) };
+
+    ghost view = { λ s. record {
+      plan = s.plan;
+      log = record {
+        program = s.program;
+        setup = s.setup;
+        trace = s.trace.items;
+        rows = rows_of s.states.items;
+      };
+    } };
+
+    ghost invariant = { λ s. IsBookOf (P.start s.plan) (P.nodes s.plan)
+        (record {
+          program = s.program;
+          setup = s.setup;
+          trace = s.trace.items;
+          rows = rows_of s.states.items;
+        })
+        s.steps.items s.marks (waits_in s.mails.items) (handed_in s.mails.items)
+        s.answers.items s.messages.items };
+}
+
+impl<P: Plan> Book<P> {
+    /// An empty record.
+    pub fn open(
+        alloc: Global,
+        program: &Checked,
+        setup: &Setup,
+        plan: P,
+    ) -> Result<Book<P>, NoMemory>
+        requires lawful { IsLawful program.now.values setup.now }
+        requires nodes { P.nodes plan ≡ setup.now.nodes }
+        ensures { IfOk result (λ book. book
+            ≡ record { plan = plan; log = opened program.now setup.now }) }
+    {
+        let states = first_rows(alloc, program, setup)?;
+        let steps = no_steps(alloc, setup.nodes)?;
+        let mails = no_mail(alloc, setup.nodes)?;
+        Ok(Book {
+            program: program.copy()?,
+            setup: setup.copy()?,
+            plan,
+            trace: Vec::new(alloc),
+            steps,
+            states,
+            marks: Marks::new(alloc),
+            mails,
+            answers: Vec::new(alloc),
+            messages: Vec::new(alloc),
+        })
+    }
+
+    /// Makes room for so many events more, so that recording them moves none of those before.
+    pub fn reserve(&mut self, events: usize) -> Result<(), NoMemory>
+        ensures { self.new ≡ self.old }
+    {
+        self.trace.reserve(events)?;
+        Ok(())
+    }
+
+    pub fn program(&self) -> &Checked
+        ensures { result.now ≡ self.now.log.program }
+    {
+        &self.program
+    }
+
+    pub fn setup(&self) -> &Setup
+        ensures { result.now ≡ self.now.log.setup }
+    {
+        &self.setup
+    }
+
+    pub fn plan(&self) -> P
+        ensures { result ≡ self.now.plan }
+    {
+        self.plan
+    }
+
+    pub fn trace(&self) -> &[Event]
+        ensures { result.now ≡ self.now.log.trace }
+    {
+        &self.trace
+    }
+
+    /// What is recorded agrees with the run in rounds, and the plan and the setup fit.
+    pub fn agrees(&self)
+        ensures faithful { IsFaithful (P.start self.now.plan) self.now.log }
+        ensures sized { P.nodes self.now.plan ≡ self.now.log.setup.nodes }
+        ensures lawful { IsLawful self.now.log.program.values self.now.log.setup }
+    {
+        let _trace = &self.trace;
+    }
+
+    /// What the reading calls answer is what stands in the trace and in the run in rounds.
+    pub fn agrees_by_places(&self)
+        ensures { JournalAgrees (P.start self.now.plan) self.now.log
+            (mark_in (P.start self.now.plan) self.now.log)
+            (waiting_in (P.start self.now.plan) self.now.log) }
+    {
+        let _trace = &self.trace;
+    }
+
+    /// How many steps a node has taken.
+    pub fn count_of(&self, node: u32) -> u64
+        requires { node < self.now.log.setup.nodes }
+        ensures { result ≡ count_of self.now.log node }
+    {
+        self.steps[node as usize]
+    }
+
+    /// A node's round: the first that isn't closed.
+    pub fn round_of(&self, node: u32) -> u32
+        requires { node < self.now.log.setup.nodes }
+        ensures value { result ≡ round_of self.now.log node }
+        ensures low { 0 < result }
+        ensures high { result ≤ self.now.log.setup.rounds + 1 }
+        ensures small { result ≤ 4097 }
+    {
+        self.states[node as usize].len() as u32
+    }
+
+    /// A node's states after 0, 1, .. closed rounds.
+    pub fn states(&self, node: u32) -> &[Arc<Vars>]
+        requires { node < self.now.log.setup.nodes }
+        ensures { states_of result.now ≡ row self.now.log.rows node }
+    {
+        &self.states[node as usize]
+    }
+
+    /// What became of a copy of a message.
+    pub fn mark(&self, name: Name) -> Mark
+        requires { IsName self.now.log.setup name }
+        ensures { result ≡ mark_in (P.start self.now.plan) self.now.log name }
+    {
+        self.marks.at(name.copy, self.place(name))
+    }
+
+    /// Whether a copy of a message is in flight.
+    pub fn is_flying(&self, name: Name) -> bool
+        requires { IsName self.now.log.setup name }
+        ensures { IsTrue result ↔ IsFlying (P.start self.now.plan) self.now.log name }
+    {
+        self.mark(name) == Mark::Flying
+    }
+
+    /// Whether the network can make this copy: copy 0 is in flight, and this one was never made.
+    pub fn can_copy(&self, name: Name) -> bool
+        requires { IsName self.now.log.setup name }
+        ensures { IsTrue result ↔ CanCopy (P.start self.now.plan) self.now.log name }
+    {
+        self.is_flying(name.original()) && self.mark(name) == Mark::Unsent
+    }
+
+    /// The names that wait for a node.
+    pub fn waiting(&self, node: u32) -> &[Name]
+        requires { node < self.now.log.setup.nodes }
+        ensures value { result.now ≡ waiting_in (P.start self.now.plan) self.now.log node }
+        ensures once { IsBuffer (world_of (P.start self.now.plan) self.now.log)
+            (history self.now.log) node result.now }
+    {
+        let mail = self.mail(node);
+        mail.waiting()
+    }
+
+    /// The names released to a node: those that each of its receives handed out, and those that
+    /// wait.
+    pub fn mail(&self, node: u32) -> &Mail
+        requires { node < self.now.log.setup.nodes }
+        ensures handed { result.now.handed ≡ handed_of
+            (world_of (P.start self.now.plan) self.now.log) node (history self.now.log) }
+        ensures waiting { result.now.waiting
+            ≡ waiting_in (P.start self.now.plan) self.now.log node }
+        ensures once { IsBuffer (world_of (P.start self.now.plan) self.now.log)
+            (history self.now.log) node result.now.waiting }
+    {
+        &self.mails[node as usize]
+    }
+
+    /// The answers that the network's events got, in their order: whether a copy was let go, lost
+    /// or made.
+    pub fn answers(&self) -> &[bool]
+        ensures { result.now
+            ≡ answers_of (world_of (P.start self.now.plan) self.now.log) (history self.now.log) }
+    {
+        &self.answers
+    }
+
+    /// The messages in the order in which they were sent, by the names of their copies 0: each
+    /// stands at the place that is its serial.
+    pub fn messages(&self) -> &[Name]
+        ensures { AreSent (world_of (P.start self.now.plan) self.now.log) (history self.now.log)
+            result.now }
+    {
+        &self.messages
+    }
+
+    /// The copies in flight, by their messages' serials and then by their copy numbers. It asks for
+    /// each message that was sent what became of its copies; a copy number that no message has yet
+    /// has no table, and is passed over at once.
+    pub fn flight(&self, alloc: Global) -> Result<Vec<InFlight>, NoMemory>
+        ensures { IfOk result (λ flight.
+            IsFlight (P.start self.now.plan) self.now.log flight.items) }
+    {
+        let mut flight = Vec::new(alloc);
+        for (serial, message) in self.messages.iter().enumerate() {
+            self.add_copies(serial, *message, &mut flight)?;
+        }
+        Ok(flight)
+    }
+
+    /// Adds the copies of the next message that are in flight.
+    fn add_copies(
+        &self,
+        serial: usize,
+        message: Name,
+        flight: &mut Vec<InFlight>,
+    ) -> Result<(), NoMemory>
+        requires message { HasSerial (world_of (P.start self.now.plan) self.now.log)
+            (history self.now.log) serial message }
+        requires before { IsFlightBefore (P.start self.now.plan) self.now.log serial 0
+            flight.old.items }
+        ensures { OnOk result (IsFlightBefore (P.start self.now.plan) self.now.log (serial + 1) 0
+            flight.new.items) }
+    {
+        let place = self.place(message);
+        let sent_at = self.slot(message);
+        for copy in 0..MAX_COPY + 1 {
+            if self.marks.at(copy, place) == Mark::Flying {
+                let name = Name { copy, ..message };
+                flight.push(InFlight {
+                    name,
+                    sent_at,
+                    serial,
+                })?;
+            }
+        }
+        Ok(())
+    }
+
+    /// The step number of a message's slot.
+    fn slot(&self, name: Name) -> u32
+        requires { IsName self.now.log.setup name }
+        ensures { result ≡ P.start self.now.plan name.round + name.to }
+    {
+        self.plan.start(name.round) + name.to
+    }
+
+    /// The place of a message in its copy's table.
+    fn place(&self, name: Name) -> usize
+        requires { IsName self.now.log.setup name }
+        ensures { result ≡ ((name.round - 1) * self.now.log.setup.nodes + name.from)
+            * self.now.log.setup.nodes + name.to }
+    {
+        let nodes = self.setup.nodes as usize;
+        ((name.round as usize - 1) * nodes + name.from as usize) * nodes + name.to as usize
+    }
+
+    /// The first step of a round.
+    fn start(&self, round: u32) -> u64
+        requires first { 0 < round }
+        requires last { round ≤ self.now.log.setup.rounds + 1 }
+        ensures value { result ≡ P.start self.now.plan round }
+        ensures small { result < 2 ^ 32 }
+    {
+        u64::from(self.plan.start(round))
+    }
+
+    /// Whether a round of the node is due and isn't closed.
+    pub fn is_due(&self, node: u32) -> bool
+        requires { node < self.now.log.setup.nodes }
+        ensures { IsTrue result ↔ IsDue (P.start self.now.plan) self.now.log node }
+    {
+        let round = self.round_of(node);
+        if round > self.setup.rounds {
+            return false;
+        }
+        self.start(round + 1) <= self.count_of(node)
+    }
+
+    /// Whether the next step of a node that isn't due is a receive.
+    fn is_receive(&self, node: u32) -> bool
+        requires node { node < self.now.log.setup.nodes }
+        requires not_due { ¬ IsDue (P.start self.now.plan) self.now.log node }
+        ensures { IsTrue result ↔ IsReceive (P.start self.now.plan) self.now.log node }
+    {
+        let round = self.round_of(node);
+        if round > self.setup.rounds {
+            return false;
+        }
+        self.start(round) + u64::from(self.setup.nodes) <= self.count_of(node)
+    }
+
+    /// Why a send would be refused, where it would be for another cause than memory.
+    pub fn refuses_send(&self, prepared: &Prepared) -> Option<SendFault>
+        requires { IsName self.now.log.setup prepared.now.name }
+        ensures { MatchOption result
+            (IsSendFit (P.start self.now.plan) self.now.log prepared.now)
+            (SendCause (P.start self.now.plan) self.now.log prepared.now) }
+    {
+        let name = prepared.name();
+        if self.is_due(name.from) {
+            return Some(SendFault::NotClosed);
+        }
+        if self.count_of(name.from) != self.start(name.round) + u64::from(name.to) {
+            return Some(SendFault::NotItsSlot);
+        }
+        let row = &self.states[name.from as usize];
+        if !row[name.round as usize - 1].same(prepared.state()) {
+            return Some(SendFault::Stranger);
+        }
+        None
+    }
+
+    /// Records a send that isn't refused, with a message or silence.
+    pub fn record_send(&mut self, prepared: &Prepared) -> Result<(), NoMemory>
+        requires name { IsName self.old.log.setup prepared.now.name }
+        requires work { IsPrepared
+            (algorithm_of self.old.log.program self.old.log.setup) prepared.now }
+        requires fit { IsSendFit (P.start self.old.plan) self.old.log prepared.now }
+        ensures ok { OnOk result (self.new
+            ≡ record self.old { log = happened self.old.log (Event.Step prepared.now.name.from) }) }
+        ensures err { OnErr result (self.new ≡ self.old) }
+        ensures round { OnOk result
+            (round_of self.old.log prepared.now.name.from ≡ prepared.now.name.round) }
+        ensures unsent { OnOk result
+            (mark_in (P.start self.old.plan) self.old.log prepared.now.name ≡ Mark.Unsent) }
+        ensures sent { OnOk result (mark_in (P.start self.old.plan) self.new.log prepared.now.name
+            ≡ spoken prepared.now.message) }
+        ensures marks { OnOk result
+            (SameMarksBut (P.start self.old.plan) prepared.now.name self.old.log self.new.log) }
+        ensures waiting { OnOk result
+            (SameWaiting (P.start self.old.plan) self.old.log self.new.log) }
+        ensures kept { OnOk result (KeepsClosed (P.start self.old.plan) self.old.log self.new.log) }
+    {
+        let name = prepared.name();
+        let place = self.place(name);
+        let mark = spoken(prepared);
+        note_send(
+            &mut self.trace,
+            &mut self.steps,
+            &mut self.marks,
+            &mut self.messages,
+            name,
+            place,
+            mark,
+        )?;
+        Ok(())
+    }
+
+    /// A receive step: what waits for the node is handed out.
+    pub fn receive(&mut self, node: u32) -> Result<(), ReceiveFault>
+        requires { node < self.old.log.setup.nodes }
+        ensures ok { OnOk result
+            (self.new ≡ record self.old { log = happened self.old.log (Event.Step node) }) }
+        ensures err { OnErr result (self.new ≡ self.old) }
+        ensures cause { IfErr result (ReceiveCause (P.start self.old.plan) self.old.log node) }
+        ensures fit { OnOk result (IsReceiveFit (P.start self.old.plan) self.old.log node) }
+        ensures once { OnOk result (IsBuffer (world_of (P.start self.old.plan) self.old.log)
+            (history self.old.log) node (waiting_in (P.start self.old.plan) self.old.log node)) }
+        ensures marks { OnOk result (SameMarks (P.start self.old.plan) self.old.log self.new.log) }
+        ensures taken { OnOk result (waiting_in (P.start self.old.plan) self.new.log node ≡ []) }
+        ensures waiting { OnOk result
+            (SameWaitingBut (P.start self.old.plan) node self.old.log self.new.log) }
+        ensures kept { OnOk result (KeepsClosed (P.start self.old.plan) self.old.log self.new.log) }
+    {
+        if self.is_due(node) {
+            return Err(ReceiveFault::NotClosed);
+        }
+        if !self.is_receive(node) {
+            return Err(ReceiveFault::NotItsSlot);
+        }
+        note_receive(
+            &mut self.trace,
+            &mut self.steps,
+            &mut self.mails[node as usize],
+            node,
+        )?;
+        Ok(())
+    }
+
+    /// A release by the network: true where a copy went from flight to those that wait.
+    pub fn release(&mut self, name: Name) -> Result<bool, NoMemory>
+        requires { IsName self.old.log.setup name }
+        ensures ok { OnOk result
+            (self.new ≡ record self.old { log = happened self.old.log (Event.Release name) }) }
+        ensures err { OnErr result (self.new ≡ self.old) }
+        ensures moved { IfOk result (λ moved. IsTrue moved
+            ↔ IsFlying (P.start self.old.plan) self.old.log name) }
+        ensures released { OnOk result (mark_in (P.start self.old.plan) self.new.log name
+            ≡ let_go (count_of self.old.log name.to)
+            (mark_in (P.start self.old.plan) self.old.log name)) }
+        ensures marks { OnOk result
+            (SameMarksBut (P.start self.old.plan) name self.old.log self.new.log) }
+        ensures arrived { OnOk result (waiting_in (P.start self.old.plan) self.new.log name.to
+            ≡ waiting_in (P.start self.old.plan) self.old.log name.to
+            ++ arrival name (mark_in (P.start self.old.plan) self.old.log name)) }
+        ensures waiting { OnOk result
+            (SameWaitingBut (P.start self.old.plan) name.to self.old.log self.new.log) }
+        ensures kept { OnOk result (KeepsClosed (P.start self.old.plan) self.old.log self.new.log) }
+    {
+        let place = self.place(name);
+        let count = self.count_of(name.to);
+        if self.is_flying(name) {
+            note_release(
+                &mut self.trace,
+                &mut self.answers,
+                &mut self.mails[name.to as usize],
+                name,
+            )?;
+            self.marks.put(name.copy, place, Mark::Released(count));
+            return Ok(true);
+        }
+        note_answer(
+            &mut self.trace,
+            &mut self.answers,
+            Event::Release(name),
+            false,
+        )?;
+        Ok(false)
+    }
+
+    /// A drop by the network: true where a copy was in flight; it's lost.
+    pub fn drop_copy(&mut self, name: Name) -> Result<bool, NoMemory>
+        requires { IsName self.old.log.setup name }
+        ensures ok { OnOk result
+            (self.new ≡ record self.old { log = happened self.old.log (Event.Drop name) }) }
+        ensures err { OnErr result (self.new ≡ self.old) }
+        ensures lost { IfOk result (λ lost. IsTrue lost
+            ↔ IsFlying (P.start self.old.plan) self.old.log name) }
+        ensures dropped { OnOk result (mark_in (P.start self.old.plan) self.new.log name
+            ≡ dropped (mark_in (P.start self.old.plan) self.old.log name)) }
+        ensures marks { OnOk result
+            (SameMarksBut (P.start self.old.plan) name self.old.log self.new.log) }
+        ensures waiting { OnOk result
+            (SameWaiting (P.start self.old.plan) self.old.log self.new.log) }
+        ensures kept { OnOk result (KeepsClosed (P.start self.old.plan) self.old.log self.new.log) }
+    {
+        let place = self.place(name);
+        if self.is_flying(name) {
+            note_answer(&mut self.trace, &mut self.answers, Event::Drop(name), true)?;
+            self.marks.put(name.copy, place, Mark::Lost);
+            return Ok(true);
+        }
+        note_answer(&mut self.trace, &mut self.answers, Event::Drop(name), false)?;
+        Ok(false)
+    }
+
+    /// A copy by the network: true where copy 0 was in flight and this one, 1 to 3, was never made;
+    /// it's in flight.
+    pub fn make_copy(&mut self, name: Name) -> Result<bool, NoMemory>
+        requires name { IsName self.old.log.setup name }
+        requires other { 0 < name.copy }
+        ensures ok { OnOk result
+            (self.new ≡ record self.old { log = happened self.old.log (Event.Copy name) }) }
+        ensures err { OnErr result (self.new ≡ self.old) }
+        ensures made { IfOk result (λ made. IsTrue made
+            ↔ CanCopy (P.start self.old.plan) self.old.log name) }
+        ensures copied { OnOk result (mark_in (P.start self.old.plan) self.new.log name
+            ≡ copied (mark_in (P.start self.old.plan) self.old.log (original name))
+            (mark_in (P.start self.old.plan) self.old.log name)) }
+        ensures marks { OnOk result
+            (SameMarksBut (P.start self.old.plan) name self.old.log self.new.log) }
+        ensures waiting { OnOk result
+            (SameWaiting (P.start self.old.plan) self.old.log self.new.log) }
+        ensures kept { OnOk result (KeepsClosed (P.start self.old.plan) self.old.log self.new.log) }
+    {
+        let place = self.place(name);
+        if self.can_copy(name) {
+            self.marks.reserve(name.copy, place)?;
+            note_answer(&mut self.trace, &mut self.answers, Event::Copy(name), true)?;
+            self.marks.put(name.copy, place, Mark::Flying);
+            return Ok(true);
+        }
+        note_answer(&mut self.trace, &mut self.answers, Event::Copy(name), false)?;
+        Ok(false)
+    }
+
+    /// Closes the due round that a node of the run finished.
+    pub fn close(&mut self, finished: &Finished<'_>) -> Result<(), CloseFault>
+        requires program { finished.now.node.now.program ≡ self.old.log.program }
+        requires setup { finished.now.node.now.setup ≡ self.old.log.setup }
+        ensures ok { OnOk result
+            (self.new ≡ record self.old { log = closed self.old.log finished.now.node.now }) }
+        ensures err { OnErr result (self.new ≡ self.old) }
+        ensures cause { IfErr result
+            (CloseCause (P.start self.old.plan) self.old.log finished.now.node.now) }
+        ensures fit { OnOk result
+            (IsDueIn (P.start self.old.plan) self.old.log finished.now.node.now
+            × EndsAsRecorded (P.start self.old.plan) self.old.log finished.now.node.now) }
+        ensures kept { OnOk result (KeepsClosed (P.start self.old.plan) self.old.log self.new.log) }
+    {
+        let node = finished.node();
+        let round = self.round_of(node);
+        if !self.is_due(node) || finished.round() != round {
+            return Err(CloseFault::NotDue);
+        }
+        if !self.is_known(node, finished.old(), finished.frames()) {
+            return Err(CloseFault::Stranger);
+        }
+        note_close(&mut self.states[node as usize], finished)?;
+        Ok(())
+    }
+
+    /// A step after the last round.
+    pub fn idle_step(&mut self, node: u32) -> Result<(), IdleFault>
+        requires { node < self.old.log.setup.nodes }
+        ensures ok { OnOk result
+            (self.new ≡ record self.old { log = happened self.old.log (Event.Step node) }) }
+        ensures err { OnErr result (self.new ≡ self.old) }
+        ensures cause { IfErr result (IdleCause self.old.log node) }
+        ensures fit { OnOk result (self.old.log.setup.rounds < round_of self.old.log node) }
+        ensures marks { OnOk result (SameMarks (P.start self.old.plan) self.old.log self.new.log) }
+        ensures waiting { OnOk result
+            (SameWaiting (P.start self.old.plan) self.old.log self.new.log) }
+        ensures kept { OnOk result (KeepsClosed (P.start self.old.plan) self.old.log self.new.log) }
+    {
+        if self.round_of(node) <= self.setup.rounds {
+            return Err(IdleFault::NotPast);
+        }
+        note_step(&mut self.trace, &mut self.steps, node)?;
+        Ok(())
+    }
+
+    /// Whether the state is the one before the node's due round, and the frames, by sender, are
+    /// those that were carried to it.
+    fn is_known(&self, node: u32, old: &Vars, frames: &[Option<Sealed>]) -> bool
+        requires node { node < self.now.log.setup.nodes }
+        requires due { IsDue (P.start self.now.plan) self.now.log node }
+        requires sized { length frames.now ≡ self.now.log.setup.nodes }
+        ensures { IsTrue result
+            ↔ (state_before self.now.log node (round_of self.now.log node) ≡ old.now)
+            × AreCarried (world_of (P.start self.now.plan) self.now.log) (history self.now.log) node
+            (round_of self.now.log node - 1) frames.now }
+    {
+        let round = self.round_of(node);
+        let row = &self.states[node as usize];
+        if !row[round as usize - 1].same(old) {
+            return false;
+        }
+        self.are_carried(node, frames)
+    }
+
+    fn are_carried(&self, node: u32, frames: &[Option<Sealed>]) -> bool
+        requires node { node < self.now.log.setup.nodes }
+        requires due { IsDue (P.start self.now.plan) self.now.log node }
+        requires sized { length frames.now ≡ self.now.log.setup.nodes }
+        ensures { IsTrue result ↔ AreCarried (world_of (P.start self.now.plan) self.now.log)
+            (history self.now.log) node (round_of self.now.log node - 1) frames.now }
+    {
+        for from in 0..self.setup.nodes {
+            if !self.is_carried(node, from, &frames[from as usize]) {
+                return false;
+            }
+        }
+        true
+    }
+
+    fn is_carried(&self, node: u32, from: u32, frame: &Option<Sealed>) -> bool
+        requires node { node < self.now.log.setup.nodes }
+        requires from { from < self.now.log.setup.nodes }
+        requires due { IsDue (P.start self.now.plan) self.now.log node }
+        ensures { IsTrue result ↔ (option_map tag_of frame.now
+            ≡ heard_from (world_of (P.start self.now.plan) self.now.log) (history self.now.log) node
+            (round_of self.now.log node - 1) from) }
+    {
+        let round = self.round_of(node);
+        let row = &self.states[from as usize];
+        let name = Name {
+            from,
+            to: node,
+            round,
+            copy: 0,
+        };
+        let first = self.start(earliest(round));
+        if !self.was_released(name, first, self.start(round + 1)) {
+            return frame.is_none();
+        }
+        is_tagged(frame, name, &row[round as usize - 1])
+    }
+
+    /// Whether one of a message's copies was released while its receiver's step count stood from
+    /// `first` on and below `end`.
+    pub fn was_released(&self, name: Name, first: u64, end: u64) -> bool
+        requires { IsName self.now.log.setup name }
+        ensures { result ≡ any_within (λ k.
+            mark_in (P.start self.now.plan) self.now.log (record name { copy = k })) first end }
+    {
+        self.was_let_go(name, 0, first, end)
+            || self.was_let_go(name, 1, first, end)
+            || self.was_let_go(name, 2, first, end)
+            || self.was_let_go(name, 3, first, end)
+    }
+
+    fn was_let_go(&self, name: Name, copy: u32, first: u64, end: u64) -> bool
+        requires name { IsName self.now.log.setup name }
+        requires copy { copy ≤ 3 }
+        ensures { result ≡ is_within (mark_in (P.start self.now.plan) self.now.log
+            (record name { copy = copy })) first end }
+    {
+        is_within(self.mark(Name { copy, ..name }), first, end)
+    }
+}
+
+/// The mark of what is sent.
+fn spoken(prepared: &Prepared) -> Mark
+    ensures { result ≡ spoken prepared.now.message }
+{
+    if prepared.is_silent() {
+        Mark::Silent
+    } else {
+        Mark::Flying
+    }
+}

@@ -1,0 +1,84 @@
+//! Why a journal refuses an event.
+ghost use Rattle.std.specs.Prelude.{◌≡◌};
+ghost use Rattle.step_book.specs.declared.fault.ReceiveFault.TheVariants as receive;
+ghost use Rattle.step_book.specs.declared.fault.CloseFault.TheVariants as close;
+ghost use Rattle.step_book.specs.declared.fault.IdleFault.TheVariants as idle;
+
+use round_lang::NoMemory;
+use step_machine::Prepared;
+
+/// Why a send is refused.
+#[derive(Clone, Copy, PartialEq, Eq, Debug)]
+pub enum SendFault {
+    NotItsSlot = 1,
+    NotClosed = 2,
+    Stranger = 3,
+    NoMemory = 4,
+}
+
+/// A send that was refused gives the work back.
+#[derive(Drop)]
+pub struct Refused {
+    pub fault: SendFault,
+    pub prepared: Prepared,
+}
+
+impl Refused {
+    /// The work comes back, since there is no memory.
+    pub fn memory(prepared: Prepared) -> Refused
+        ensures fault { result.fault ≡ SendFault.NoMemory }
+        ensures prepared { result.prepared ≡ prepared }
+    {
+        Refused {
+            fault: SendFault::NoMemory,
+            prepared,
+        }
+    }
+}
+
+/// Why a receive is refused.
+#[derive(Clone, Copy, PartialEq, Eq, Debug)]
+pub enum ReceiveFault {
+    NotItsSlot = 1,
+    NotClosed = 2,
+    NoMemory = 4,
+}
+
+impl From<NoMemory> for ReceiveFault {
+    ghost from_gives = { λ _ e. e ≡ receive.NoMemory };
+
+    fn from(_error: NoMemory) -> ReceiveFault {
+        ReceiveFault::NoMemory
+    }
+}
+
+/// Why a round isn't closed.
+#[derive(Clone, Copy, PartialEq, Eq, Debug)]
+pub enum CloseFault {
+    NotDue = 1,
+    Stranger = 2,
+    NoMemory = 3,
+}
+
+impl From<NoMemory> for CloseFault {
+    ghost from_gives = { λ _ e. e ≡ close.NoMemory };
+
+    fn from(_error: NoMemory) -> CloseFault {
+        CloseFault::NoMemory
+    }
+}
+
+/// Why an idle step is refused.
+#[derive(Clone, Copy, PartialEq, Eq, Debug)]
+pub enum IdleFault {
+    NotPast = 1,
+    NoMemory = 2,
+}
+
+impl From<NoMemory> for IdleFault {
+    ghost from_gives = { λ _ e. e ≡ idle.NoMemory };
+
+    fn from(_error: NoMemory) -> IdleFault {
+        IdleFault::NoMemory
+    }
+}

@@ -1,0 +1,20 @@
+//! The book of a run: its events, one after the other, what follows from them by the names of
+//! messages, and the buffers with the frames of these names.
+#![tactic(auto)]
+
+mod book;
+mod buffer;
+mod fault;
+mod mail;
+mod mark;
+mod marks;
+mod notes;
+mod opening;
+mod tags;
+
+pub use book::Book;
+pub use buffer::Buffer;
+pub use fault::{CloseFault, IdleFault, ReceiveFault, Refused, SendFault};
+pub use mail::Mail;
+pub use mark::Mark;
+pub use tags::earliest;

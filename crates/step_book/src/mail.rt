@@ -1,0 +1,108 @@
+//! The names released to a node.
+ghost use Rattle.std.specs.Prelude.{◌≡◌, ◌-◌, ◌<◌, ◌≤◌, ◌++◌, ◌∷◌, [], OnErr, OnOk, drop, length};
+ghost use Rattle.std.specs.Prelude.{slice_index, slice_index_or, take};
+ghost use Rattle.step_book.specs.Mailing.{mailed};
+
+use round_lang::NoMemory;
+use std::alloc::Global;
+use std::marker::Model;
+use step_machine::Name;
+
+/// The names of the messages that were released to a node, in the order of their releases: those
+/// that each of its receives handed out, and then those that wait.
+#[derive(Drop)]
+pub struct Mail {
+    names: Vec<Name>,
+    ends: Vec<usize>,
+    taken: usize,
+}
+
+impl Model for Mail {
+    ghost use Rattle.step_book.specs.Mailing.{AreParted, Mailed, mailed};
+
+    ghost Value = { Mailed };
+
+    ghost view = { λ m. mailed m.names.items m.ends.items m.taken };
+
+    ghost invariant = { λ m. AreParted m.names.items m.ends.items m.taken };
+}
+
+impl Mail {
+    /// No names, and no receives; takes no memory.
+    pub(crate) fn new(alloc: Global) -> Mail
+        ensures { result ≡ mailed [] [] 0 }
+    {
+        Mail {
+            names: Vec::new(alloc),
+            ends: Vec::new(alloc),
+            taken: 0,
+        }
+    }
+
+    /// The names that wait, in the order of their releases.
+    pub fn waiting(&self) -> &[Name]
+        ensures { result.now ≡ self.now.waiting }
+    {
+        &self.names[self.taken..]
+    }
+
+    /// How many receives there were.
+    pub fn receives(&self) -> usize
+        ensures { result ≡ length self.now.handed }
+    {
+        self.ends.len()
+    }
+
+    /// The names that a receive handed out, counting from 0; none past the last.
+    pub fn handed(&self, receive: usize) -> &[Name]
+        ensures { result.now ≡ slice_index_or self.now.handed receive [] }
+    {
+        if receive >= self.ends.len() {
+            return &[];
+        }
+        let start = start_of(&self.ends, receive);
+        between(&self.names, start, self.ends[receive])
+    }
+
+    /// A name more that waits.
+    pub(crate) fn push(&mut self, name: Name) -> Result<(), NoMemory>
+        ensures handed { OnOk result (self.new.handed ≡ self.old.handed) }
+        ensures waiting { OnOk result (self.new.waiting ≡ self.old.waiting ++ name ∷ []) }
+        ensures err { OnErr result (self.new ≡ self.old) }
+    {
+        self.names.push(name)?;
+        Ok(())
+    }
+
+    /// A receive: what waits is handed out.
+    pub(crate) fn hand_out(&mut self) -> Result<(), NoMemory>
+        ensures handed { OnOk result (self.new.handed ≡ self.old.handed ++ self.old.waiting ∷ []) }
+        ensures waiting { OnOk result (self.new.waiting ≡ []) }
+        ensures err { OnErr result (self.new ≡ self.old) }
+    {
+        let count = self.names.len();
+        self.ends.push(count)?;
+        self.taken = count;
+        Ok(())
+    }
+}
+
+/// Where the names of a receive begin.
+fn start_of(ends: &[usize], receive: usize) -> usize
+    requires { receive < length ends.now }
+    ensures { result ≡ slice_index (0 ∷ ends.now) receive }
+{
+    match receive.checked_sub(1) {
+        None => 0,
+        Some(before) => ends[before],
+    }
+}
+
+/// The names from a place up to another.
+fn between(names: &[Name], start: usize, end: usize) -> &[Name]
+    requires rising { start ≤ end }
+    requires within { end ≤ length names.now }
+    ensures { result.now ≡ take (end - start) (drop start names.now) }
+{
+    &names[start..end]
+}

@@ -1,0 +1,91 @@
+//! The marks of a run's messages.
+ghost use Rattle.std.specs.Prelude.{◌≡◌, ◌<◌, ◌≤◌, [], OnOk, length, vec_len};
+ghost use Rattle.step_book.specs.declared.mark.Mark.TheVariants.{Unsent};
+ghost use Rattle.step_book.specs.Tables.{HasPlace, Puts, SameTable, SameTables, read_at, tables_of};
+
+use crate::mark::Mark;
+use round_lang::NoMemory;
+use std::alloc::Global;
+use std::marker::Model;
+
+/// The marks of all copies of all messages: a table for each copy number, which grows with the
+/// rounds, so that those of copies that were never made take no memory.
+#[derive(Drop)]
+pub(crate) struct Marks {
+    alloc: Global,
+    tables: Vec<Vec<Mark>>,
+}
+
+impl Model for Marks {
+    ghost use Rattle.std.specs.Prelude.{List};
+    ghost use Rattle.step_book.specs.declared.mark.Mark.{Mark};
+    ghost use Rattle.step_book.specs.Tables.{tables_of};
+
+    ghost Value = { List (List Mark) };
+
+    ghost view = { λ m. tables_of m.tables.items };
+}
+
+impl Marks {
+    /// No marks; takes no memory.
+    pub(crate) fn new(alloc: Global) -> Marks
+        ensures { result ≡ [] }
+    {
+        Marks {
+            alloc,
+            tables: Vec::new(alloc),
+        }
+    }
+
+    /// The mark at a place of a copy's table.
+    pub(crate) fn at(&self, copy: u32, place: usize) -> Mark
+        ensures { result ≡ read_at Unsent self.now copy place }
+    {
+        let Some(table) = self.tables.get(copy as usize) else {
+            return Mark::Unsent;
+        };
+        match table.get(place) {
+            Some(mark) => *mark,
+            None => Mark::Unsent,
+        }
+    }
+
+    /// Makes room for a mark.
+    pub(crate) fn reserve(&mut self, copy: u32, place: usize) -> Result<(), NoMemory>
+        ensures room { OnOk result (HasPlace self.new copy place) }
+        ensures same { SameTables Unsent self.old self.new }
+    {
+        add_tables(self.alloc, &mut self.tables, copy as usize)?;
+        grow(&mut self.tables[copy as usize], place)
+    }
+
+    /// Sets a mark that there is room for.
+    pub(crate) fn put(&mut self, copy: u32, place: usize, mark: Mark)
+        requires { HasPlace self.old copy place }
+        ensures { Puts Unsent self.old self.new copy place mark }
+    {
+        self.tables[copy as usize][place] = mark;
+    }
+}
+
+/// Adds empty tables until the copy has one.
+fn add_tables(alloc: Global, tables: &mut Vec<Vec<Mark>>, copy: usize) -> Result<(), NoMemory>
+    ensures there { OnOk result (copy < vec_len tables.new) }
+    ensures same { SameTables Unsent (tables_of tables.old.items) (tables_of tables.new.items) }
+{
+    while tables.len() <= copy {
+        tables.push(Vec::new(alloc))?;
+    }
+    Ok(())
+}
+
+/// Makes a table longer than a place.
+fn grow(marks: &mut Vec<Mark>, place: usize) -> Result<(), NoMemory>
+    ensures long { OnOk result (place < vec_len marks.new) }
+    ensures same { SameTable Unsent marks.old.items marks.new.items }
+{
+    while marks.len() <= place {
+        marks.push(Mark::Unsent)?;
+    }
+    Ok(())
+}

@@ -1,0 +1,147 @@
+//! What an event adds to a record, field by field. All growth goes before any change, so an error
+//! leaves each field as it was.
+ghost use Rattle.std.specs.Prelude.{◌≡◌, ◌+◌, ◌<◌, ◌≤◌, [], ◌∷◌, ◌++◌, OnOk, OnErr, slice_index};
+ghost use Rattle.std.specs.Prelude.{slice_set, true, vec_len};
+ghost use Rattle.step_book.specs.declared.mark.Mark.TheVariants.{Unsent};
+ghost use Rattle.step_book.specs.History.{arrival};
+ghost use Rattle.step_book.specs.Tables.{Puts, SameTables};
+ghost use Rattle.step_book.specs.Log.{end_state, states_of};
+
+use crate::mail::Mail;
+use crate::mark::Mark;
+use crate::marks::Marks;
+use round_lang::{NoMemory, Vars};
+use std::sync::Arc;
+use step_machine::{Event, Finished, Name};
+
+/// A step of a node.
+pub(crate) fn note_step(
+    trace: &mut Vec<Event>,
+    steps: &mut Vec<u64>,
+    node: u32,
+) -> Result<(), NoMemory>
+    requires node_in { node < vec_len steps.old }
+    requires counted { slice_index steps.old.items node ≤ vec_len trace.old }
+    ensures trace { OnOk result (trace.new.items ≡ trace.old.items ++ Event.Step node ∷ []) }
+    ensures steps { OnOk result
+        (steps.new.items ≡ slice_set steps.old.items node (slice_index steps.old.items node + 1)) }
+    ensures trace_kept { OnErr result (trace.new.items ≡ trace.old.items) }
+    ensures steps_kept { OnErr result (steps.new.items ≡ steps.old.items) }
+{
+    trace.push(Event::Step(node))?;
+    steps[node as usize] += 1;
+    Ok(())
+}
+
+/// A send step, with the mark of its message, which is one more sent where it flies.
+pub(crate) fn note_send(
+    trace: &mut Vec<Event>,
+    steps: &mut Vec<u64>,
+    marks: &mut Marks,
+    messages: &mut Vec<Name>,
+    name: Name,
+    place: usize,
+    mark: Mark,
+) -> Result<(), NoMemory>
+    requires node_in { name.from < vec_len steps.old }
+    requires counted { slice_index steps.old.items name.from ≤ vec_len trace.old }
+    ensures trace { OnOk result (trace.new.items ≡ trace.old.items ++ Event.Step name.from ∷ []) }
+    ensures steps { OnOk result (steps.new.items
+        ≡ slice_set steps.old.items name.from (slice_index steps.old.items name.from + 1)) }
+    ensures marks { OnOk result (Puts Unsent marks.old marks.new 0 place mark) }
+    ensures messages { OnOk result (messages.new.items ≡ messages.old.items ++ arrival name mark) }
+    ensures trace_kept { OnErr result (trace.new.items ≡ trace.old.items) }
+    ensures steps_kept { OnErr result (steps.new.items ≡ steps.old.items) }
+    ensures marks_kept { OnErr result (SameTables Unsent marks.old marks.new) }
+    ensures messages_kept { OnErr result (messages.new.items ≡ messages.old.items) }
+{
+    marks.reserve(0, place)?;
+    messages.reserve(1)?;
+    note_step(trace, steps, name.from)?;
+    marks.put(0, place, mark);
+    if mark == Mark::Flying {
+        messages.push_reserved(name);
+    }
+    Ok(())
+}
+
+/// A receive: what waits is handed out.
+pub(crate) fn note_receive(
+    trace: &mut Vec<Event>,
+    steps: &mut Vec<u64>,
+    mail: &mut Mail,
+    node: u32,
+) -> Result<(), NoMemory>
+    requires node_in { node < vec_len steps.old }
+    requires counted { slice_index steps.old.items node ≤ vec_len trace.old }
+    ensures trace { OnOk result (trace.new.items ≡ trace.old.items ++ Event.Step node ∷ []) }
+    ensures steps { OnOk result
+        (steps.new.items ≡ slice_set steps.old.items node (slice_index steps.old.items node + 1)) }
+    ensures handed { OnOk result (mail.new.handed ≡ mail.old.handed ++ mail.old.waiting ∷ []) }
+    ensures waiting { OnOk result (mail.new.waiting ≡ []) }
+    ensures trace_kept { OnErr result (trace.new.items ≡ trace.old.items) }
+    ensures steps_kept { OnErr result (steps.new.items ≡ steps.old.items) }
+    ensures mail_kept { OnErr result (mail.new ≡ mail.old) }
+{
+    trace.reserve(1)?;
+    mail.hand_out()?;
+    trace.push_reserved(Event::Step(node));
+    steps[node as usize] += 1;
+    Ok(())
+}
+
+/// A release of a message to those that wait.
+pub(crate) fn note_release(
+    trace: &mut Vec<Event>,
+    answers: &mut Vec<bool>,
+    mail: &mut Mail,
+    name: Name,
+) -> Result<(), NoMemory>
+    ensures trace { OnOk result (trace.new.items ≡ trace.old.items ++ Event.Release name ∷ []) }
+    ensures answers { OnOk result (answers.new.items ≡ answers.old.items ++ true ∷ []) }
+    ensures handed { OnOk result (mail.new.handed ≡ mail.old.handed) }
+    ensures waiting { OnOk result (mail.new.waiting ≡ mail.old.waiting ++ name ∷ []) }
+    ensures trace_kept { OnErr result (trace.new.items ≡ trace.old.items) }
+    ensures answers_kept { OnErr result (answers.new.items ≡ answers.old.items) }
+    ensures mail_kept { OnErr result (mail.new ≡ mail.old) }
+{
+    trace.reserve(1)?;
+    answers.reserve(1)?;
+    mail.push(name)?;
+    answers.push_reserved(true);
+    trace.push_reserved(Event::Release(name));
+    Ok(())
+}
+
+/// An event of the network with its answer, which changes no mail.
+pub(crate) fn note_answer(
+    trace: &mut Vec<Event>,
+    answers: &mut Vec<bool>,
+    event: Event,
+    answer: bool,
+) -> Result<(), NoMemory>
+    ensures trace { OnOk result (trace.new.items ≡ trace.old.items ++ event ∷ []) }
+    ensures answers { OnOk result (answers.new.items ≡ answers.old.items ++ answer ∷ []) }
+    ensures trace_kept { OnErr result (trace.new.items ≡ trace.old.items) }
+    ensures answers_kept { OnErr result (answers.new.items ≡ answers.old.items) }
+{
+    trace.reserve(1)?;
+    answers.push(answer)?;
+    trace.push_reserved(event);
+    Ok(())
+}
+
+/// The state that a node ended its round with goes to its row.
+pub(crate) fn note_close(
+    states: &mut Vec<Arc<Vars>>,
+    finished: &Finished<'_>,
+) -> Result<(), NoMemory>
+    ensures ok { OnOk result (states_of states.new.items
+        ≡ states_of states.old.items ++ end_state finished.now.node.now ∷ []) }
+    ensures err { OnErr result (states.new.items ≡ states.old.items) }
+{
+    states.reserve(1)?;
+    let state = finished.new_state()?;
+    states.push_reserved(state);
+    Ok(())
+}

@@ -1,0 +1,210 @@
+-- A book and its buffers fit where each part of them does.
+use Rattle.std.proofs.Common.{◌≡◌, ℕ, ◌+◌, ◌-◌, ◌<◌, ◌≤◌, All, List, [], length, get_or, Option}
+use Rattle.std.proofs.Common.{Some, None, ap, sym, subst, ◌∙◌, refl, arith, ◌⊎◌, inl, inr}
+use Rattle.std.specs.Prelude.{IfSome, IsSomeAnd}
+use Rattle.std.proofs.lemmas.Bool.{cases_lt}
+use Rattle.std.proofs.lemmas.List.{ext_get_or, get_or_default, get_or-map, get_or_past, length-map}
+use Rattle.std.proofs.lemmas.List.Elements.{All-from_get_or, All-same}
+use Rattle.round_lang.specs.Syntax.{ProgramTree}
+use Rattle.round_meaning.specs.Rounds.{Algorithm, algorithm_of}
+use Rattle.round_meaning.specs.declared.setup.Setup.{Setup}
+use Rattle.step_machine.specs.declared.event.Name.{Name}
+use Rattle.step_machine.specs.Frames.{Frame, Spells, max_copy}
+use Rattle.step_book.specs.declared.mark.Mark.{Mark}
+use Rattle.step_book.specs.declared.mark.Mark.TheVariants.{Unsent, Silent, Flying, Released, Lost}
+use Rattle.step_book.specs.Agreement.{Row, row}
+use Rattle.step_book.specs.Log.{IsFaithful, Log, mark_in, waiting_in}
+use Rattle.step_book.specs.Names.{IsName}
+use Rattle.step_book.specs.Stock.{AreSpelt, IsGenuine, Stock, flying_at, names_in, run_of}
+use Rattle.step_journal.specs.Fits.{Fits, Flies, IsOfRun, no_stock, place_among, stock_at}
+use Rattle.step_journal.specs.Fitting.{AreNamed, FitsNode, FliesAs, HoldsAt, IsRecorded, named}
+use Rattle.step_journal.proofs.Stocks.{stock_read}
+
+recorded : (a : Algorithm) (rows : List Row) (f : Frame) → IsGenuine a rows f → IsRecorded rows f
+recorded a rows f h = record { copy = h.copy; first = h.first; past = h.past; own = h.own }
+
+genuine : (a : Algorithm) (rows : List Row) (f : Frame) → Spells a f → IsRecorded rows f → IsGenuine a rows f
+genuine a rows f said h = record { spells = said; copy = h.copy; first = h.first; past = h.past; own = h.own }
+
+-- a sender that isn't one of the run's has no states
+pub recorded_node : {start : ℕ → ℕ} {v : Log} {f : Frame} → IsFaithful start v → v.setup.nodes ≤ f.name.from → IsRecorded v.rows f → ⊥
+recorded_node {start} {v} {f} faith past h =
+    let none : row v.rows f.name.from ≡ [] = get_or_past v.rows f.name.from [] (let s = faith.rowed in omega arith) in
+    let many = h.past in
+    let first = h.first in
+    let size = ap length none in
+    absurd (omega arith)
+
+-- ---- one frame in flight
+
+some_recorded : (a : Algorithm) (rows : List Row) (n : Name) (o : Option Frame)
+    → IsSomeAnd o (λ f. (f.name ≡ n) × IsGenuine a rows f) → IsSomeAnd o (λ f. (f.name ≡ n) × IsRecorded rows f)
+some_recorded a rows n None h = h
+some_recorded a rows n (Some f) h = (h.0, recorded a rows f h.1)
+
+some_genuine : (a : Algorithm) (rows : List Row) (n : Name) (o : Option Frame) → IfSome o (Spells a)
+    → IsSomeAnd o (λ f. (f.name ≡ n) × IsRecorded rows f) → IsSomeAnd o (λ f. (f.name ≡ n) × IsGenuine a rows f)
+some_genuine a rows n None said h = h
+some_genuine a rows n (Some f) said h = (h.0, genuine a rows f said h.1)
+
+none_flies : (rows : List Row) (n : Name) (m : Mark) (o : Option Frame) → (m ≡ Flying → ⊥) → o ≡ None → HoldsAt rows n m o
+none_flies rows n m o still none = record { flies = λ e. absurd (still e); stays = λ x. none }
+
+flies_holds : (a : Algorithm) (rows : List Row) (n : Name) (m : Mark) (o : Option Frame) → Flies a rows n m o → HoldsAt rows n m o
+flies_holds a rows n Flying o h = record { flies = λ e. some_recorded a rows n o h; stays = λ x. absurd (x refl) }
+flies_holds a rows n Unsent o h = none_flies rows n Unsent o (λ e. absurd (cc)) h
+flies_holds a rows n Silent o h = none_flies rows n Silent o (λ e. absurd (cc)) h
+flies_holds a rows n (Released x) o h = none_flies rows n (Released x) o (λ e. absurd (cc)) h
+flies_holds a rows n Lost o h = none_flies rows n Lost o (λ e. absurd (cc)) h
+
+holds_flies : (a : Algorithm) (rows : List Row) (n : Name) (m : Mark) (o : Option Frame) → IfSome o (Spells a) → HoldsAt rows n m o → Flies a rows n m o
+holds_flies a rows n Flying o said h = some_genuine a rows n o said (h.flies refl)
+holds_flies a rows n Unsent o said h = h.stays (λ e. absurd (cc))
+holds_flies a rows n Silent o said h = h.stays (λ e. absurd (cc))
+holds_flies a rows n (Released x) o said h = h.stays (λ e. absurd (cc))
+holds_flies a rows n Lost o said h = h.stays (λ e. absurd (cc))
+
+-- ---- the frames in flight to a node, one after the other
+
+-- a frame stands, or doesn't, as the record says of it
+abbrev pub Stands : (ℕ → ℕ) → Log → Stock → ℕ → ℕ → ℕ → ℕ → Type 0
+Stands start v b i k r j =
+    HoldsAt v.rows (named i k r j) (mark_in start v (named i k r j)) (flying_at b k (place_among v.setup.nodes (named i k r j)))
+
+-- so those of one round from the first senders
+abbrev pub FliesFrom : (ℕ → ℕ) → Log → Stock → ℕ → ℕ → ℕ → ℕ → Type 0
+FliesFrom start v b i k r n = (j : ℕ) → j < n → Stands start v b i k r j
+
+pub flies_first : (start : ℕ → ℕ) (v : Log) (b : Stock) (i k r : ℕ) → FliesFrom start v b i k r 0
+flies_first start v b i k r = λ j l. absurd (omega arith)
+
+pub flies_next : (start : ℕ → ℕ) (v : Log) (b : Stock) (i k r n : ℕ) → Stands start v b i k r n → FliesFrom start v b i k r n → FliesFrom start v b i k r (n + 1)
+flies_next start v b i k r n here before = λ j l. each j l (cases_lt j n)
+  where
+    each : (j : ℕ) → j < n + 1 → (j < n) ⊎ (n ≤ j) → Stands start v b i k r j
+    each j l (inl low) = before j low
+    each j l (inr high) = subst (Stands start v b i k r) (let e : n ≡ j = omega arith in e) here
+
+pub flies_no_round : (start : ℕ → ℕ) (v : Log) (b : Stock) (i k : ℕ) → FliesAs start v b i k (1 - 1)
+flies_no_round start v b i k = λ r j first last from. absurd (omega arith)
+
+pub flies_round : (start : ℕ → ℕ) (v : Log) (b : Stock) (i k r n : ℕ) → 0 < r → v.setup.nodes ≤ n → FliesFrom start v b i k r n → FliesAs start v b i k (r - 1) → FliesAs start v b i k (r + 1 - 1)
+flies_round start v b i k r n positive past here before = λ q j first last from. each q j first last from (cases_lt q r)
+  where
+    each : (q j : ℕ) → 0 < q → q ≤ r + 1 - 1 → j < v.setup.nodes → (q < r) ⊎ (r ≤ q) → Stands start v b i k q j
+    each q j first last from (inl low) = before q j first (omega arith) from
+    each q j first last from (inr high) = subst (λ z. Stands start v b i k z j) (let e : r ≡ q = omega arith in e) (here j (omega arith))
+
+-- ---- a node's buffer, and all of them
+
+-- a name of the run, by its parts
+named_is : (v : Log) (i k r j : ℕ) → i < v.setup.nodes → k ≤ 3 → 0 < r → r ≤ v.setup.rounds → j < v.setup.nodes → IsName v.setup (named i k r j)
+named_is v i k r j to copy first last from = record { from = from; to = to; first = first; last = last; copy = copy }
+
+pub fits_at : (start : ℕ → ℕ) (v : Log) (bs : List Stock) (i : ℕ) (b : Stock) → i < v.setup.nodes → b ≡ get_or bs i b → Fits start v bs → FitsNode start v i b
+fits_at start v bs i b l h f =
+    let a = algorithm_of v.program v.setup in
+    let within : i < length bs = (let s = f.sized in omega arith) in
+    let was : stock_at bs i ≡ b = stock_read bs i b within h in
+    let of : IsOfRun v.program v.setup b = subst (IsOfRun v.program v.setup) (sym h) (f.runs i b within) in
+    let waits : All (IsGenuine a v.rows) b.waiting = All-same (IsGenuine a v.rows) _ _ (ap (λ (x : Stock). x.waiting) (sym was)) (f.genuine i l) in record {
+      program = of.program;
+      setup = of.setup;
+      waiting = record {
+        names = ap (λ (x : Stock). names_in x.waiting) (sym was) ∙ f.waiting i l;
+        recorded = λ k d m. recorded a v.rows _ (waits k d m);
+      };
+      flying = λ k few r j first last from.
+          let n = named i k r j in
+          flies_holds a v.rows n (mark_in start v n) _
+          (subst (λ (x : Stock). Flies a v.rows n (mark_in start v n) (flying_at x k (place_among v.setup.nodes n))) was
+          (f.flying n (named_is v i k r j l few first last from)));
+    }
+
+-- the nodes' buffers up to one fit
+abbrev pub FitTo : (ℕ → ℕ) → Log → List Stock → ℕ → Type 0
+FitTo start v bs n =
+    (i : ℕ) → i < n → FitsNode start v i (stock_at bs i) × AreSpelt (run_of (stock_at bs i)) (stock_at bs i).flying (stock_at bs i).waiting
+
+pub fit_none : (start : ℕ → ℕ) (v : Log) (bs : List Stock) → FitTo start v bs 0
+fit_none start v bs = λ i l. absurd (omega arith)
+
+pub fit_more : (start : ℕ → ℕ) (v : Log) (bs : List Stock) (n : ℕ) (b : Stock) → n < length bs → b ≡ get_or bs n b
+    → FitsNode start v n b → AreSpelt (run_of b) b.flying b.waiting → FitTo start v bs n → FitTo start v bs (n + 1)
+fit_more start v bs n b l h here said before = λ i m. each i m (cases_lt i n)
+  where
+    was : stock_at bs n ≡ b
+    was = stock_read bs n b l h
+
+    each : (i : ℕ) → i < n + 1 → (i < n) ⊎ (n ≤ i) → FitsNode start v i (stock_at bs i) × AreSpelt (run_of (stock_at bs i)) (stock_at bs i).flying (stock_at bs i).waiting
+    each i m (inl low) = before i low
+    each i m (inr high) =
+        let is : n ≡ i = omega arith in
+        subst (λ k. FitsNode start v k (stock_at bs k) × AreSpelt (run_of (stock_at bs k)) (stock_at bs k).flying (stock_at bs k).waiting) is
+        (subst (λ (x : Stock). FitsNode start v n x × AreSpelt (run_of x) x.flying x.waiting) (sym was) (here, said))
+
+-- what is spelt in a stock of the run is spelt in the run
+spelt_in : {p : ProgramTree} {s : Setup} (b : Stock) (o : Option Frame) → b.program ≡ p → b.setup ≡ s → IfSome o (Spells (run_of b)) → IfSome o (Spells (algorithm_of p s))
+spelt_in {p} {s} b o program setup h =
+    subst (λ q. IfSome o (Spells (algorithm_of q s))) program (subst (λ t. IfSome o (Spells (algorithm_of b.program t))) setup h)
+
+spelt_all : {p : ProgramTree} {s : Setup} (b : Stock) (fs : List Frame) → b.program ≡ p → b.setup ≡ s → All (Spells (run_of b)) fs → All (Spells (algorithm_of p s)) fs
+spelt_all {p} {s} b fs program setup h =
+    subst (λ q. All (Spells (algorithm_of q s)) fs) program (subst (λ t. All (Spells (algorithm_of b.program t)) fs) setup h)
+
+pub fit_all : (start : ℕ → ℕ) (v : Log) (bs : List Stock) → length bs ≡ v.setup.nodes → FitTo start v bs v.setup.nodes → Fits start v bs
+fit_all start v bs sized all =
+    let a = algorithm_of v.program v.setup in record {
+      sized = sized;
+      runs = All-from_get_or (IsOfRun v.program v.setup) bs no_stock (λ i l. (let h = (all i (omega arith)).0 in record { program = h.program; setup = h.setup }));
+      waiting = λ i l. (all i l).0.waiting.names;
+      genuine = λ i l k d m.
+          (let h = all i l in genuine a v.rows _ (spelt_all (stock_at bs i) (stock_at bs i).waiting h.0.program h.0.setup h.1.waits k d m) (h.0.waiting.recorded k d m));
+      flying = λ n is.
+          (let h = all n.to is.to in
+          let o = flying_at (stock_at bs n.to) n.copy (place_among v.setup.nodes n) in
+          holds_flies a v.rows n (mark_in start v n) o (spelt_in (stock_at bs n.to) o h.0.program h.0.setup (h.1.flies n.copy (place_among v.setup.nodes n)))
+          (h.0.flying n.copy is.copy n.round n.from is.first is.last is.from));
+    }
+
+-- ---- the frames that wait, one after the other
+
+-- the first frames have the first names
+abbrev pub NamedTo : List Row → List Frame → List Name → ℕ → Type 0
+NamedTo rows fs ns n = (k : ℕ) (d : Frame) (e : Name) → k < n → ((get_or fs k d).name ≡ get_or ns k e) × IsRecorded rows (get_or fs k d)
+
+pub named_more : (rows : List Row) (fs : List Frame) (ns : List Name) (n : ℕ) (f : Frame) (c : Name) → n < length fs → n < length ns
+    → f ≡ get_or fs n f → (f.name ≡ get_or ns n c) × IsRecorded rows f → NamedTo rows fs ns n → NamedTo rows fs ns (n + 1)
+named_more rows fs ns n f c l m ef here before = λ i d e x. each i d e x (cases_lt i n)
+  where
+    each : (i : ℕ) (d : Frame) (e : Name) → i < n + 1 → (i < n) ⊎ (n ≤ i) → ((get_or fs i d).name ≡ get_or ns i e) × IsRecorded rows (get_or fs i d)
+    each i d e x (inl low) = before i d e low
+    each i d e x (inr high) =
+        let is : n ≡ i = omega arith in
+        let frame : get_or fs n d ≡ f = get_or_default fs n d f l ∙ sym ef in
+        let name : get_or ns n c ≡ get_or ns n e = get_or_default ns n c e m in
+        subst (λ j. ((get_or fs j d).name ≡ get_or ns j e) × IsRecorded rows (get_or fs j d)) is
+        (ap (λ (z : Frame). z.name) frame ∙ here.0 ∙ name, subst (IsRecorded rows) (sym frame) here.1)
+
+pub named_all : (rows : List Row) (fs : List Frame) (ns : List Name) (n : ℕ) → length fs ≡ length ns → length fs ≤ n → NamedTo rows fs ns n → AreNamed rows fs ns
+named_all rows fs ns n sized past h = record {
+  names = names fs ns sized (λ k d e l. (h k d e (omega arith)).0);
+  recorded = λ k d l. (h k d d.name (omega arith)).1;
+}
+  where
+    names : (fs : List Frame) (ns : List Name) → length fs ≡ length ns → ((k : ℕ) (d : Frame) (e : Name) → k < length fs → (get_or fs k d).name ≡ get_or ns k e) → names_in fs ≡ ns
+    names fs ns sized each =
+        let d : Name = record { from = 0; to = 0; round = 0; copy = 0 } in
+        let f : Frame = record { name = d; state = []; message = [] } in
+        ext_get_or d (names_in fs) ns (length-map fs (λ (z : Frame). z.name) ∙ sized)
+        (λ k l. (let m = length-map fs (λ (z : Frame). z.name) in get_or-map (λ (z : Frame). z.name) fs k f d (omega arith) ∙ each k f d (omega arith)))
+
+pub named_at : (rows : List Row) (fs : List Frame) (ns : List Name) (n : ℕ) (f : Frame) (c : Name) → n < length fs → n < length ns
+    → f ≡ get_or fs n f → AreNamed rows fs ns → (f.name ≡ get_or ns n c) × IsRecorded rows f
+named_at rows fs ns n f c l m ef h = (
+  ap (λ (z : Frame). z.name) ef ∙ sym (get_or-map (λ (z : Frame). z.name) fs n f c l) ∙ ap (λ z. get_or z n c) h.names,
+  subst (IsRecorded rows) (sym ef) (h.recorded n f l),
+)
+
+pub named_sized : (rows : List Row) (fs : List Frame) (ns : List Name) → AreNamed rows fs ns → length fs ≡ length ns
+named_sized rows fs ns h = sym (length-map fs (λ (z : Frame). z.name)) ∙ ap length h.names

@@ -1,0 +1,11 @@
+use Rattle.std.proofs.Common.{ap, arith}
+use Rattle.step_journal.proofs.Named.{flies_round}
+use Rattle.step_journal.proofs.fitting.flies_as.Goals as goal
+
+pub loop-round-preserved : goal.loop-round-preserved
+loop-round-preserved g c =
+    let nodes = ap (λ u. u.nodes) c.setup-in-loop-round.ensures in
+    let first = c.loop-round.auto.round in
+    let past = c.loop-from-test.false in
+    flies_round (g.P.Plan.start c.args.book.now.plan) c.args.book.now.log c.args.buffer.now c.args.node c.args.copy c.loop-round.round c.loop-from.from
+    (omega arith) (omega arith) c.loop-from.invariant.1 c.loop-from.invariant.0

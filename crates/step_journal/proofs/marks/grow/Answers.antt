@@ -1,5 +1,0 @@
-use Rattle.step_journal.proofs.Tables.{same_push}
-use Rattle.step_journal.proofs.marks.grow.Goals as goal
-
-pub loop-marks-preserved : goal.loop-marks-preserved
-loop-marks-preserved c = same_push _ _ _ _ c.in_ok-push.ensures.items c.loop-marks.invariant

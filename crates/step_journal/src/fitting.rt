@@ -1,0 +1,140 @@
+//! Whether frames are those that a book names.
+ghost use Rattle.std.specs.Prelude.{◌≡◌, ◌<◌, ◌≤◌, ◌↔◌, ℕ, IsTrue};
+ghost use Rattle.step_book.specs.Log.{mark_in};
+ghost use Rattle.step_book.specs.Names.{IsName};
+ghost use Rattle.step_book.specs.Stock.{flying_at};
+ghost use Rattle.step_journal.specs.Fits.{Fits, place_among};
+ghost use Rattle.step_journal.specs.Fitting.{AreNamed, FitsNode, FliesAs, HoldsAt, IsRecorded};
+
+use slot_plans::Plan;
+use step_book::{Book, Buffer};
+use step_machine::{MAX_COPY, Name, Sealed};
+
+/// Whether the buffers hold the frames that the book names.
+pub(crate) fn fits<P: Plan>(book: &Book<P>, buffers: &[Buffer]) -> bool
+    ensures { IsTrue result ↔ Fits (P.start book.now.plan) book.now.log buffers.now }
+{
+    let nodes = book.setup().nodes;
+    if buffers.len() != nodes as usize {
+        return false;
+    }
+    for node in 0..nodes {
+        let buffer = &buffers[node as usize];
+        buffer.spelt();
+        if !fits_node(book, node, buffer) {
+            return false;
+        }
+    }
+    true
+}
+
+/// Whether a node's buffer holds what the book names for it.
+fn fits_node<P: Plan>(book: &Book<P>, node: u32, buffer: &Buffer) -> bool
+    requires { node < book.now.log.setup.nodes }
+    ensures { IsTrue result ↔ FitsNode (P.start book.now.plan) book.now.log node buffer.now }
+{
+    buffer.program().same(book.program())
+        && buffer.setup().same(book.setup())
+        && are_named(book, buffer.waiting(), book.waiting(node))
+        && fly(book, buffer, node)
+}
+
+/// Whether frames have these names, in this order, and the recorded states.
+pub fn are_named<P: Plan>(book: &Book<P>, frames: &[Sealed], names: &[Name]) -> bool
+    ensures { IsTrue result ↔ AreNamed book.now.log.rows frames.now names.now }
+{
+    if frames.len() != names.len() {
+        return false;
+    }
+    for (place, frame) in frames.iter().enumerate() {
+        if !is_named(book, frame, names[place]) {
+            return false;
+        }
+    }
+    true
+}
+
+/// Whether a frame has this name, and its sender's recorded state.
+fn is_named<P: Plan>(book: &Book<P>, frame: &Sealed, name: Name) -> bool
+    ensures { IsTrue result ↔ ((frame.now.name ≡ name) × IsRecorded book.now.log.rows frame.now) }
+{
+    frame.name() == name && is_recorded(book, frame)
+}
+
+/// Whether a frame names the state that is recorded of its sender.
+fn is_recorded<P: Plan>(book: &Book<P>, frame: &Sealed) -> bool
+    ensures { IsTrue result ↔ IsRecorded book.now.log.rows frame.now }
+{
+    book.agrees();
+    let name = frame.name();
+    if name.from >= book.setup().nodes {
+        return false;
+    }
+    if name.round == 0 || name.copy > MAX_COPY {
+        return false;
+    }
+    match book.states(name.from).get(name.round as usize - 1) {
+        Some(state) => state.same(frame.state()),
+        None => false,
+    }
+}
+
+/// Whether the frames in flight to a node are those that the book names.
+fn fly<P: Plan>(book: &Book<P>, buffer: &Buffer, node: u32) -> bool
+    requires { node < book.now.log.setup.nodes }
+    ensures { IsTrue result ↔ ((k : ℕ) → k ≤ 3
+        → FliesAs
+        (P.start book.now.plan) book.now.log buffer.now node k book.now.log.setup.rounds) }
+{
+    flies_as(book, buffer, node, 0)
+        && flies_as(book, buffer, node, 1)
+        && flies_as(book, buffer, node, 2)
+        && flies_as(book, buffer, node, 3)
+}
+
+/// Whether the frames of one copy number are.
+fn flies_as<P: Plan>(book: &Book<P>, buffer: &Buffer, node: u32, copy: u32) -> bool
+    requires node { node < book.now.log.setup.nodes }
+    requires copy { copy ≤ 3 }
+    ensures { IsTrue result ↔ FliesAs (P.start book.now.plan) book.now.log buffer.now node copy
+        book.now.log.setup.rounds }
+{
+    book.agrees();
+    for round in 1..book.setup().rounds + 1 {
+        for from in 0..book.setup().nodes {
+            let name = Name {
+                from,
+                to: node,
+                round,
+                copy,
+            };
+            if !holds(book, buffer, name) {
+                return false;
+            }
+        }
+    }
+    true
+}
+
+/// Whether a buffer has a frame of this name, of its sender's recorded state, just where the book
+/// says that it's in flight.
+pub fn holds<P: Plan>(book: &Book<P>, buffer: &Buffer, name: Name) -> bool
+    requires { IsName book.now.log.setup name }
+    ensures { IsTrue result ↔ HoldsAt book.now.log.rows name
+        (mark_in (P.start book.now.plan) book.now.log name)
+        (flying_at buffer.now name.copy (place_among book.now.log.setup.nodes name)) }
+{
+    match buffer.flying(name.copy, place(book, name)) {
+        Some(frame) => book.is_flying(name) && is_named(book, frame, name),
+        None => !book.is_flying(name),
+    }
+}
+
+/// The place of a message among those to its receiver.
+pub fn place<P: Plan>(book: &Book<P>, name: Name) -> usize
+    requires { IsName book.now.log.setup name }
+    ensures { result ≡ place_among book.now.log.setup.nodes name }
+{
+    let nodes = book.setup().nodes as usize;
+    (name.round as usize - 1) * nodes + name.from as usize
+}
