@@ -1,0 +1,113 @@
+-- The turns of the nodes in a tick.
+use Rattle.std.proofs.Common.{◌≡◌, ℕ, ◌+◌, ◌-◌, ◌*◌, ◌%◌, ◌<◌, ◌≤◌, Bool, true, false, ltb, List}
+use Rattle.std.proofs.Common.{◌∷◌, sym, ap, subst, refl, ◌∙◌, arith, ◌⊎◌, inl, inr, if◌then◌else◌}
+use Rattle.std.proofs.lemmas.Bool.{cases_eq, cases_lt, le-ltb, lt-ltb, eq-eqb, ne_eqb}
+use Rattle.std.proofs.lemmas.Bool.Decides.{nat_tests}
+use Rattle.std.proofs.lemmas.Nat.{mod_below}
+use Rattle.std.proofs.Math.Arith.{digits_mod}
+use Rattle.std.proofs.Math.Nat.{mod-eq_of_lt}
+use Rattle.policies.specs.declared.bounded.Bounded.{Bounded}
+use Rattle.round_meaning.specs.Nodes.{has_node}
+use Rattle.step_book.specs.Trace.{steps}
+use Rattle.step_book.specs.World.{World, nodes_of}
+use Rattle.step_book.proofs.Places.{steps_at, steps_other}
+use Rattle.step_machine.specs.declared.event.Event.{Event}
+use Rattle.step_machine.specs.declared.event.Event.TheVariants.{Step}
+use Rattle.lockstep_runs.specs.Lockstep.{first_in, turn_in}
+use Rattle.lockstep_runs.specs.Pacing.{AreSteps, AreStepsIn}
+
+wrapped : (x n : ℕ) → x < n → (x + n) % n ≡ x
+wrapped x n l = let e : x + n ≡ 1 * n + x = omega arith in ap (λ y. y % n) e ∙ digits_mod 1 l
+
+turned_by : (f j n : ℕ) → f < n → j < n → (f + j < n) ⊎ (n ≤ f + j) → ((f + j) % n + n - f) % n ≡ j
+turned_by f j n a b (inl l) =
+    let small = mod-eq_of_lt l in
+    let e : (f + j) % n + n - f ≡ j + n = omega (arith, small) in
+    ap (λ y. y % n) e ∙ wrapped j n b
+turned_by f j n a b (inr l) =
+    let k : f + j - n + n ≡ f + j = omega arith in
+    let small : (f + j) % n ≡ f + j - n = ap (λ y. y % n) (sym k) ∙ wrapped (f + j - n) n (omega arith) in
+    let e : (f + j) % n + n - f ≡ j = omega (arith, small) in
+    ap (λ y. y % n) e ∙ mod-eq_of_lt b
+
+-- the node whose turn is number j
+pub turned : (f j n : ℕ) → f < n → j < n → ((f + j) % n + n - f) % n ≡ j
+turned f j n a b = turned_by f j n a b (cases_lt _ _)
+
+found_by : (f i n : ℕ) → f < n → i < n → (i < f) ⊎ (f ≤ i) → (f + (i + n - f) % n) % n ≡ i
+found_by f i n a b (inl l) =
+    let small : (i + n - f) % n ≡ i + n - f = mod-eq_of_lt (omega arith) in
+    let e : f + (i + n - f) % n ≡ i + n = omega (arith, small) in
+    ap (λ y. y % n) e ∙ wrapped i n b
+found_by f i n a b (inr l) =
+    let k : i + n - f ≡ (i - f) + n = omega arith in
+    let small : (i + n - f) % n ≡ i - f = ap (λ y. y % n) k ∙ wrapped (i - f) n (omega arith) in
+    let e : f + (i + n - f) % n ≡ i = omega (arith, small) in
+    ap (λ y. y % n) e ∙ mod-eq_of_lt b
+
+-- and no other node's is
+pub found : (f i n : ℕ) → f < n → i < n → (f + (i + n - f) % n) % n ≡ i
+found f i n a b = found_by f i n a b (cases_lt _ _)
+
+module _ (w : World) (b : Bounded) (correct tick : ℕ) (some : 0 < nodes_of w) where
+  first_below : first_in b (nodes_of w) tick < nodes_of w
+  first_below = mod_below _ (nodes_of w) some
+
+  abbrev node_at : ℕ → ℕ
+  node_at j = (first_in b (nodes_of w) tick + j) % nodes_of w
+
+  pub turn_at : (j : ℕ) → j < nodes_of w → turn_in b (nodes_of w) tick (node_at j) ≡ j
+  turn_at j l = turned (first_in b (nodes_of w) tick) j (nodes_of w) first_below l
+
+  turn_other : (i j : ℕ) → i < nodes_of w → (i ≡ node_at j → ⊥) → turn_in b (nodes_of w) tick i ≡ j → ⊥
+  turn_other i j l apart h = apart (sym (found (first_in b (nodes_of w) tick) i (nodes_of w) first_below l) ∙ ap node_at h)
+
+  pub steps_begin : (t : List Event) → AreSteps w correct t tick → AreStepsIn w b correct t tick 0
+  steps_begin t h = λ i l.
+      h i l ∙ ap (λ z. if has_node correct i then (if z then tick + 1 else tick) else 0) (sym (le-ltb (turn_in b (nodes_of w) tick i) 0 (omega arith)))
+
+  pub steps_end : (t : List Event) → AreStepsIn w b correct t tick (nodes_of w) → AreSteps w correct t (tick + 1)
+  steps_end t h = λ i l.
+      h i l ∙ ap (λ z. if has_node correct i then (if z then tick + 1 else tick) else 0) (lt-ltb _ _ (mod_below _ (nodes_of w) some))
+
+  -- the node whose turn it is has as many steps as ticks are over
+  pub steps_now : (t : List Event) (j : ℕ) → j < nodes_of w → node_at j < nodes_of w → has_node correct (node_at j) ≡ true → AreStepsIn w b correct t tick j → steps (node_at j) t ≡ tick
+  steps_now t j l m c h =
+      h (node_at j) m ∙ ap (λ z. if z then (if ltb (turn_in b (nodes_of w) tick (node_at j)) j then tick + 1 else tick) else 0) c
+      ∙ ap (λ z. if z then tick + 1 else tick) (le-ltb _ j (let e = turn_at j l in omega arith))
+
+  same_turn : (i j : ℕ) → i < nodes_of w → (i ≡ node_at j → ⊥) → ltb (turn_in b (nodes_of w) tick i) (j + 1) ≡ ltb (turn_in b (nodes_of w) tick i) j
+  same_turn i j l apart = turn_tests (turn_in b (nodes_of w) tick i) j (turn_other i j l apart)
+    where
+      turn_tests : (x j : ℕ) → (x ≡ j → ⊥) → ltb x (j + 1) ≡ ltb x j
+      turn_tests x j ne = grind (arith, nat_tests)
+
+  stepped_by : (t : List Event) (i j : ℕ) → j < nodes_of w → has_node correct (node_at j) ≡ true → i < nodes_of w → AreStepsIn w b correct t tick j → (i ≡ node_at j) ⊎ (i ≡ node_at j → ⊥) → steps i (Step (node_at j) ∷ t) ≡ (if has_node correct i then (if ltb (turn_in b (nodes_of w) tick i) (j + 1) then tick + 1 else tick) else 0)
+  stepped_by t i j l c m h (inl same) =
+      let own : node_at j < nodes_of w = subst (λ x. x < nodes_of w) same m in
+      let is : has_node correct i ≡ true = ap (has_node correct) same ∙ c in
+      let turn : turn_in b (nodes_of w) tick i ≡ j = ap (turn_in b (nodes_of w) tick) same ∙ turn_at j l in
+      ap (λ x. steps x (Step (node_at j) ∷ t)) same
+      ∙ steps_at (node_at j) (Step (node_at j)) t (eq-eqb (node_at j) (node_at j) refl)
+      ∙ ap (λ x. x + 1) (steps_now t j l own c h)
+      ∙ sym (ap (λ z. if z then (if ltb (turn_in b (nodes_of w) tick i) (j + 1) then tick + 1 else tick) else 0) is
+      ∙ ap (λ z. if z then tick + 1 else tick) (lt-ltb _ (j + 1) (omega arith)))
+  stepped_by t i j l c m h (inr apart) =
+      steps_other i (Step (node_at j)) t (ne_eqb (node_at j) i (λ e. apart (sym e)))
+      ∙ h i m ∙ ap (λ z. if has_node correct i then (if z then tick + 1 else tick) else 0) (sym (same_turn i j m apart))
+
+  -- its step
+  pub steps_stepped : (t : List Event) (j : ℕ) → j < nodes_of w → has_node correct (node_at j) ≡ true → AreStepsIn w b correct t tick j → AreStepsIn w b correct (Step (node_at j) ∷ t) tick (j + 1)
+  steps_stepped t j l c h = λ i m. stepped_by t i j l c m h (cases_eq _ _)
+
+  passed_by : (t : List Event) (i j : ℕ) → has_node correct (node_at j) ≡ false → i < nodes_of w → AreStepsIn w b correct t tick j → (i ≡ node_at j) ⊎ (i ≡ node_at j → ⊥) → steps i t ≡ (if has_node correct i then (if ltb (turn_in b (nodes_of w) tick i) (j + 1) then tick + 1 else tick) else 0)
+  passed_by t i j c m h (inl same) =
+      let is : has_node correct i ≡ false = ap (has_node correct) same ∙ c in
+      h i m ∙ ap (λ z. if z then (if ltb (turn_in b (nodes_of w) tick i) j then tick + 1 else tick) else 0) is
+      ∙ sym (ap (λ z. if z then (if ltb (turn_in b (nodes_of w) tick i) (j + 1) then tick + 1 else tick) else 0) is)
+  passed_by t i j c m h (inr apart) =
+      h i m ∙ ap (λ z. if has_node correct i then (if z then tick + 1 else tick) else 0) (sym (same_turn i j m apart))
+
+  -- the turn of a node that isn't correct
+  pub steps_passed : (t : List Event) (j : ℕ) → has_node correct (node_at j) ≡ false → AreStepsIn w b correct t tick j → AreStepsIn w b correct t tick (j + 1)
+  steps_passed t j c h = λ i m. passed_by t i j c m h (cases_eq _ _)

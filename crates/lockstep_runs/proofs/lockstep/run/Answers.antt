@@ -1,0 +1,22 @@
+use Rattle.std.proofs.Common.{◌≡◌, arith, subst, sym}
+use Rattle.step_book.proofs.Starts.{plan_is}
+use Rattle.step_book.specs.Log.{Recorded, history, opened, world_of}
+use Rattle.lockstep_runs.specs.Lockstep.{IsLockstepRun}
+use Rattle.lockstep_runs.proofs.Ticks.{IsTicked, ticked_first, ticked_last}
+use Rattle.lockstep_runs.proofs.lockstep.run.Goals as goal
+
+pub loop-now-init : goal.loop-now-init
+loop-now-init g c =
+    let p = c.args.plan in
+    let planned = plan_is (g.P.Plan.start p) (g.P.Plan.receives p) (g.P.Plan.nodes p) (opened c.args.program.now c.args.setup.now) (g.met.P.Plan.laws p) c.requires.nodes in
+    ticked_first g.P.Plan.start c.args.program.now c.args.setup.now p c.args.bounded.now c.args.correct.bits c.in_ok-driver.driver c.new-flight.result c.in_ok-driver.ensures planned c.new-flight.ensures.empty
+
+pub returns-clause-lockstep : goal.returns-clause-lockstep
+returns-clause-lockstep g c =
+    let start = g.P.Plan.start in
+    let b = c.args.bounded.now in
+    let correct = c.args.correct.bits in
+    let last : c.loop-now.now ≡ c.args.ticks = (let high = c.loop-now-test.false in let low = c.loop-now.auto.now-end in omega arith) in
+    let all = subst (λ n. IsTicked start c.args.program.now c.args.setup.now c.args.plan b correct n c.loop-now.driver c.loop-now.flight) last c.loop-now.invariant in
+    subst (λ (z : Recorded _). IsLockstepRun (world_of (start z.plan) z.log) b correct c.args.ticks (history z.log)) (sym c.into_journal.ensures.same)
+    (ticked_last start c.args.program.now c.args.setup.now c.args.plan b correct c.args.ticks c.loop-now.driver c.loop-now.flight all)

@@ -1,0 +1,16 @@
+use Rattle.std.proofs.Common.{◌≡◌, ◌+◌, ◌<◌}
+use Rattle.std.specs.BTreeMap as tree
+use Rattle.step_book.specs.Log.{history, world_of}
+use Rattle.lockstep_runs.specs.Pacing.{AreSteps, AreStepsIn, IsPacedIn, IsSameRun, NoneBefore}
+use Rattle.lockstep_runs.specs.Pacing.{turn_key}
+use Rattle.lockstep_runs.proofs.Ticks.{IsReleasing, IsStepping}
+use Rattle.lockstep_runs.proofs.ticking.tick.Given as goal
+
+abbrev pub invariant-loop-name : goal.invariant-loop-name
+invariant-loop-name g l = IsReleasing g.P.Plan.start l.bounded l.correct.bits l.now l.fn.driver l.driver l.flight
+
+abbrev pub decreases-loop-name : goal.decreases-loop-name
+decreases-loop-name g l = tree.btree_map_len l.flight
+
+abbrev pub invariant-loop-turn : goal.invariant-loop-turn
+invariant-loop-turn g l = IsStepping g.P.Plan.start l.bounded l.correct.bits l.now l.fn.driver l.driver l.flight l.turn

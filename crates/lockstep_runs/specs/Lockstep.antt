@@ -1,0 +1,114 @@
+-- Runs in which the correct nodes step in lockstep, and each message has its delay.
+use Rattle.std.specs.Prelude.{◌≡◌, ℕ, ◌+◌, ◌-◌, ◌%◌, ◌<◌, ◌≤◌, true, List, [], ◌∷◌, length}
+use Rattle.std.specs.Prelude.{if◌then◌else◌}
+use Rattle.policies.specs.declared.bounded.Bounded.{Bounded}
+use Rattle.policies.specs.Policies.{due_at}
+use Rattle.policies.specs.Tables.{round_entry}
+use Rattle.round_meaning.specs.declared.setup.Setup.{Setup}
+use Rattle.round_meaning.specs.Nodes.{has_node}
+use Rattle.round_meaning.specs.Setups.{IsLawful}
+use Rattle.slot_plans.specs.Plan.{IsDelta}
+use Rattle.step_book.specs.declared.mark.Mark.TheVariants.{Flying}
+use Rattle.step_book.specs.History.{mark_of}
+use Rattle.step_book.specs.Names.{IsNameOf}
+use Rattle.step_book.specs.Trace.{steps}
+use Rattle.step_book.specs.World.{World, nodes_of}
+use Rattle.step_machine.specs.declared.event.Event.{Event}
+use Rattle.step_machine.specs.declared.event.Event.TheVariants.{Step, Release, Drop, Copy}
+use Rattle.step_machine.specs.declared.event.InFlight.{InFlight}
+use Rattle.step_machine.specs.declared.event.Name.{Name}
+use Rattle.step_book.specs.Serials.{serial}
+
+-- where an event stands in a run: its tick, the part of the tick, which is 0 for releases and 1 for
+-- the steps after them, and its turn there
+pub record Key : Type 0 where
+  pub tick : ℕ
+  pub part : ℕ
+  pub turn : ℕ
+
+-- the first key is the smaller one
+pub data IsBefore (a b : Key) : Type 0 where
+  Tick : a.tick < b.tick → IsBefore a b
+  Part : a.tick ≡ b.tick → a.part < b.part → IsBefore a b
+  Turn : a.tick ≡ b.tick → a.part ≡ b.part → a.turn < b.turn → IsBefore a b
+
+-- a message by its name, with its sender's step number and its serial
+abbrev pub in_flight : World → List Event → Name → InFlight
+in_flight w t n = record { name = n; sent_at = w.start n.round + n.to; serial = serial w t n }
+
+-- the tick in which it's released: its sender's step number and the delay by the table
+abbrev pub due_in : World → Bounded → List Event → Name → ℕ
+due_in w b t n = due_at b (in_flight w t n)
+
+-- the node that steps first in a tick
+abbrev pub first_in : Bounded → ℕ → ℕ → ℕ
+first_in b nodes tick = round_entry b.orders tick 0 % nodes
+
+-- a node's turn in a tick: they step in their order from the first on, and round again
+abbrev pub turn_in : Bounded → ℕ → ℕ → ℕ → ℕ
+turn_in b nodes tick i = (i + nodes - first_in b nodes tick) % nodes
+
+-- a step's key, by how many steps of the node went before it
+abbrev pub step_key : Bounded → ℕ → ℕ → ℕ → Key
+step_key b nodes i tick = record { tick = tick; part = 1; turn = turn_in b nodes tick i }
+
+-- a release's key
+abbrev pub release_key : World → Bounded → List Event → Name → Key
+release_key w b t n = record { tick = due_in w b t n; part = 0; turn = serial w t n }
+
+-- the key of an event, by what went before it
+abbrev pub key_of : World → Bounded → Event → List Event → Key
+key_of w b (Step i) past = step_key b (nodes_of w) i (steps i past)
+key_of w b (Release n) past = release_key w b past n
+key_of w b (Drop n) past = release_key w b past n
+key_of w b (Copy n) past = release_key w b past n
+
+-- it holds of each event of a history, which has the newest first, and of what went before it
+unfoldable pub Each : (Event → List Event → Type 0) → List Event → Type 0
+Each Holds [] = Unit {0}
+Each Holds (e ∷ past) = Holds e past × Each Holds past
+
+-- the keys of all events are smaller than this one
+abbrev pub AllBefore : World → Bounded → Key → List Event → Type 0
+AllBefore w b k t = Each (λ e past. IsBefore (key_of w b e past) k) t
+
+-- the name is of copy 0 of a message of the run
+pub record IsOriginal (w : World) (n : Name) : Type 0 where
+  pub named : IsNameOf (nodes_of w) w.rounds n
+  pub first : n.copy ≡ 0
+
+-- the message is in flight, by its copy 0
+pub record IsAloft (w : World) (t : List Event) (n : Name) : Type 0 where
+  pub original : IsOriginal w n
+  pub flies : mark_of w t n ≡ Flying
+
+-- a run has steps of correct nodes, and releases of messages in flight that are due below `ticks`
+abbrev pub MayHappen : World → Bounded → ℕ → ℕ → Event → List Event → Type 0
+MayHappen w b correct ticks (Step i) past = has_node correct i ≡ true
+MayHappen w b correct ticks (Release n) past = IsAloft w past n × (due_in w b past n < ticks)
+MayHappen w b correct ticks (Drop n) past = ⊥
+MayHappen w b correct ticks (Copy n) past = ⊥
+
+-- a history is one of lockstep over so many ticks
+pub record IsLockstepRun (w : World) (b : Bounded) (correct ticks : ℕ)
+    (t : List Event) : Type 0 where
+  pub events : Each (MayHappen w b correct ticks) t
+  -- the keys rise from each event to all that are newer
+  pub rising : Each (λ e past. AllBefore w b (key_of w b e past) past) t
+  -- each correct node takes as many steps, and no other takes one
+  pub steps : (i : ℕ) → i < nodes_of w → steps i t ≡ (if has_node correct i then ticks else 0)
+  -- a message that is still in flight is due later
+  pub released : (n : Name) → IsAloft w t n → ticks ≤ due_in w b t n
+
+-- the most entries that a table may have
+abbrev pub max_entries : ℕ
+max_entries = 65536
+
+-- the setup is lawful, the correct nodes are nodes of it, and the bound and the tables are within
+-- their limits
+pub record IsFit (values : ℕ) (s : Setup) (correct : ℕ) (b : Bounded) : Type 0 where
+  pub lawful : IsLawful values s
+  pub nodes : (i : ℕ) → has_node correct i ≡ true → i < s.nodes
+  pub delta : IsDelta b.delta
+  pub delays : length b.delays ≤ max_entries
+  pub orders : length b.orders ≤ max_entries

@@ -1,0 +1,117 @@
+-- What holds while a lockstep run is made.
+use Rattle.std.specs.Prelude.{◌≡◌, ℕ, ◌+◌, ◌<◌, ◌≤◌, List, Option, Some, None, if◌then◌else◌, ltb}
+use Rattle.std.specs.BTreeMap as tree
+use Rattle.std.specs.BTreeMap.{BTreeMap}
+use Rattle.std.specs.Ordering.{nat_cmp, ordering_then}
+use Rattle.policies.specs.declared.bounded.Bounded.{Bounded}
+use Rattle.round_meaning.specs.Nodes.{has_node}
+use Rattle.round_meaning.specs.declared.setup.Setup.{Setup}
+use Rattle.step_book.specs.Log.{Log, Recorded, history, world_of}
+use Rattle.step_book.specs.Names.{IsName}
+use Rattle.step_book.specs.Trace.{steps}
+use Rattle.step_book.specs.World.{IsPlan, World, nodes_of}
+use Rattle.step_machine.specs.declared.event.Event.{Event}
+use Rattle.step_machine.specs.declared.event.Name.{Name}
+use Rattle.lockstep_runs.specs.Lockstep.{AllBefore, Each, IsAloft, IsBefore, Key, MayHappen, due_in}
+use Rattle.lockstep_runs.specs.Lockstep.{key_of, turn_in}
+use Rattle.step_book.specs.Serials.{sent, serial}
+
+-- messages by the tick in which they're due and by their serials
+abbrev pub Flight : Type 0
+Flight = BTreeMap (ℕ × ℕ) Name
+
+-- the message that is due in a tick and has this serial
+abbrev pub waits_at : Flight → ℕ → ℕ → Option Name
+waits_at f tick turn =
+    tree.get (λ x y. ordering_then (nat_cmp x.0 y.0) (nat_cmp x.1 y.1)) f (tick, turn)
+
+-- the message is in flight, due in this tick, and has this serial
+pub record Flies (w : World) (b : Bounded) (t : List Event)
+    (tick turn : ℕ) (n : Name) : Type 0 where
+  pub aloft : IsAloft w t n
+  pub due : tick ≡ due_in w b t n
+  pub place : turn ≡ serial w t n
+  pub sent : turn < sent w t
+
+-- each message in flight stands there, and nothing else
+pub record IsFlight (w : World) (b : Bounded) (t : List Event) (f : Flight) : Type 0 where
+  pub only : (tick turn : ℕ) (n : Name) → waits_at f tick turn ≡ Some n → Flies w b t tick turn n
+  pub all : (n : Name) → IsAloft w t n → waits_at f (due_in w b t n) (serial w t n) ≡ Some n
+
+-- the run was one of lockstep so far, up to a key
+pub record IsPaced (w : World) (b : Bounded) (correct ticks : ℕ) (up_to : Key)
+    (t : List Event) (f : Flight) : Type 0 where
+  pub plan : IsPlan w
+  pub events : Each (MayHappen w b correct ticks) t
+  pub rising : Each (λ e past. AllBefore w b (key_of w b e past) past) t
+  pub before : AllBefore w b up_to t
+  pub flight : IsFlight w b t f
+
+-- the flight is that of the run that is recorded
+abbrev pub IsFlightIn : (ℕ → ℕ) → Log → Bounded → Flight → Type 0
+IsFlightIn start v b f = IsFlight (world_of start v) b (history v) f
+
+-- the run that is recorded was one of lockstep so far
+abbrev pub IsPacedIn : (ℕ → ℕ) → Log → Bounded → ℕ → ℕ → Key → Flight → Type 0
+IsPacedIn start v b correct ticks up_to f =
+    IsPaced (world_of start v) b correct ticks up_to (history v) f
+
+-- the key of a turn of a tick's steps
+abbrev pub turn_key : ℕ → ℕ → Key
+turn_key tick turn = record { tick = tick; part = 1; turn = turn }
+
+-- the key with which a tick begins
+abbrev pub tick_key : ℕ → Key
+tick_key tick = record { tick = tick; part = 0; turn = 0 }
+
+-- nothing that is in flight is due before a tick
+abbrev pub NoneBefore : Flight → ℕ → Type 0
+NoneBefore f tick = (due turn : ℕ) (n : Name) → waits_at f due turn ≡ Some n → tick ≤ due
+
+-- how many steps each node took: the correct ones as many as ticks are over
+abbrev pub AreSteps : World → ℕ → List Event → ℕ → Type 0
+AreSteps w correct t ticks =
+    (i : ℕ) → i < nodes_of w → steps i t ≡ (if has_node correct i then ticks else 0)
+
+-- in a tick whose first turns are over
+abbrev pub AreStepsIn : World → Bounded → ℕ → List Event → ℕ → ℕ → Type 0
+AreStepsIn w b correct t tick turns =
+    (i : ℕ) → i < nodes_of w → steps i t ≡ (if has_node correct i
+    then (if ltb (turn_in b (nodes_of w) tick i) turns then tick + 1 else tick) else 0)
+
+-- the same program, setup and plan
+pub record IsSameRun {P : Type 0} (old new : Recorded P) : Type 0 where
+  pub program : new.log.program ≡ old.log.program
+  pub setup : new.log.setup ≡ old.log.setup
+  pub planned : new.plan ≡ old.plan
+
+-- the key of the release of what is due in a tick and has this serial
+abbrev pub due_key : ℕ → ℕ → Key
+due_key due turn = record { tick = due; part = 0; turn = turn }
+
+-- another place than this one
+abbrev pub IsOther : ℕ → ℕ → ℕ → ℕ → Type 0
+IsOther due turn d k = (d ≡ due) × (k ≡ turn) → ⊥
+
+-- the message with the least key left the flight, and was due by then
+pub record IsPopped (old new : Flight) (now : ℕ) (n : Name) : Type 0 where
+  pub due : ℕ
+  pub turn : ℕ
+  pub by_then : due ≤ now
+  pub there : waits_at old due turn ≡ Some n
+  pub gone : waits_at new due turn ≡ None
+  pub others : (d k : ℕ) → IsOther due turn d k → waits_at new d k ≡ waits_at old d k
+  pub least : (d k : ℕ) (m : Name) → waits_at new d k ≡ Some m
+      → IsBefore (due_key due turn) (due_key d k)
+  pub fewer : tree.btree_map_len new < tree.btree_map_len old
+
+-- it's the name of what a node sends at this step number
+pub record IsSlotName (start : ℕ → ℕ) (s : Setup) (from step : ℕ) (n : Name) : Type 0 where
+  pub named : IsName s n
+  pub first : n.copy ≡ 0
+  pub own : n.from ≡ from
+  pub at : step ≡ start n.round + n.to
+
+-- nothing is sent at this step number
+abbrev pub NoSlot : (ℕ → ℕ) → Setup → ℕ → Type 0
+NoSlot start s step = (n : Name) → IsName s n → step ≡ start n.round + n.to → ⊥

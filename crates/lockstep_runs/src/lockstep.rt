@@ -1,0 +1,111 @@
+//! A lockstep run of a program.
+ghost use Rattle.std.specs.Prelude.{◌≡◌, ℕ, ◌<◌, ◌≤◌, ◌↔◌, ◌⊎◌, Err, IfErr, IfOk, IsTrue, length};
+ghost use Rattle.std.specs.Prelude.{true};
+ghost use Rattle.adversary.specs.Driving.{ClosedAreDue};
+ghost use Rattle.round_meaning.specs.Nodes.{has_node};
+ghost use Rattle.round_meaning.specs.Setups.{IsLawful};
+ghost use Rattle.step_book.specs.Log.{history, world_of};
+ghost use Rattle.lockstep_runs.specs.Lockstep.{IsFit, IsLockstepRun};
+
+use crate::ticking::tick;
+use adversary::{Driver, RunFault};
+use policies::Bounded;
+use round_check::Checked;
+use round_lang::NoMemory;
+use round_meaning::{NodeSet, Setup};
+use slot_plans::{MAX_DELTA, Plan};
+use std::alloc::Global;
+use std::collections::BTreeMap;
+use step_journal::Journal;
+
+/// The most entries of a table of delays or of orders.
+pub const MAX_ENTRIES: usize = 65_536;
+
+/// The journal of a run of `ticks` ticks in which the correct nodes step in lockstep and the others
+/// take no step.
+///
+/// In each tick, from 0 on, first each message that is due is released, by rising serials, and then
+/// each correct node takes one step, in the order of the nodes from the tick's entry of `orders`
+/// on, and round again. A message is due by its sender's step number and its delay, as
+/// [`Bounded`] has it.
+///
+/// An unlawful setup, a correct node that isn't one of the setup's, and a bound or a table outside
+/// its limits are refused as `BadSetup`, before any memory is taken.
+pub fn run_lockstep<P: Plan>(
+    alloc: Global,
+    program: &Checked,
+    setup: &Setup,
+    plan: P,
+    correct: NodeSet,
+    bounded: &Bounded,
+    ticks: u32,
+) -> Result<Journal<P>, RunFault>
+    requires { IsLawful program.now.values setup.now → P.nodes plan ≡ setup.now.nodes }
+    ensures bad_setup { (result ≡ Err RunFault.BadSetup)
+        ↔ (IsFit program.now.values setup.now correct.bits bounded.now → ⊥) }
+    ensures cause { IfErr result (λ fault. (fault ≡ RunFault.NoMemory)
+        ⊎ (fault ≡ RunFault.BadSetup)) }
+    ensures program { IfOk result (λ j. j.log.program ≡ program.now) }
+    ensures setup { IfOk result (λ j. j.log.setup ≡ setup.now) }
+    ensures plan { IfOk result (λ j. j.plan ≡ plan) }
+    ensures closed { IfOk result (λ j. ClosedAreDue (P.start j.plan) j.log) }
+    ensures lockstep { IfOk result (λ j. IsLockstepRun
+        (world_of (P.start j.plan) j.log) bounded.now correct.bits ticks (history j.log)) }
+{
+    if !is_fit(program, setup, correct, bounded) {
+        return Err(RunFault::BadSetup);
+    }
+    match run(alloc, program, setup, plan, correct, bounded, ticks) {
+        Ok(journal) => Ok(journal),
+        Err(NoMemory) => Err(RunFault::NoMemory),
+    }
+}
+
+fn is_fit(program: &Checked, setup: &Setup, correct: NodeSet, bounded: &Bounded) -> bool
+    ensures { IsTrue result ↔ IsFit program.now.values setup.now correct.bits bounded.now }
+{
+    setup.is_lawful(program)
+        && are_nodes(setup.nodes, correct)
+        && 1 <= bounded.delta
+        && bounded.delta <= MAX_DELTA
+        && bounded.delays.as_slice().len() <= MAX_ENTRIES
+        && bounded.orders.as_slice().len() <= MAX_ENTRIES
+}
+
+/// Whether each member is a node.
+fn are_nodes(nodes: u32, members: NodeSet) -> bool
+    ensures { IsTrue result ↔ ((i : ℕ) → has_node members.bits i ≡ true → i < nodes) }
+{
+    for node in nodes..64 {
+        if members.contains(node) {
+            return false;
+        }
+    }
+    true
+}
+
+fn run<P: Plan>(
+    alloc: Global,
+    program: &Checked,
+    setup: &Setup,
+    plan: P,
+    correct: NodeSet,
+    bounded: &Bounded,
+    ticks: u32,
+) -> Result<Journal<P>, NoMemory>
+    requires fit { IsFit program.now.values setup.now correct.bits bounded.now }
+    requires nodes { P.nodes plan ≡ setup.now.nodes }
+    ensures program { IfOk result (λ j. j.log.program ≡ program.now) }
+    ensures setup { IfOk result (λ j. j.log.setup ≡ setup.now) }
+    ensures plan { IfOk result (λ j. j.plan ≡ plan) }
+    ensures closed { IfOk result (λ j. ClosedAreDue (P.start j.plan) j.log) }
+    ensures lockstep { IfOk result (λ j. IsLockstepRun
+        (world_of (P.start j.plan) j.log) bounded.now correct.bits ticks (history j.log)) }
+{
+    let mut driver = Driver::open(alloc, program, setup, plan)?;
+    let mut flight = BTreeMap::new(alloc);
+    for now in 0..ticks {
+        driver = tick(driver, &mut flight, correct, bounded, now)?;
+    }
+    Ok(driver.into_journal())
+}
