@@ -1,0 +1,169 @@
+//! What is recorded under the locks. Each call records the whole of it or nothing: all room is made
+//! before the book is called, and from then on nothing can fail.
+ghost use Rattle.std.specs.Prelude.{◌≡◌, ◌+◌, ◌^◌, ◌<◌, ◌∷◌, ◌++◌, [], All, IfErr, IfOk, OnErr};
+ghost use Rattle.std.specs.Prelude.{OnOk};
+ghost use Rattle.step_book.specs.Log.{closed, end_state, happened};
+ghost use Rattle.step_book.specs.Names.{IsName};
+ghost use Rattle.step_book.specs.Stock.{IsMail, names_in};
+ghost use Rattle.step_journal.specs.Fits.{place_among};
+ghost use Rattle.step_machine.specs.Frames.{IsPrepared, frame_of};
+ghost use Rattle.step_machine.specs.declared.event.Event.TheVariants as event;
+ghost use Rattle.locked_buffers.specs.Commits.{CloseFails, PutsFrame, ReceiveFails, SameStock};
+ghost use Rattle.locked_buffers.specs.Commits.{SendFails, TakesAll, TakesClose, TakesReceive};
+ghost use Rattle.locked_buffers.specs.Commits.{TakesSend};
+ghost use Rattle.locked_buffers.specs.Runs.{algorithm_by};
+
+use crate::fault::PostFault;
+use crate::room::{names_of, room};
+use crate::run::Run;
+use crate::seat::Seat;
+use slot_plans::Plan;
+use std::alloc::Global;
+use step_book::{Book, Buffer, CloseFault, ReceiveFault, Refused, SendFault};
+use step_journal::{Took, are_named, holds, place};
+use step_machine::{Finished, Prepared};
+
+/// A send that the seat allows.
+pub(crate) fn commit_send<P: Plan>(
+    run: &Run<P>,
+    seat: &mut Seat,
+    buffer: &mut Buffer,
+    book: &mut Book<P>,
+    prepared: Prepared,
+) -> Result<(), Refused>
+    requires name { IsName run.now.setup prepared.name }
+    requires work { IsPrepared (algorithm_by run.now) prepared }
+    requires small { seat.old.steps < 2 ^ 33 }
+    ensures recorded { OnOk result (book.new ≡ record book.old {
+      log = happened book.old.log
+          (event.Step prepared.name.from);
+    }) }
+    ensures kept { OnErr result (book.new ≡ book.old) }
+    ensures seat { OnOk result (seat.new ≡ record seat.old { steps = seat.old.steps + 1 }) }
+    ensures unseated { OnErr result (seat.new ≡ seat.old) }
+    ensures frame { OnOk result (PutsFrame 0 (place_among run.now.setup.nodes prepared.name)
+        (frame_of prepared) buffer.old buffer.new) }
+    ensures unchanged { OnErr result (SameStock buffer.old buffer.new) }
+    ensures taken { OnOk result (TakesSend P.start run.now buffer.old book.old prepared) }
+    ensures cause { IfErr result (λ refused. SendFails P.start run.now buffer.old book.old prepared
+        refused.fault) }
+    ensures back { IfErr result (λ refused. refused.prepared ≡ prepared) }
+{
+    let name = prepared.name();
+    if !run.has_book(book) || !run.has_buffer(buffer) || !holds(book, buffer, name) {
+        return Err(Refused {
+            fault: SendFault::Stranger,
+            prepared,
+        });
+    }
+    match book.refuses_send(&prepared) {
+        None => {}
+        Some(SendFault::NoMemory) => return Err(Refused::memory(prepared)),
+        Some(_) => {
+            return Err(Refused {
+                fault: SendFault::Stranger,
+                prepared,
+            });
+        }
+    }
+    let place = place(book, name);
+    match buffer.reserve_flying(0, place) {
+        Ok(()) => {}
+        Err(_) => return Err(Refused::memory(prepared)),
+    }
+    match book.record_send(&prepared) {
+        Ok(()) => {}
+        Err(_) => return Err(Refused::memory(prepared)),
+    }
+    seat.steps += 1;
+    if let Some(frame) = prepared.into_sealed() {
+        buffer.put(0, place, frame);
+    }
+    Ok(())
+}
+
+/// A receive that the seat allows: the frames that wait, whose names the seat notes.
+pub(crate) fn commit_receive<P: Plan>(
+    alloc: Global,
+    run: &Run<P>,
+    seat: &mut Seat,
+    buffer: &mut Buffer,
+    book: &mut Book<P>,
+) -> Result<Took, PostFault>
+    requires node { seat.old.node < run.now.setup.nodes }
+    requires small { seat.old.steps < 2 ^ 33 }
+    ensures recorded { OnOk result (book.new ≡ record book.old {
+      log = happened book.old.log
+          (event.Step seat.old.node);
+    }) }
+    ensures kept { OnErr result (book.new ≡ book.old) }
+    ensures seat { IfOk result (λ took. seat.new ≡ record seat.old {
+      steps = seat.old.steps + 1;
+      handed = seat.old.handed ++ names_in took.frames.items ∷ [];
+    }) }
+    ensures unseated { OnErr result (seat.new ≡ seat.old) }
+    ensures frames { IfOk result (λ took. took.frames.items ≡ buffer.old.waiting) }
+    ensures left { OnOk result (TakesAll buffer.old buffer.new) }
+    ensures unchanged { OnErr result (buffer.new ≡ buffer.old) }
+    ensures taken { OnOk result (TakesReceive P.start run.now buffer.old book.old seat.old.node) }
+    ensures cause { IfErr result (ReceiveFails P.start run.now buffer.old book.old seat.old.node) }
+    ensures mail { IfOk result (λ took. All (IsMail (algorithm_by run.now) run.now.setup.nodes
+        seat.old.node) took.frames.items) }
+{
+    let node = seat.node;
+    if !run.has_book(book)
+        || !run.has_buffer(buffer)
+        || !are_named(book, buffer.waiting(), book.waiting(node))
+    {
+        return Err(PostFault::Stranger);
+    }
+    book.agrees();
+    buffer.spelt();
+    let names = names_of(alloc, book.waiting(node))?;
+    room(&mut seat.handed)?;
+    match book.receive(node) {
+        Ok(()) => {}
+        Err(ReceiveFault::NoMemory) => return Err(PostFault::NoMemory),
+        Err(_) => return Err(PostFault::Stranger),
+    }
+    seat.steps += 1;
+    seat.handed.push_reserved(names);
+    let frames = buffer.take();
+    Ok(Took { frames })
+}
+
+/// The end of a round that the seat allows.
+pub(crate) fn commit_close<P: Plan>(
+    run: &Run<P>,
+    seat: &mut Seat,
+    book: &mut Book<P>,
+    finished: &Finished<'_>,
+) -> Result<(), CloseFault>
+    requires program { finished.now.node.now.program ≡ run.now.program }
+    requires setup { finished.now.node.now.setup ≡ run.now.setup }
+    ensures recorded { OnOk result (book.new ≡ record book.old {
+      log = closed book.old.log
+          finished.now.node.now;
+    }) }
+    ensures kept { OnErr result (book.new ≡ book.old) }
+    ensures seat { OnOk result (seat.new ≡ record seat.old {
+      states = seat.old.states ++ end_state
+          finished.now.node.now ∷ [];
+    }) }
+    ensures unseated { OnErr result (seat.new ≡ seat.old) }
+    ensures taken { OnOk result (TakesClose P.start run.now book.old finished.now.node.now) }
+    ensures cause { IfErr result (CloseFails P.start run.now book.old finished.now.node.now) }
+{
+    if !run.has_book(book) {
+        return Err(CloseFault::Stranger);
+    }
+    let state = finished.new_state()?;
+    room(&mut seat.states)?;
+    match book.close(finished) {
+        Ok(()) => {}
+        Err(CloseFault::NoMemory) => return Err(CloseFault::NoMemory),
+        Err(_) => return Err(CloseFault::Stranger),
+    }
+    seat.states.push_reserved(state);
+    Ok(())
+}

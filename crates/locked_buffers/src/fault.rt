@@ -1,0 +1,39 @@
+//! Why a post refuses what isn't a send or a close.
+ghost use Rattle.std.specs.Prelude.{◌≡◌};
+ghost use Rattle.locked_buffers.specs.declared.fault.PostFault.TheVariants as post;
+ghost use Rattle.locked_buffers.specs.declared.fault.RelayFault.TheVariants as relay;
+
+use round_lang::NoMemory;
+
+/// Why a receive is refused. `Stranger`: what stands under the locks is of another run, or refuses
+/// for another cause than memory.
+#[derive(Clone, Copy, PartialEq, Eq, Debug)]
+pub enum PostFault {
+    NotItsSlot = 1,
+    NotClosed = 2,
+    Stranger = 3,
+    NoMemory = 4,
+}
+
+/// Why an event of the network is refused.
+#[derive(Clone, Copy, PartialEq, Eq, Debug)]
+pub enum RelayFault {
+    Stranger = 3,
+    NoMemory = 4,
+}
+
+impl From<NoMemory> for PostFault {
+    ghost from_gives = { λ _ e. e ≡ post.NoMemory };
+
+    fn from(_error: NoMemory) -> PostFault {
+        PostFault::NoMemory
+    }
+}
+
+impl From<NoMemory> for RelayFault {
+    ghost from_gives = { λ _ e. e ≡ relay.NoMemory };
+
+    fn from(_error: NoMemory) -> RelayFault {
+        RelayFault::NoMemory
+    }
+}

@@ -1,0 +1,260 @@
+//! A run under locks.
+ghost use Rattle.std.specs.Prelude.{◌≡◌, ◌+◌, ◌<◌, ◌∷◌, ◌++◌, ◌↔◌, [], All, EachIndex, IfErr, IfOk};
+ghost use Rattle.std.specs.Prelude.{MatchResult, OnErr, OnOk, slice_index_or, vec_len};
+ghost use Rattle.round_meaning.specs.Setups.{IsLawful};
+ghost use Rattle.step_book.specs.Log.{end_state};
+ghost use Rattle.step_book.specs.Names.{IsName};
+ghost use Rattle.step_book.specs.Stock.{IsMail, names_in};
+ghost use Rattle.step_machine.specs.Frames.{IsPrepared};
+ghost use Rattle.step_machine.specs.declared.event.Event.TheVariants as event;
+ghost use Rattle.locked_buffers.specs.Commits.{told_with};
+ghost use Rattle.locked_buffers.specs.Runs.{algorithm_by};
+ghost use Rattle.locked_buffers.specs.Seats.{Account, CloseBlame, MayClose, MayReceive, MaySend};
+ghost use Rattle.locked_buffers.specs.Seats.{ReceiveBlame, SendBlame, opening};
+
+use crate::commit::{commit_close, commit_receive, commit_send};
+use crate::fault::{PostFault, RelayFault};
+use crate::gate::{Gate, Point};
+use crate::network::{commit_copy, commit_drop, commit_release};
+use crate::refusals::{may_close, refuses_receive, refuses_send};
+use crate::run::Run;
+use crate::seat::{Relay, Seat};
+use round_check::Checked;
+use round_lang::NoMemory;
+use round_meaning::Setup;
+use slot_plans::Plan;
+use std::alloc::Global;
+use std::marker::Model;
+use std::sync::{Mutex, Wait};
+use step_book::{Book, Buffer, CloseFault, Refused};
+use step_journal::Took;
+use step_machine::{Finished, InFlight, Name, Prepared};
+
+/// A run's book and its buffers, each under a lock. A buffer's lock may be held when the book's is
+/// taken, never the other way.
+#[derive(Drop)]
+pub struct Post<P: Plan> {
+    alloc: Global,
+    run: Run<P>,
+    book: Mutex<Book<P>>,
+    buffers: Vec<Mutex<Buffer>>,
+}
+
+impl<P: Plan> Model for Post<P> {
+    ghost use Rattle.std.specs.Prelude.{◌≡◌, vec_len};
+    ghost use Rattle.round_lang.specs.contracts.formula.Formula as formula;
+    ghost use Rattle.std.specs.Coded.{codes};
+    ghost use Rattle.locked_buffers.specs.Runs.{Run};
+
+    ghost Value = { Run P };
+
+    ghost coded = { Prim.hlevel (codes, formula.the_row.coded) };
+
+    ghost view = { λ s. s.run };
+
+    ghost invariant = { λ s. vec_len s.buffers ≡ s.run.setup.nodes };
+}
+
+/// A seat for each node.
+fn opening_seats(alloc: Global, program: &Checked, setup: &Setup) -> Result<Vec<Seat>, NoMemory>
+    ensures sized { IfOk result (λ seats. vec_len seats ≡ setup.now.nodes) }
+    ensures each { IfOk result (λ seats. EachIndex seats.items (λ i. (d : Account) → slice_index_or
+        seats.items i d ≡ opening program.now setup.now i)) }
+{
+    let mut seats = Vec::new(alloc);
+    for node in 0..setup.nodes {
+        seats.push(Seat::open(alloc, program, setup, node)?)?;
+    }
+    Ok(seats)
+}
+
+/// A lock round an empty buffer for each node.
+fn opening_buffers(
+    alloc: Global,
+    program: &Checked,
+    setup: &Setup,
+) -> Result<Vec<Mutex<Buffer>>, NoMemory>
+    ensures { IfOk result (λ buffers. vec_len buffers ≡ setup.now.nodes) }
+{
+    let mut buffers = Vec::new(alloc);
+    for _node in 0..setup.nodes {
+        buffers.push(Mutex::new(Buffer::new(alloc, program, setup)?))?;
+    }
+    Ok(buffers)
+}
+
+impl<P: Plan> Post<P> {
+    /// An empty record and empty buffers under their locks, a seat for each node, and the network's
+    /// relay.
+    pub fn open(
+        alloc: Global,
+        program: &Checked,
+        setup: &Setup,
+        plan: P,
+    ) -> Result<(Post<P>, Vec<Seat>, Relay), NoMemory>
+        requires lawful { IsLawful program.now.values setup.now }
+        requires nodes { P.nodes plan ≡ setup.now.nodes }
+        ensures run { IfOk result (λ o. o.0 ≡ record {
+          plan = plan;
+          program = program.now;
+          setup =
+              setup.now;
+        }) }
+        ensures seats { IfOk result (λ o. vec_len o.1 ≡ setup.now.nodes) }
+        ensures each { IfOk result (λ o. EachIndex o.1.items (λ i. (d : Account) → slice_index_or
+            o.1.items i d ≡ opening program.now setup.now i)) }
+        ensures relay { IfOk result (λ o. o.2 ≡ record { events = []; answers = [] }) }
+    {
+        let seats = opening_seats(alloc, program, setup)?;
+        let buffers = opening_buffers(alloc, program, setup)?;
+        let book = Book::open(alloc, program, setup, plan)?;
+        let post = Post {
+            alloc,
+            run: Run::new(program, setup, plan)?,
+            book: Mutex::new(book),
+            buffers,
+        };
+        Ok((post, seats, Relay::new(alloc)))
+    }
+
+    /// A send step: the message is in flight, or there was silence.
+    pub fn send<R: Wait, G: Gate>(
+        &self,
+        rt: &R,
+        seat: &mut Seat,
+        prepared: Prepared,
+        gate: &G,
+    ) -> Result<(), Refused>
+        requires name { IsName self.now.setup prepared.name }
+        requires work { IsPrepared (algorithm_by self.now) prepared }
+        requires own { prepared.name.from ≡ seat.old.node }
+        ensures ok { OnOk result (seat.new ≡ record seat.old { steps = seat.old.steps + 1 }) }
+        ensures err { OnErr result (seat.new ≡ seat.old) }
+        ensures back { IfErr result (λ refused. refused.prepared ≡ prepared) }
+        ensures cause { MatchResult result
+            (λ _done. MaySend (P.start self.now.plan) self.now.setup.rounds seat.old prepared.name)
+            (λ refused. SendBlame (P.start self.now.plan) self.now.setup.rounds seat.old
+            prepared.name refused.fault) }
+    {
+        let name = prepared.name();
+        if let Some(fault) = refuses_send(&self.run, seat, name) {
+            return Err(Refused { fault, prepared });
+        }
+        let mut buffer = self.buffers[name.to as usize].lock(rt);
+        gate.pass(Point::Send(name));
+        let mut book = self.book.lock(rt);
+        commit_send(&self.run, seat, &mut buffer, &mut book, prepared)
+    }
+
+    /// A receive step: every frame that was released to the node and not yet taken.
+    pub fn receive<R: Wait>(&self, rt: &R, seat: &mut Seat) -> Result<Took, PostFault>
+        requires { seat.old.node < self.now.setup.nodes }
+        ensures ok { IfOk result (λ took. seat.new ≡ record seat.old {
+          steps = seat.old.steps + 1;
+          handed = seat.old.handed ++ names_in took.frames.items ∷ [];
+        }) }
+        ensures err { OnErr result (seat.new ≡ seat.old) }
+        ensures mail { IfOk result (λ took. All (IsMail (algorithm_by self.now) self.now.setup.nodes
+            seat.old.node) took.frames.items) }
+        ensures cause { MatchResult result
+            (λ _took. MayReceive (P.start self.now.plan) self.now.setup.nodes self.now.setup.rounds
+            seat.old)
+            (ReceiveBlame (P.start self.now.plan) self.now.setup.nodes self.now.setup.rounds
+            seat.old) }
+    {
+        if let Some(fault) = refuses_receive(&self.run, seat) {
+            return Err(fault);
+        }
+        let node = seat.node();
+        let mut buffer = self.buffers[node as usize].lock(rt);
+        let mut book = self.book.lock(rt);
+        commit_receive(self.alloc, &self.run, seat, &mut buffer, &mut book)
+    }
+
+    /// Closes the node's due round, which it finished.
+    pub fn close<R: Wait>(
+        &self,
+        rt: &R,
+        seat: &mut Seat,
+        finished: &Finished<'_>,
+    ) -> Result<(), CloseFault>
+        requires program { finished.now.node.now.program ≡ self.now.program }
+        requires setup { finished.now.node.now.setup ≡ self.now.setup }
+        requires own { finished.now.node.now.me ≡ seat.old.node }
+        ensures ok { OnOk result (seat.new ≡ record seat.old {
+          states = seat.old.states ++ end_state
+              finished.now.node.now ∷ [];
+        }) }
+        ensures err { OnErr result (seat.new ≡ seat.old) }
+        ensures cause { MatchResult result
+            (λ _done. MayClose (P.start self.now.plan) self.now.setup.rounds seat.old
+            finished.now.node.now.round)
+            (CloseBlame (P.start self.now.plan) self.now.setup.rounds seat.old
+            finished.now.node.now.round) }
+    {
+        if !may_close(&self.run, seat, finished.round()) {
+            return Err(CloseFault::NotDue);
+        }
+        let mut book = self.book.lock(rt);
+        commit_close(&self.run, seat, &mut book, finished)
+    }
+
+    /// A release: true where a copy went from flight to its buffer.
+    pub fn release<R: Wait>(
+        &self,
+        rt: &R,
+        relay: &mut Relay,
+        name: Name,
+    ) -> Result<bool, RelayFault>
+        requires { IsName self.now.setup name }
+        ensures ok { IfOk result (λ moved. relay.new ≡ told_with relay.old (event.Release name)
+            moved) }
+        ensures err { OnErr result (relay.new ≡ relay.old) }
+    {
+        let mut buffer = self.buffers[name.to as usize].lock(rt);
+        let mut book = self.book.lock(rt);
+        commit_release(&self.run, relay, &mut buffer, &mut book, name)
+    }
+
+    /// A drop: true where a copy was in flight; its frame is gone.
+    pub fn drop_frame<R: Wait>(
+        &self,
+        rt: &R,
+        relay: &mut Relay,
+        name: Name,
+    ) -> Result<bool, RelayFault>
+        requires { IsName self.now.setup name }
+        ensures ok { IfOk result (λ lost. relay.new ≡ told_with relay.old (event.Drop name) lost) }
+        ensures err { OnErr result (relay.new ≡ relay.old) }
+    {
+        let mut buffer = self.buffers[name.to as usize].lock(rt);
+        let mut book = self.book.lock(rt);
+        commit_drop(&self.run, relay, &mut buffer, &mut book, name)
+    }
+
+    /// A copy: true where copy 0 was in flight and this one, 1 to 3, was never made; its frame is
+    /// in flight.
+    pub fn copy_frame<R: Wait>(
+        &self,
+        rt: &R,
+        relay: &mut Relay,
+        name: Name,
+    ) -> Result<bool, RelayFault>
+        requires name { IsName self.now.setup name }
+        requires other { 0 < name.copy }
+        ensures ok { IfOk result (λ made. relay.new ≡ told_with relay.old (event.Copy name) made) }
+        ensures err { OnErr result (relay.new ≡ relay.old) }
+    {
+        let mut buffer = self.buffers[name.to as usize].lock(rt);
+        let mut book = self.book.lock(rt);
+        commit_copy(&self.run, relay, &mut buffer, &mut book, name)
+    }
+
+    /// The copies in flight, in the order of their messages' serials and then of the copy numbers,
+    /// and how many events are recorded.
+    pub fn flight<R: Wait>(&self, rt: &R) -> Result<(Vec<InFlight>, usize), NoMemory> {
+        let book = self.book.lock(rt);
+        let flight = book.flight(self.alloc)?;
+        Ok((flight, book.trace().len()))
+    }
+}
