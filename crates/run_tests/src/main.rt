@@ -5,14 +5,14 @@
 //! run_tests known NODES DELTA
 //! run_tests growing NODES
 //! run_tests journal SOURCE INPUTS ROUNDS [DELTA]
-//! run_tests schedule
+//! run_tests schedule | threads | header
 //! run_tests report | writers NAME
 //! run_tests lists
 //! ```
 //!
 //! SOURCE is the file of a program, or `gather:K` or `gather_from_ones:K` for K values; INPUTS has
-//! commas. But for a schedule, which is read whole, each line of standard input is an act, and a
-//! line of standard output its answer.
+//! commas. But for a schedule, a thread setup and a header, which are read whole, each line of
+//! standard input is an act, and a line of standard output its answer.
 #![tactic(auto)]
 
 mod fault;
@@ -84,6 +84,8 @@ fn answer_input(rt: &HostRuntime, words: &[&str], out: &mut String) -> Result<()
         ["known", words @ ..] => plans::ask_known(words, input, out),
         ["growing", words @ ..] => plans::ask_growing(words, input, out),
         ["schedule"] => schedules::write_again(alloc, input, out),
+        ["threads"] => schedules::tell_threads(alloc, input, out),
+        ["header"] => schedules::tell_header(alloc, input, out),
         ["journal", words @ ..] => ask_journal(rt, words, input, out),
         _ => Err(Fault::Unreadable),
     }

@@ -1,25 +1,31 @@
-//! Schedules as they are read, and written again.
+//! Schedules as they are read, and written again; thread setups and headers as they are read.
 use crate::fault::Fault;
-use adversary::{Schedule, ScheduleFault, read_schedule, write_schedule};
+use adversary::{
+    Schedule, ScheduleFault, read_header, read_schedule, read_threads, write_schedule,
+};
+use round_meaning::Setup;
+use slot_plans::PlanKind;
 use std::alloc::Global;
 
-/// All that a schedule says, on one line.
-fn show(schedule: &Schedule, out: &mut String) -> Result<(), Fault> {
-    let setup = &schedule.setup;
+/// All that a header says.
+fn show_header(setup: &Setup, plan: PlanKind, out: &mut String) -> Result<(), Fault> {
     let nodes = setup.nodes;
     let faults = setup.faults;
     let inputs = setup.inputs.as_slice();
     let rounds = setup.rounds;
-    let plan = schedule.plan;
-    let events = schedule.events.as_slice();
-    writeln!(
-        out,
-        "{nodes} {faults} {inputs:?} {rounds} {plan:?} {events:?}"
-    )?;
+    write!(out, "{nodes} {faults} {inputs:?} {rounds} {plan:?}")?;
     Ok(())
 }
 
-/// Why a text is no schedule; where memory is wanting the program gives up.
+/// All that a schedule says, on one line.
+fn show(schedule: &Schedule, out: &mut String) -> Result<(), Fault> {
+    let events = schedule.events.as_slice();
+    show_header(&schedule.setup, schedule.plan, out)?;
+    writeln!(out, " {events:?}")?;
+    Ok(())
+}
+
+/// Why a text is refused; where memory is wanting the program gives up.
 fn tell_fault(fault: ScheduleFault, out: &mut String) -> Result<(), Fault> {
     if fault == ScheduleFault::NoMemory {
         return Err(Fault::NoMemory);
@@ -58,6 +64,32 @@ pub fn write_again(alloc: Global, input: &str, out: &mut String) -> Result<(), F
         Ok(schedule) => {
             show(&schedule, out)?;
             write_back(alloc, &schedule, out)
+        }
+        Err(fault) => tell_fault(fault, out),
+    }
+}
+
+/// What the thread setup of a text says, on one line.
+pub fn tell_threads(alloc: Global, input: &str, out: &mut String) -> Result<(), Fault> {
+    match read_threads(alloc, input) {
+        Ok(threads) => {
+            let pace = threads.pace;
+            let stops = threads.stops.as_slice();
+            show_header(&threads.setup, threads.plan, out)?;
+            writeln!(out, " {pace:?} {stops:?}")?;
+            Ok(())
+        }
+        Err(fault) => tell_fault(fault, out),
+    }
+}
+
+/// What the header of a text says, on one line.
+pub fn tell_header(alloc: Global, input: &str, out: &mut String) -> Result<(), Fault> {
+    match read_header(alloc, input) {
+        Ok((setup, plan)) => {
+            show_header(&setup, plan, out)?;
+            out.push_str("\n")?;
+            Ok(())
         }
         Err(fault) => tell_fault(fault, out),
     }

@@ -17,6 +17,7 @@ use Rattle.slot_plans.specs.declared.kind.PlanKind.{PlanKind}
 use Rattle.step_machine.specs.declared.event.Event.{Event}
 use Rattle.step_machine.specs.declared.event.Event.TheVariants.{Step, Release}
 use Rattle.schedule_text.specs.declared.draft.Stage.TheVariants.{Whole}
+use Rattle.schedule_text.specs.declared.kind.Kind.TheVariants.{Schedule}
 use Rattle.schedule_text.specs.Numbers.{is_number, max_number, value_of}
 use Rattle.schedule_text.specs.Fronts.{IsFrontEvent, IsNumberBefore}
 use Rattle.schedule_text.specs.Stages.{State, after, event_of, line_step, by_stage, mapped}
@@ -133,13 +134,13 @@ unfolding event_of after
 no_comment_event bs e h = cc
 
 -- a line of an event, where the header is whole
-pub event_taken : (s : State) (n t r : ℕ) (p : PlanKind) (l : List ℕ) (e : Event) → s.stage ≡ Whole n t r p → event_of l ≡ Ok e → line_step s l ≡ Ok (record s { events = s.events ++ e ∷ [] })
+pub event_taken : (s : State) (n t r : ℕ) (p : PlanKind) (l : List ℕ) (e : Event) → s.stage ≡ Whole n t r p → event_of l ≡ Ok e → line_step Schedule s l ≡ Ok (record s { events = s.events ++ e ∷ [] })
 unfolding line_step
 event_taken s n t r p [] e stage h = absurd (no_empty_event e h)
 event_taken s n t r p (b ∷ bs) e stage h = go (eqb b 35) refl
   where
-    go : (is : Bool) → is ≡ eqb b 35 → cond (eqb b 35) (Ok s) (by_stage s.stage s (b ∷ bs)) ≡ Ok (record s { events = s.events ++ e ∷ [] })
+    go : (is : Bool) → is ≡ eqb b 35 → cond (eqb b 35) (Ok s) (by_stage Schedule s.stage s (b ∷ bs)) ≡ Ok (record s { events = s.events ++ e ∷ [] })
     go true is = absurd (no_comment_event bs e (ap (λ x. event_of (x ∷ bs)) (sym (eqb-true b 35 (sym is))) ∙ h))
     go false is =
-        ap (λ c. cond c (Ok s) (by_stage s.stage s (b ∷ bs))) (sym is) ∙ ap (λ g. by_stage g s (b ∷ bs)) stage
+        ap (λ c. cond c (Ok s) (by_stage Schedule s.stage s (b ∷ bs))) (sym is) ∙ ap (λ g. by_stage Schedule g s (b ∷ bs)) stage
         ∙ ap (λ x. mapped (λ e. record s { events = s.events ++ e ∷ [] }) x) h

@@ -14,17 +14,21 @@ use Rattle.step_machine.specs.declared.event.Event.TheVariants.{Step, Release, D
 use Rattle.step_machine.specs.declared.event.Name.{Name}
 use Rattle.schedule_text.specs.declared.fault.LineFault.{LineFault}
 use Rattle.schedule_text.specs.declared.fault.LineFault.TheVariants as line
+use Rattle.schedule_text.specs.declared.pace.Pace.{Pace}
+use Rattle.schedule_text.specs.declared.pace.Pace.TheVariants.{Free, Ticks}
+use Rattle.schedule_text.specs.declared.pace.Stop.{Stop}
 use Rattle.schedule_text.specs.Numbers.{IsNumeral, max_number, words_of}
-use Rattle.schedule_text.specs.Lines.{Line, nodes, faults, inputs, rounds, plan, event, first_words}
-use Rattle.schedule_text.specs.Lines.{name_numbers, numbers_of, AreNumerals, IsOriginal, HasValue}
-use Rattle.schedule_text.specs.Lines.{HasForm}
+use Rattle.schedule_text.specs.Lines.{Line, nodes, faults, inputs, rounds, plan, event, pace, stop}
+use Rattle.schedule_text.specs.Lines.{first_words, name_numbers, numbers_of, AreNumerals}
+use Rattle.schedule_text.specs.Lines.{IsOriginal, HasValue, HasForm}
 use Rattle.schedule_text.specs.Stages.{after, all_of, behind, copy_of, drop_of, event_of, inputs_of}
-use Rattle.schedule_text.specs.Stages.{mapped, name_of, numbers_in, one_after, one_of, plan_of}
-use Rattle.schedule_text.specs.Stages.{release_of, sized, sized_name, step_of, whole_name_of}
+use Rattle.schedule_text.specs.Stages.{mapped, name_of, numbers_in, one_after, one_of, pace_of}
+use Rattle.schedule_text.specs.Stages.{plan_of, release_of, sized, sized_name, step_of, stop_in}
+use Rattle.schedule_text.specs.Stages.{stop_of, whole_name_of}
 use Rattle.schedule_text.proofs.FirstLines.{after_parts}
 use Rattle.schedule_text.proofs.Words.{numbers_said, rest_read, some_numbers}
 
--- the places of the header, and behind it
+-- the places of the header and behind it, and the one where no line may stand
 pub data Place : Type 0 where
   at_nodes : Place
   at_faults : Place
@@ -32,6 +36,9 @@ pub data Place : Type 0 where
   at_rounds : Place
   at_plan : Place
   at_event : Place
+  at_pace : Place
+  at_stop : Place
+  at_end : Place
 
 -- where such a line stands
 abbrev pub stands_at : Line → Place
@@ -41,6 +48,8 @@ stands_at (inputs vs) = at_inputs
 stands_at (rounds r) = at_rounds
 stands_at (plan p) = at_plan
 stands_at (event e) = at_event
+stands_at (pace p) = at_pace
+stands_at (stop s) = at_stop
 
 -- what is read of a line there
 abbrev pub line_of : Place → List ℕ → Result Line LineFault
@@ -50,6 +59,9 @@ line_of at_inputs l = mapped (λ vs. inputs vs) (inputs_of l)
 line_of at_rounds l = mapped (λ r. rounds r) (one_after (codes "rounds ") l)
 line_of at_plan l = mapped (λ p. plan p) (plan_of l)
 line_of at_event l = mapped (λ e. event e) (event_of l)
+line_of at_pace l = mapped (λ x. pace x) (pace_of l)
+line_of at_stop l = mapped (λ c. stop c) (stop_of l)
+line_of at_end l = Err line.Bad
 
 -- the answer is that the line is bad, or it has a form and the size of its numbers decides
 abbrev pub Formed : Place → List ℕ → Result Line LineFault → Type 0
@@ -243,6 +255,36 @@ event_formed l =
     let release = behind_formed (codes "release ") l release_of (behind (after (codes "drop ") l) drop_of (behind (after (codes "copy ") l) copy_of (Err line.Bad))) (release_formed l) drop in
     behind_formed (codes "step ") l step_of (behind (after (codes "release ") l) release_of (behind (after (codes "drop ") l) drop_of (behind (after (codes "copy ") l) copy_of (Err line.Bad)))) (step_formed l) release
 
+pace_formed : (l : List ℕ) → Formed at_pace l (line_of at_pace l)
+unfolding pace_of
+pace_formed l = free (bytes_eq l (codes "pace free")) refl
+  where
+    ticks : (b : Bool) → bytes_eq l (codes "pace ticks") ≡ b → Formed at_pace l (mapped (λ x. pace x) (cond b (Ok Ticks) (Err line.Bad)))
+    ticks true is =
+        inr (pace Ticks, record { numerals = []; words = ap words_of ((bytes_eq-Decides l (codes "pace ticks")).0 is); numbers = tt; some = tt }, refl, refl)
+    ticks false is = inl refl
+
+    free : (b : Bool) → bytes_eq l (codes "pace free") ≡ b → Formed at_pace l (mapped (λ x. pace x) (cond b (Ok Free) (cond (bytes_eq l (codes "pace ticks")) (Ok Ticks) (Err line.Bad))))
+    free true is =
+        inr (pace Free, record { numerals = []; words = ap words_of ((bytes_eq-Decides l (codes "pace free")).0 is); numbers = tt; some = tt }, refl, refl)
+    free false is = ticks (bytes_eq l (codes "pace ticks")) refl
+
+-- two numbers and no more
+stop_picked : Picks at_stop (codes "stop" ∷ []) (λ o. mapped (λ c. stop c) (stop_in o))
+stop_picked = record { none = refl; some = some }
+  where
+    some : (vs : List ℕ) → 0 < length vs → (mapped (λ c. stop c) (stop_in (Some vs)) ≡ Err line.Bad) ⊎ ((x : Line) × Picked at_stop (codes "stop" ∷ []) vs (mapped (λ c. stop c) (stop_in (Some vs))) x)
+    some [] lt = inl refl
+    some (i ∷ []) lt = inl refl
+    some (i ∷ c ∷ []) lt =
+        let s : Stop = record { node = i; steps = c } in
+        inr (stop s, record { first_is = refl; numerals = λ ws h. h; some = tt; place = refl; read = mapped-sized (λ c. stop c) (i ∷ c ∷ []) s })
+    some (i ∷ c ∷ v ∷ vs) lt = inl refl
+
+stop_formed : (l : List ℕ) → Formed at_stop l (line_of at_stop l)
+unfolding stop_of
+stop_formed l = formed_after at_stop (codes "stop ") (codes "stop" ∷ []) (λ r. refl) (λ o. mapped (λ c. stop c) (stop_in o)) stop_picked l
+
 -- what is read of a line at its place has a form of that place
 pub line_formed : (p : Place) (l : List ℕ) → Formed p l (line_of p l)
 line_formed at_nodes l = nodes_formed l
@@ -251,6 +293,9 @@ line_formed at_inputs l = inputs_formed l
 line_formed at_rounds l = rounds_formed l
 line_formed at_plan l = plan_formed l
 line_formed at_event l = event_formed l
+line_formed at_pace l = pace_formed l
+line_formed at_stop l = stop_formed l
+line_formed at_end l = inl refl
 
 -- a line with the form of one number
 nodes_again : (l : List ℕ) (n : ℕ) → HasForm l (nodes n) → line_of at_nodes l ≡ sized (n ∷ []) (nodes n)
@@ -316,6 +361,23 @@ event_again l (Drop m) h =
 event_again l (Copy m) h =
     whole_again (codes "copy ") (codes "copy" ∷ []) (λ r. refl) (λ w ws. refl) (λ m. event (Copy m)) l h.numerals m h.words whole_name_of (λ r. mapped-mapped (λ e. event e) (λ m. Copy m) (whole_name_of (numbers_in r))) refl h.numbers
 
+pace_again : (l : List ℕ) (x : Pace) → HasForm l (pace x) → line_of at_pace l ≡ Ok (pace x)
+unfolding pace_of
+pace_again l Free h =
+    let whole : l ≡ codes "pace free" =
+    sym (join_with_byte-slice_split 32 l) ∙ ap (join_with_byte 32) (h.words ∙ ap (λ ns. codes "pace" ∷ codes "free" ∷ ns) (none_left h.numerals h.numbers)) in
+    ap (line_of at_pace) whole
+pace_again l Ticks h =
+    let whole : l ≡ codes "pace ticks" =
+    sym (join_with_byte-slice_split 32 l) ∙ ap (join_with_byte 32) (h.words ∙ ap (λ ns. codes "pace" ∷ codes "ticks" ∷ ns) (none_left h.numerals h.numbers)) in
+    ap (line_of at_pace) whole
+
+stop_again : (l : List ℕ) (s : Stop) → HasForm l (stop s) → line_of at_stop l ≡ sized (numbers_of (stop s)) (stop s)
+unfolding stop_of after
+stop_again l s h =
+    let t = rest_read (codes "stop ") (codes "stop" ∷ []) (λ r. refl) (λ w ws. refl) l h.numerals (s.node ∷ s.steps ∷ []) h.words h.numbers (omega arith) in
+    ap (line_of at_stop) t.1 ∙ ap (λ o. mapped (λ c. stop c) (stop_in o)) t.2 ∙ mapped-sized (λ c. stop c) (s.node ∷ s.steps ∷ []) s
+
 -- a line with a form is read as what that says, if its numbers are small
 pub form_read : (l : List ℕ) (x : Line) → HasForm l x → line_of (stands_at x) l ≡ sized (numbers_of x) x
 form_read l (nodes n) h = nodes_again l n h
@@ -324,3 +386,5 @@ form_read l (inputs vs) h = inputs_again l vs h
 form_read l (rounds n) h = rounds_again l n h
 form_read l (plan p) h = plan_again l p h
 form_read l (event e) h = event_again l e h
+form_read l (pace x) h = pace_again l x h
+form_read l (stop s) h = stop_again l s h

@@ -12,7 +12,7 @@ use Rattle.std.proofs.lemmas.List.Folds.{length-prefix_len}
 use Rattle.std.proofs.lemmas.List.Splits.{length-slice_split}
 use Rattle.schedule_text.specs.declared.fault.LineFault.{LineFault}
 use Rattle.schedule_text.specs.declared.fault.LineFault.TheVariants as line
-use Rattle.schedule_text.specs.Fronts.{three_or_four, capped, front_value}
+use Rattle.schedule_text.specs.Fronts.{three_or_four, two_numbers, capped, front_value}
 use Rattle.schedule_text.specs.Stages.{one_of, all_of, mapped, numbers_in}
 use Rattle.schedule_text.specs.Numbers.{is_number, value_of, words_of}
 
@@ -145,6 +145,15 @@ some_word t = omega (arith, length-slice_split (λ b. eqb b 32) t)
 pub one_of-more : (v : ℕ) (t : List ℕ) → one_of (option_map (λ vs. v ∷ vs) (numbers_in t)) ≡ Err line.Bad
 unfolding numbers_in
 one_of-more v t = several (list_all is_number (words_of t)) v (words_of t) (some_word t)
+
+above_two : (b : Bool) (v w : ℕ) (ws : List (List ℕ)) → 0 < length ws → two_numbers (option_map (λ vs. v ∷ vs) (option_map (λ vs. w ∷ vs) (cond b (Some (map value_of ws)) None))) ≡ None
+above_two b v w [] lt = absurd (omega (arith, lt))
+above_two true v w (u ∷ ws) lt = refl
+above_two false v w (u ∷ ws) lt = refl
+
+pub two_numbers-more : (v w : ℕ) (t : List ℕ) → two_numbers (option_map (λ vs. v ∷ vs) (option_map (λ vs. w ∷ vs) (numbers_in t))) ≡ None
+unfolding numbers_in
+two_numbers-more v w t = above_two (list_all is_number (words_of t)) v w (words_of t) (some_word t)
 
 above_four : (b : Bool) (v w x y : ℕ) (ws : List (List ℕ)) → 0 < length ws → three_or_four (option_map (λ vs. v ∷ vs) (option_map (λ vs. w ∷ vs) (option_map (λ vs. x ∷ vs) (option_map (λ vs. y ∷ vs) (cond b (Some (map value_of ws)) None))))) ≡ None
 above_four b v w x y [] lt = absurd (omega (arith, lt))

@@ -8,48 +8,85 @@ use Rattle.std.proofs.lemmas.List.Sums.{AllPass-from_list_all, list_all-from_All
 use Rattle.schedule_text.specs.declared.fault.LineFault.{LineFault}
 use Rattle.schedule_text.specs.declared.fault.LineFault.TheVariants as line
 use Rattle.schedule_text.specs.Numbers.{max_number}
-use Rattle.schedule_text.specs.Lines.{Line, nodes, faults, inputs, rounds, plan, event, HasForm}
-use Rattle.schedule_text.specs.Lines.{HasSmallNumbers, Tells, numbers_of}
+use Rattle.schedule_text.specs.declared.kind.Kind.{Kind}
+use Rattle.schedule_text.specs.declared.kind.Kind.TheVariants.{Schedule, Threads, Header}
+use Rattle.schedule_text.specs.Lines.{Line, nodes, faults, inputs, rounds, plan, event, pace, stop}
+use Rattle.schedule_text.specs.Lines.{HasForm, HasSmallNumbers, Tells, numbers_of}
 use Rattle.schedule_text.specs.Readings.{MayStandAt}
 use Rattle.schedule_text.specs.Stages.{sized}
 use Rattle.schedule_text.proofs.Forms.{Place, at_nodes, at_faults, at_inputs, at_rounds, at_plan}
-use Rattle.schedule_text.proofs.Forms.{at_event, form_read, line_of, stands_at}
+use Rattle.schedule_text.proofs.Forms.{at_end, at_event, at_pace, at_stop, form_read, line_of}
+use Rattle.schedule_text.proofs.Forms.{stands_at}
+
+-- the places that come once behind the header, and then those of all other lines
+abbrev next_places : Kind → List Place
+next_places Threads = at_pace ∷ []
+next_places _ = []
+
+abbrev other_place : Kind → Place
+other_place Schedule = at_event
+other_place Threads = at_stop
+other_place Header = at_end
 
 -- the place of the line behind so many
-abbrev pub place_at : ℕ → Place
-place_at k = get_or (at_nodes ∷ at_faults ∷ at_inputs ∷ at_rounds ∷ at_plan ∷ []) k at_event
+abbrev pub place_at : Kind → ℕ → Place
+place_at kind k =
+    get_or (at_nodes ∷ at_faults ∷ at_inputs ∷ at_rounds ∷ at_plan ∷ next_places kind) k (other_place kind)
 
-abbrev IsAt : Place → ℕ → Type 0
-IsAt at_nodes k = k ≡ 0
-IsAt at_faults k = k ≡ 1
-IsAt at_inputs k = k ≡ 2
-IsAt at_rounds k = k ≡ 3
-IsAt at_plan k = k ≡ 4
-IsAt at_event k = 5 ≤ k
+abbrev IsAt : Kind → Place → ℕ → Type 0
+IsAt kind at_nodes k = k ≡ 0
+IsAt kind at_faults k = k ≡ 1
+IsAt kind at_inputs k = k ≡ 2
+IsAt kind at_rounds k = k ≡ 3
+IsAt kind at_plan k = k ≡ 4
+IsAt kind at_event k = (kind ≡ Schedule) × (5 ≤ k)
+IsAt kind at_pace k = (kind ≡ Threads) × (k ≡ 5)
+IsAt kind at_stop k = (kind ≡ Threads) × (6 ≤ k)
+IsAt kind at_end k = Unit {0}
 
-is_at : (k : ℕ) → IsAt (place_at k) k
-is_at zero = refl
-is_at (suc zero) = refl
-is_at (suc (suc zero)) = refl
-is_at (suc (suc (suc zero))) = refl
-is_at (suc (suc (suc (suc zero)))) = refl
-is_at (suc (suc (suc (suc (suc k))))) = omega arith
+is_behind : (kind : Kind) (k : ℕ) → IsAt kind (get_or (next_places kind) k (other_place kind)) (suc (suc (suc (suc (suc k)))))
+is_behind Schedule k = (refl, omega arith)
+is_behind Threads zero = (refl, refl)
+is_behind Threads (suc k) = (refl, omega arith)
+is_behind Header k = tt
 
-pub may_stand : (k : ℕ) (x : Line) → stands_at x ≡ place_at k → MayStandAt k x
-may_stand k (nodes n) e = subst (λ (p : Place). IsAt p k) (sym e) (is_at k)
-may_stand k (faults n) e = subst (λ (p : Place). IsAt p k) (sym e) (is_at k)
-may_stand k (inputs vs) e = subst (λ (p : Place). IsAt p k) (sym e) (is_at k)
-may_stand k (rounds n) e = subst (λ (p : Place). IsAt p k) (sym e) (is_at k)
-may_stand k (plan p) e = subst (λ (p : Place). IsAt p k) (sym e) (is_at k)
-may_stand k (event d) e = subst (λ (p : Place). IsAt p k) (sym e) (is_at k)
+is_at : (kind : Kind) (k : ℕ) → IsAt kind (place_at kind k) k
+is_at kind zero = refl
+is_at kind (suc zero) = refl
+is_at kind (suc (suc zero)) = refl
+is_at kind (suc (suc (suc zero))) = refl
+is_at kind (suc (suc (suc (suc zero)))) = refl
+is_at kind (suc (suc (suc (suc (suc k))))) = is_behind kind k
 
-pub stands : (k : ℕ) (x : Line) → MayStandAt k x → stands_at x ≡ place_at k
-stands k (nodes n) h = sym (ap place_at h)
-stands k (faults n) h = sym (ap place_at h)
-stands k (inputs vs) h = sym (ap place_at h)
-stands k (rounds n) h = sym (ap place_at h)
-stands k (plan p) h = sym (ap place_at h)
-stands k (event d) h = sym (get_or_past (at_nodes ∷ at_faults ∷ at_inputs ∷ at_rounds ∷ at_plan ∷ []) k at_event h)
+pub may_stand : (kind : Kind) (k : ℕ) (x : Line) → stands_at x ≡ place_at kind k → MayStandAt kind k x
+may_stand kind k (nodes n) e = subst (λ (p : Place). IsAt kind p k) (sym e) (is_at kind k)
+may_stand kind k (faults n) e = subst (λ (p : Place). IsAt kind p k) (sym e) (is_at kind k)
+may_stand kind k (inputs vs) e = subst (λ (p : Place). IsAt kind p k) (sym e) (is_at kind k)
+may_stand kind k (rounds n) e = subst (λ (p : Place). IsAt kind p k) (sym e) (is_at kind k)
+may_stand kind k (plan p) e = subst (λ (p : Place). IsAt kind p k) (sym e) (is_at kind k)
+may_stand kind k (event d) e = subst (λ (p : Place). IsAt kind p k) (sym e) (is_at kind k)
+may_stand kind k (pace x) e = subst (λ (p : Place). IsAt kind p k) (sym e) (is_at kind k)
+may_stand kind k (stop s) e = subst (λ (p : Place). IsAt kind p k) (sym e) (is_at kind k)
+
+event_place : (kind : Kind) (k : ℕ) → kind ≡ Schedule → 5 ≤ k → at_event ≡ place_at kind k
+event_place Schedule k is le = sym (get_or_past (at_nodes ∷ at_faults ∷ at_inputs ∷ at_rounds ∷ at_plan ∷ []) k at_event le)
+event_place Threads k is le = absurd cc
+event_place Header k is le = absurd cc
+
+stop_place : (kind : Kind) (k : ℕ) → kind ≡ Threads → 6 ≤ k → at_stop ≡ place_at kind k
+stop_place Schedule k is le = absurd cc
+stop_place Threads k is le = sym (get_or_past (at_nodes ∷ at_faults ∷ at_inputs ∷ at_rounds ∷ at_plan ∷ at_pace ∷ []) k at_stop le)
+stop_place Header k is le = absurd cc
+
+pub stands : (kind : Kind) (k : ℕ) (x : Line) → MayStandAt kind k x → stands_at x ≡ place_at kind k
+stands kind k (nodes n) h = sym (ap (place_at kind) h)
+stands kind k (faults n) h = sym (ap (place_at kind) h)
+stands kind k (inputs vs) h = sym (ap (place_at kind) h)
+stands kind k (rounds n) h = sym (ap (place_at kind) h)
+stands kind k (plan p) h = sym (ap (place_at kind) h)
+stands kind k (event d) h = event_place kind k h.0 h.1
+stands kind k (pace x) h = sym (ap (place_at kind) h.1 ∙ ap (λ c. place_at c 5) h.0)
+stands kind k (stop s) h = stop_place kind k h.0 h.1
 
 -- whether numbers are small
 abbrev pub are_small : List ℕ → Bool
@@ -80,8 +117,8 @@ sized_err f y h =
     (λ s. let t = small_passes y s in absurd (cc (t, c.0)), c.1)
 
 -- what a line tells at a place is read of it
-pub tells_read : (k : ℕ) (l : List ℕ) (x : Line) → HasForm l x → MayStandAt k x → line_of (place_at k) l ≡ sized (numbers_of x) x
-tells_read k l x form place = ap (λ p. line_of p l) (sym (stands k x place)) ∙ form_read l x form
+pub tells_read : (kind : Kind) (k : ℕ) (l : List ℕ) (x : Line) → HasForm l x → MayStandAt kind k x → line_of (place_at kind k) l ≡ sized (numbers_of x) x
+tells_read kind k l x form place = ap (λ p. line_of p l) (sym (stands kind k x place)) ∙ form_read l x form
 
 -- small numbers are read as they are
 pub sized_small : (x : Line) → HasSmallNumbers x → sized (numbers_of x) x ≡ Ok x

@@ -17,6 +17,7 @@ use Rattle.step_machine.specs.declared.event.Event.TheVariants.{Step, Release, D
 use Rattle.step_machine.specs.declared.event.Name.{Name}
 use Rattle.schedule_text.specs.declared.draft.Stage.TheVariants.{Nodes, Faults, Inputs, Rounds}
 use Rattle.schedule_text.specs.declared.draft.Stage.TheVariants.{Whole}
+use Rattle.schedule_text.specs.declared.kind.Kind.TheVariants.{Schedule}
 use Rattle.schedule_text.specs.Small.{IsSmall, IsSmallPlan, IsSmallName, IsSmallEvent, IsSmallSetup}
 use Rattle.schedule_text.specs.Readings.{Answer, IsReading}
 use Rattle.schedule_text.specs.Texts.{Says, max_text}
@@ -66,45 +67,45 @@ plain_events [] h = tt
 plain_events (e ∷ es) h = (plain_event e h.0, plain_events es h.1)
 
 -- each line, read at its stage
-nodes_read : (n : ℕ) → IsSmall n → line_step start (number_line (codes "nodes ") n) ≡ Ok (record { stage = Nodes n; inputs = []; events = [] })
+nodes_read : (n : ℕ) → IsSmall n → line_step Schedule start (number_line (codes "nodes ") n) ≡ Ok (record { stage = Nodes n; inputs = []; events = []; stops = [] })
 unfolding line_step one_after after
 nodes_read n h = ap (λ r. mapped (λ n. record start { stage = Nodes n }) r) (one_read n h)
 
-faults_read : (n t : ℕ) → IsSmall t → line_step (record { stage = Nodes n; inputs = []; events = [] }) (number_line (codes "faults ") t) ≡ Ok (record { stage = Faults n t; inputs = []; events = [] })
+faults_read : (n t : ℕ) → IsSmall t → line_step Schedule (record { stage = Nodes n; inputs = []; events = []; stops = [] }) (number_line (codes "faults ") t) ≡ Ok (record { stage = Faults n t; inputs = []; events = []; stops = [] })
 unfolding line_step one_after after
 faults_read n t h = ap (λ r. mapped (λ t. record start { stage = Faults n t }) r) (one_read t h)
 
-inputs_read : (n t : ℕ) (vs : List ℕ) → 0 < length vs → AllByRecursion IsSmall vs → line_step (record { stage = Faults n t; inputs = []; events = [] }) (inputs_line vs) ≡ Ok (record { stage = Inputs n t; inputs = vs; events = [] })
+inputs_read : (n t : ℕ) (vs : List ℕ) → 0 < length vs → AllByRecursion IsSmall vs → line_step Schedule (record { stage = Faults n t; inputs = []; events = []; stops = [] }) (inputs_line vs) ≡ Ok (record { stage = Inputs n t; inputs = vs; events = []; stops = [] })
 unfolding line_step inputs_of after
 inputs_read n t [] lt h = absurd (omega (arith, lt))
 inputs_read n t (v ∷ vs) lt h = ap (λ r. mapped (λ vs. record start { stage = Inputs n t; inputs = vs }) r) (values_read v vs h)
 
-rounds_read : (n t r : ℕ) (vs : List ℕ) → IsSmall r → line_step (record { stage = Inputs n t; inputs = vs; events = [] }) (number_line (codes "rounds ") r) ≡ Ok (record { stage = Rounds n t r; inputs = vs; events = [] })
+rounds_read : (n t r : ℕ) (vs : List ℕ) → IsSmall r → line_step Schedule (record { stage = Inputs n t; inputs = vs; events = []; stops = [] }) (number_line (codes "rounds ") r) ≡ Ok (record { stage = Rounds n t r; inputs = vs; events = []; stops = [] })
 unfolding line_step one_after after
 rounds_read n t r vs h = ap (λ x. mapped (λ r. record start { stage = Rounds n t r; inputs = vs }) x) (one_read r h)
 
-plan_read : (n t r : ℕ) (vs : List ℕ) (p : PlanKind) → IsSmallPlan p → line_step (record { stage = Rounds n t r; inputs = vs; events = [] }) (plan_line p) ≡ Ok (record { stage = Whole n t r p; inputs = vs; events = [] })
+plan_read : (n t r : ℕ) (vs : List ℕ) (p : PlanKind) → IsSmallPlan p → line_step Schedule (record { stage = Rounds n t r; inputs = vs; events = []; stops = [] }) (plan_line p) ≡ Ok (record { stage = Whole n t r p; inputs = vs; events = []; stops = [] })
 unfolding line_step plan_of one_after after
 plan_read n t r vs (Known d) h = ap (λ x. mapped (λ p. record start { stage = Whole n t r p; inputs = vs }) (mapped (λ d. Known d) x)) (one_read d h)
 plan_read n t r vs Growing h = refl
 
 module _ (n t r : ℕ) (vs : List ℕ) (p : PlanKind) where
   abbrev whole : List Event → State
-  whole es = record { stage = Whole n t r p; inputs = vs; events = es }
+  whole es = record { stage = Whole n t r p; inputs = vs; events = es; stops = [] }
 
-  event_read : (seen : List Event) (e : Event) → IsSmallEvent e → line_step (whole seen) (event_line e) ≡ Ok (whole (seen ++ e ∷ []))
+  event_read : (seen : List Event) (e : Event) → IsSmallEvent e → line_step Schedule (whole seen) (event_line e) ≡ Ok (whole (seen ++ e ∷ []))
   unfolding line_step event_of after
   event_read seen (Step i) h = ap (λ x. mapped (λ e. whole (seen ++ e ∷ [])) (mapped (λ i. Step i) x)) (one_read i h)
   event_read seen (Release m) h = ap (λ x. mapped (λ e. whole (seen ++ e ∷ [])) (mapped (λ m. Release m) x)) (name_read m h)
   event_read seen (Drop m) h = ap (λ x. mapped (λ e. whole (seen ++ e ∷ [])) (mapped (λ m. Drop m) x)) (name_read m h)
   event_read seen (Copy m) h = ap (λ x. mapped (λ e. whole (seen ++ e ∷ [])) (mapped (λ m. Copy m) x)) (whole_name_read m h)
 
-  events_read : (seen es : List Event) (k : ℕ) → AllByRecursion IsSmallEvent es → from_line k (whole seen) (map event_line es) ≡ Ok (record { nodes = n; faults = t; inputs = vs; rounds = r }, p, seen ++ es)
+  events_read : (seen es : List Event) (k : ℕ) → AllByRecursion IsSmallEvent es → from_line Schedule k (whole seen) (map event_line es) ≡ Ok (record { nodes = n; faults = t; inputs = vs; rounds = r }, p, seen ++ es)
   unfolding from_line
   events_read seen [] k h = ap (λ (l : List Event). Ok (record { nodes = n; faults = t; inputs = vs; rounds = r }, p, l)) (sym (append-nil seen))
   events_read seen (e ∷ es) k h =
       let joined : (seen ++ e ∷ []) ++ es ≡ seen ++ (e ∷ es) = simp append_assoc in
-      ap (λ x. go_on k x (λ s. from_line (k + 1) s (map event_line es))) (event_read seen e h.0) ∙ events_read (seen ++ e ∷ []) es (k + 1) h.1 ∙ ap (λ (l : List Event). Ok (record { nodes = n; faults = t; inputs = vs; rounds = r }, p, l)) joined
+      ap (λ x. go_on k x (λ s. from_line Schedule (k + 1) s (map event_line es))) (event_read seen e h.0) ∙ events_read (seen ++ e ∷ []) es (k + 1) h.1 ∙ ap (λ (l : List Event). Ok (record { nodes = n; faults = t; inputs = vs; rounds = r }, p, l)) joined
 
 module _ (s : Setup) (p : PlanKind) (es : List Event) (some : 0 < length s.inputs) (small : IsSmallSetup s) (small_plan : IsSmallPlan p) (small_events : AllByRecursion IsSmallEvent es) where
   all_lines : List (List ℕ)
@@ -122,7 +123,7 @@ module _ (s : Setup) (p : PlanKind) (es : List Event) (some : 0 < length s.input
   lines_are =
       ap lines text_is ∙ lines-text all_lines (plain_number s.nodes small.nodes, (plain_number s.faults small.faults, (plain_values s.inputs inputs_small, (plain_number s.rounds small.rounds, (plain_plan p small_plan, plain_events es small_events)))))
 
-  lines_read : from_line 1 start all_lines ≡ Ok (s, p, es)
+  lines_read : from_line Schedule 1 start all_lines ≡ Ok (s, p, es)
   unfolding from_line all_lines
   lines_read =
       let a = nodes_read s.nodes small.nodes in
@@ -133,7 +134,7 @@ module _ (s : Setup) (p : PlanKind) (es : List Event) (some : 0 < length s.input
       rw (a, b, c, d, e) (events_read s.nodes s.faults s.rounds s.inputs p [] es 6 small_events)
 
   pub read_back : length (text_of s p es) ≤ max_text → Says (text_of s p es) s p es
-  read_back le = subst (λ (a : Answer). IsReading (text_of s p es) a) (ap (from_line 1 start) lines_are ∙ lines_read) (short_sound (text_of s p es) le)
+  read_back le = subst (λ (a : Answer). IsReading (text_of s p es) a) (ap (from_line Schedule 1 start) lines_are ∙ lines_read) (short_sound Schedule (text_of s p es) le)
 
 -- the bytes of the parts, one after the other
 pub spelled_as : (s : Setup) (p : PlanKind) (es : List Event) (none header all : List ℕ) → none ≡ [] → header ≡ none ++ flat_map line_text (header_lines s p) → all ≡ header ++ flat_map (λ e. line_text (event_line e)) es → all ≡ text_of s p es

@@ -32,6 +32,11 @@ abbrev pub IsFront : Option Front → List ℕ → Type 0
 IsFront None text = numbers_in text ≡ None
 IsFront (Some f) text = (f.value ≡ capped (front_value text)) × HasRest f.rest text
 
+-- two numbers and no more, capped
+abbrev pub two_numbers : Option (List ℕ) → Option (ℕ × ℕ)
+two_numbers (Some (a ∷ b ∷ [])) = Some (capped a, capped b)
+two_numbers _ = None
+
 -- three numbers, and maybe a fourth, and no more, capped
 abbrev pub three_or_four : Option (List ℕ) → Option (ℕ × ℕ × ℕ × Option ℕ)
 three_or_four (Some (a ∷ b ∷ c ∷ [])) = Some (capped a, capped b, capped c, None)

@@ -1,4 +1,4 @@
--- What a line of a schedule can say, and how it says it.
+-- What a line of a text can say, and how it says it.
 use Rattle.std.specs.Prelude.{◌≡◌, ℕ, ◌<◌, ◌≤◌, ◌⊎◌, All, List, [], ◌∷◌, ◌++◌, codes, length}
 use Rattle.std.specs.List.{AllZip}
 use Rattle.slot_plans.specs.declared.kind.PlanKind.{PlanKind}
@@ -6,9 +6,12 @@ use Rattle.slot_plans.specs.declared.kind.PlanKind.TheVariants.{Known, Growing}
 use Rattle.step_machine.specs.declared.event.Event.{Event}
 use Rattle.step_machine.specs.declared.event.Event.TheVariants.{Step, Release, Drop, Copy}
 use Rattle.step_machine.specs.declared.event.Name.{Name}
+use Rattle.schedule_text.specs.declared.pace.Pace.{Pace}
+use Rattle.schedule_text.specs.declared.pace.Pace.TheVariants.{Free, Ticks}
+use Rattle.schedule_text.specs.declared.pace.Stop.{Stop}
 use Rattle.schedule_text.specs.Numbers.{IsNumeral, max_number, words_of}
 
--- the five lines of the header, and that of an event
+-- the five lines of the header, and those of an event, a pace and a stop
 pub data Line : Type 0 where
   nodes : ℕ → Line
   faults : ℕ → Line
@@ -16,6 +19,8 @@ pub data Line : Type 0 where
   rounds : ℕ → Line
   plan : PlanKind → Line
   event : Event → Line
+  pace : Pace → Line
+  stop : Stop → Line
 
 -- the words that such a line begins with
 abbrev pub first_words : Line → List (List ℕ)
@@ -29,6 +34,9 @@ first_words (event (Step i)) = codes "step" ∷ []
 first_words (event (Release m)) = codes "release" ∷ []
 first_words (event (Drop m)) = codes "drop" ∷ []
 first_words (event (Copy m)) = codes "copy" ∷ []
+first_words (pace Free) = codes "pace" ∷ codes "free" ∷ []
+first_words (pace Ticks) = codes "pace" ∷ codes "ticks" ∷ []
+first_words (stop s) = codes "stop" ∷ []
 
 -- the numbers of a message's name: sender, receiver, round and copy
 abbrev pub name_numbers : Name → List ℕ
@@ -46,6 +54,8 @@ numbers_of (event (Step i)) = i ∷ []
 numbers_of (event (Release m)) = name_numbers m
 numbers_of (event (Drop m)) = name_numbers m
 numbers_of (event (Copy m)) = name_numbers m
+numbers_of (pace p) = []
+numbers_of (stop s) = s.node ∷ s.steps ∷ []
 
 -- the words are a name's numbers in digits but for its copy, which is 0
 abbrev pub IsOriginal : List (List ℕ) → Name → Type 0

@@ -1,9 +1,10 @@
 -- The stages that the reader goes through, line by line.
-use Rattle.std.specs.Prelude.{ℕ, ◌+◌, ◌==◌, nat_le, if◌then◌else◌, List, [], ◌∷◌, ◌++◌, length, map}
-use Rattle.std.specs.Prelude.{take, drop, Option, Some, None, option_and_then, Result, Ok, Err}
-use Rattle.std.specs.Prelude.{codes}
+use Rattle.std.specs.Prelude.{ℕ, ◌+◌, ◌==◌, nat_le, nat_lt, if◌then◌else◌, List, [], ◌∷◌, ◌++◌}
+use Rattle.std.specs.Prelude.{length, map, take, drop, Option, Some, None, option_and_then, Result}
+use Rattle.std.specs.Prelude.{Ok, Err, codes}
 use Rattle.std.specs.List.{list_all}
 use Rattle.std.specs.Str.{bytes_eq}
+use Rattle.std.specs.Str.Lines.{lines}
 use Rattle.slot_plans.specs.declared.kind.PlanKind.{PlanKind}
 use Rattle.slot_plans.specs.declared.kind.PlanKind.TheVariants.{Known, Growing}
 use Rattle.step_machine.specs.declared.event.Event.{Event}
@@ -15,9 +16,16 @@ use Rattle.schedule_text.specs.declared.fault.ScheduleFault.{ScheduleFault}
 use Rattle.schedule_text.specs.declared.fault.ScheduleFault.TheVariants as fault
 use Rattle.schedule_text.specs.declared.draft.Stage.{Stage}
 use Rattle.schedule_text.specs.declared.draft.Stage.TheVariants.{Start, Nodes, Faults, Inputs}
-use Rattle.schedule_text.specs.declared.draft.Stage.TheVariants.{Rounds, Whole}
+use Rattle.schedule_text.specs.declared.draft.Stage.TheVariants.{Rounds, Whole, Paced}
+use Rattle.round_meaning.specs.declared.setup.Setup.{Setup}
+use Rattle.schedule_text.specs.declared.kind.Kind.{Kind}
+use Rattle.schedule_text.specs.declared.kind.Kind.TheVariants.{Schedule, Threads, Header}
+use Rattle.schedule_text.specs.declared.pace.Pace.{Pace}
+use Rattle.schedule_text.specs.declared.pace.Pace.TheVariants.{Free, Ticks}
+use Rattle.schedule_text.specs.declared.pace.Stop.{Stop}
 use Rattle.schedule_text.specs.Numbers.{is_number, max_number, value_of, words_of}
-use Rattle.schedule_text.specs.Readings.{Answer}
+use Rattle.schedule_text.specs.Readings.{AnswerOf}
+use Rattle.schedule_text.specs.Texts.{max_text}
 
 -- the numbers of a text whose words are all numbers
 unfoldable pub numbers_in : List ℕ → Option (List ℕ)
@@ -111,29 +119,59 @@ event_of text =
     (behind (after (codes "drop ") text) drop_of
     (behind (after (codes "copy ") text) copy_of (Err line.Bad))))
 
--- what is read so far: how far the header has come, and beside it the inputs and the events
+-- the pace of a line `pace free` or `pace ticks`
+unfoldable pub pace_of : List ℕ → Result Pace LineFault
+pace_of text =
+    if bytes_eq text (codes "pace free") then Ok Free
+    else if bytes_eq text (codes "pace ticks") then Ok Ticks
+    else Err line.Bad
+
+-- the stop of a node and its steps, if each fits
+abbrev pub sized_stop : ℕ → ℕ → Result Stop LineFault
+sized_stop i c = sized (i ∷ c ∷ []) (record { node = i; steps = c })
+
+-- what two numbers behind `stop ` say
+abbrev pub stop_in : Option (List ℕ) → Result Stop LineFault
+stop_in (Some (i ∷ c ∷ [])) = sized_stop i c
+stop_in _ = Err line.Bad
+
+-- the stop of a line `stop I C`
+unfoldable pub stop_of : List ℕ → Result Stop LineFault
+stop_of text = stop_in (numbers_after (codes "stop ") text)
+
+-- what is read so far: how far the header and the pace have come, and beside it the inputs, the
+-- events and the stops
 pub record State : Type 0 where
   pub stage : Stage
   pub inputs : List ℕ
   pub events : List Event
+  pub stops : List Stop
 
--- each stage of the header takes the one line that comes next, and a whole header takes events
-abbrev pub by_stage : Stage → State → List ℕ → Result State LineFault
-by_stage Start s text = mapped (λ n. record s { stage = Nodes n }) (one_after (codes "nodes ") text)
-by_stage (Nodes n) s text =
+-- each stage of the header takes the one line that comes next; behind a whole header a schedule
+-- takes events, a thread setup its pace and then stops, and a header nothing
+abbrev pub by_stage : Kind → Stage → State → List ℕ → Result State LineFault
+by_stage kind Start s text =
+    mapped (λ n. record s { stage = Nodes n }) (one_after (codes "nodes ") text)
+by_stage kind (Nodes n) s text =
     mapped (λ t. record s { stage = Faults n t }) (one_after (codes "faults ") text)
-by_stage (Faults n t) s text =
+by_stage kind (Faults n t) s text =
     mapped (λ vs. record s { stage = Inputs n t; inputs = vs }) (inputs_of text)
-by_stage (Inputs n t) s text =
+by_stage kind (Inputs n t) s text =
     mapped (λ r. record s { stage = Rounds n t r }) (one_after (codes "rounds ") text)
-by_stage (Rounds n t r) s text = mapped (λ p. record s { stage = Whole n t r p }) (plan_of text)
-by_stage (Whole n t r p) s text =
+by_stage kind (Rounds n t r) s text =
+    mapped (λ p. record s { stage = Whole n t r p }) (plan_of text)
+by_stage Schedule (Whole n t r p) s text =
     mapped (λ e. record s { events = s.events ++ e ∷ [] }) (event_of text)
+by_stage Threads (Whole n t r p) s text =
+    mapped (λ x. record s { stage = Paced n t r p x }) (pace_of text)
+by_stage Header (Whole n t r p) s text = Err line.Bad
+by_stage kind (Paced n t r p x) s text =
+    mapped (λ c. record s { stops = s.stops ++ c ∷ [] }) (stop_of text)
 
 -- empty lines and lines that begin with # change nothing
-unfoldable pub line_step : State → List ℕ → Result State LineFault
-line_step s [] = Ok s
-line_step s (b ∷ bs) = if b == 35 then Ok s else by_stage s.stage s (b ∷ bs)
+unfoldable pub line_step : Kind → State → List ℕ → Result State LineFault
+line_step kind s [] = Ok s
+line_step kind s (b ∷ bs) = if b == 35 then Ok s else by_stage kind s.stage s (b ∷ bs)
 
 -- a line's fault, with the line's number
 abbrev pub at_line : ℕ → LineFault → ScheduleFault
@@ -142,21 +180,49 @@ at_line k line.Large = fault.NumberTooLarge k
 at_line k line.NoMemory = fault.NoMemory
 
 -- the lines behind this one count where it has no fault
-abbrev pub go_on : ℕ → Result State LineFault → (State → Answer) → Answer
+abbrev pub go_on :
+    {A : Type 0} → ℕ → Result State LineFault → (State → Result A ScheduleFault)
+    → Result A ScheduleFault
 go_on k (Ok s) next = next s
 go_on k (Err e) next = Err (at_line k e)
 
--- at the end the header has to be whole; k is the number after the last line's
-abbrev pub answer_at_end : ℕ → Stage → State → Answer
-answer_at_end k (Whole n t r p) s =
-    Ok (record { nodes = n; faults = t; inputs = s.inputs; rounds = r }, p, s.events)
-answer_at_end k _ s = Err (fault.BadLine k)
+-- at the end behind a header; a thread setup lacks its pace then
+abbrev pub header_at_end :
+    (kind : Kind) → ℕ → Setup → PlanKind → List Event → AnswerOf kind
+header_at_end Schedule k u p es = Ok (u, p, es)
+header_at_end Threads k u p es = Err (fault.BadLine k)
+header_at_end Header k u p es = Ok (u, p, tt)
+
+-- and behind a pace, which only a thread setup has
+abbrev pub pace_at_end :
+    (kind : Kind) → ℕ → Setup → PlanKind → Pace → List Stop → AnswerOf kind
+pace_at_end Schedule k u p x ss = Err (fault.BadLine k)
+pace_at_end Threads k u p x ss = Ok (u, p, (x, ss))
+pace_at_end Header k u p x ss = Err (fault.BadLine k)
+
+-- at the end the header has to be whole, and a thread setup's pace read; k is the number after the
+-- last line's
+abbrev pub answer_at_end : (kind : Kind) → ℕ → Stage → State → AnswerOf kind
+answer_at_end kind k (Whole n t r p) s =
+    header_at_end kind k (record { nodes = n; faults = t; inputs = s.inputs; rounds = r }) p
+    s.events
+answer_at_end kind k (Paced n t r p x) s =
+    pace_at_end kind k (record { nodes = n; faults = t; inputs = s.inputs; rounds = r }) p x
+    s.stops
+answer_at_end kind k _ s = Err (fault.BadLine k)
 
 -- the lines from number k on
-unfoldable pub from_line : ℕ → State → List (List ℕ) → Answer
-from_line k s [] = answer_at_end k s.stage s
-from_line k s (l ∷ ls) = go_on k (line_step s l) (λ s. from_line (k + 1) s ls)
+unfoldable pub from_line : (kind : Kind) → ℕ → State → List (List ℕ) → AnswerOf kind
+from_line kind k s [] = answer_at_end kind k s.stage s
+from_line kind k s (l ∷ ls) =
+    go_on k (line_step kind s l) (λ s. from_line kind (k + 1) s ls)
 
 -- before the first line
 abbrev pub start : State
-start = record { stage = Start; inputs = []; events = [] }
+start = record { stage = Start; inputs = []; events = []; stops = [] }
+
+-- the answer for a text: TooLong where it is that, or else what its lines say
+unfoldable pub answer_of : (kind : Kind) → List ℕ → AnswerOf kind
+answer_of kind text =
+    if nat_lt max_text (length text) then Err fault.TooLong
+    else from_line kind 1 start (lines text)

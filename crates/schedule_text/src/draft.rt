@@ -1,17 +1,21 @@
-//! A schedule while its lines are read.
+//! A text while its lines are read.
 ghost use Rattle.std.specs.Prelude.{◌≡◌, ◌<◌, IfOk, length};
+ghost use Rattle.schedule_text.specs.Outcome.{whole_header};
 
 use crate::fault::{LineFault, ScheduleFault};
 use crate::front::{first_line, front_event};
-use crate::line::{event_of, inputs_of, number_after, plan_of};
-use crate::reading::Schedule;
+use crate::kind::Kind;
+use crate::line::{event_of, inputs_of, number_after, pace_of, plan_of, stop_of};
+use crate::pace::{Pace, Stop};
+use crate::reading::{Schedule, ThreadSetup};
 use round_lang::NoMemory;
 use round_meaning::{Inputs, Setup};
 use slot_plans::PlanKind;
 use std::alloc::Global;
 use step_machine::Event;
 
-/// How far the header has come: the numbers of its lines so far, but for the inputs.
+/// How far the header and the pace behind it have come: what their lines say so far, but for the
+/// inputs.
 #[derive(Clone, Copy)]
 pub enum Stage {
     Start,
@@ -20,6 +24,7 @@ pub enum Stage {
     Inputs(u32, u32),
     Rounds(u32, u32, u32),
     Whole(u32, u32, u32, PlanKind),
+    Paced(u32, u32, u32, PlanKind, Pace),
 }
 
 /// What is read so far.
@@ -28,12 +33,15 @@ pub struct Draft {
     pub stage: Stage,
     pub inputs: Vec<u32>,
     pub events: Vec<Event>,
+    pub stops: Vec<Stop>,
 }
 
 impl Draft {
     ghost use Rattle.std.specs.Prelude.{◌≢◌, Err};
     ghost use Rattle.schedule_text.specs.Stages as spec;
-    ghost use Rattle.schedule_text.specs.Outcome.{Gives, GivesFront, GivesState, state_of};
+    ghost use Rattle.schedule_text.specs.Outcome.{Gives, GivesFront, GivesHeader, GivesState};
+    ghost use Rattle.schedule_text.specs.Outcome.{GivesThreads, state_of};
+    ghost use Rattle.schedule_text.specs.declared.kind.Kind.TheVariants as kinds;
 
     /// Nothing read, with room for so many events.
     pub fn new(alloc: Global, events: usize) -> Result<Draft, NoMemory>
@@ -43,41 +51,49 @@ impl Draft {
             stage: Stage::Start,
             inputs: Vec::new(alloc),
             events: Vec::with_capacity(alloc, events)?,
+            stops: Vec::new(alloc),
         })
     }
 
-    /// Takes in the first line of a text and answers what follows it; a draft that has refused one
-    /// is of no use.
-    pub fn read_front<'a>(&mut self, alloc: Global, text: &'a [u8]) -> Result<&'a [u8], LineFault>
+    /// Takes in the first line of a text of this kind and answers what follows it; a draft that has
+    /// refused one is of no use.
+    pub fn read_front<'a>(
+        &mut self,
+        alloc: Global,
+        kind: Kind,
+        text: &'a [u8],
+    ) -> Result<&'a [u8], LineFault>
         requires { 0 < length text.now }
-        ensures { GivesFront result (state_of self.old) self.new text.now }
+        ensures { GivesFront kind result (state_of self.old) self.new text.now }
     {
-        if let Stage::Whole(..) = self.stage {
-            // Most lines are events, so these are read without a look for the line's end.
-            if let Some((event, rest)) = front_event(text) {
-                self.events.push(event)?;
-                return Ok(rest);
+        if let Kind::Schedule = kind {
+            if let Stage::Whole(..) = self.stage {
+                // Most lines are events, so these are read without a look for the line's end.
+                if let Some((event, rest)) = front_event(text) {
+                    self.events.push(event)?;
+                    return Ok(rest);
+                }
             }
         }
         let (line, rest) = first_line(text);
-        self.read_line(alloc, line)?;
+        self.read_line(alloc, kind, line)?;
         Ok(rest)
     }
 
     #[tactic(auto, unfolding(crate::specs::Stages::line_step))]
-    fn read_line(&mut self, alloc: Global, line: &[u8]) -> Result<(), LineFault>
-        ensures { GivesState result self.new (spec.line_step (state_of self.old) line.now) }
+    fn read_line(&mut self, alloc: Global, kind: Kind, line: &[u8]) -> Result<(), LineFault>
+        ensures { GivesState result self.new (spec.line_step kind (state_of self.old) line.now) }
     {
         match line {
             [] => Ok(()),
             [b'#', ..] => Ok(()),
-            text => self.read_content(alloc, text),
+            text => self.read_content(alloc, kind, text),
         }
     }
 
-    fn read_content(&mut self, alloc: Global, line: &[u8]) -> Result<(), LineFault>
+    fn read_content(&mut self, alloc: Global, kind: Kind, line: &[u8]) -> Result<(), LineFault>
         ensures { GivesState result self.new
-            (spec.by_stage self.old.stage (state_of self.old) line.now) }
+            (spec.by_stage kind self.old.stage (state_of self.old) line.now) }
     {
         match self.stage {
             Stage::Start => self.stage = Stage::Nodes(number_after(line, b"nodes ")?),
@@ -94,33 +110,96 @@ impl Draft {
             Stage::Rounds(nodes, faults, rounds) => {
                 self.stage = Stage::Whole(nodes, faults, rounds, plan_of(line)?)
             }
-            Stage::Whole(..) => self.events.push(event_of(line)?)?,
+            Stage::Whole(nodes, faults, rounds, plan) => match kind {
+                Kind::Schedule => self.events.push(event_of(line)?)?,
+                Kind::Threads => {
+                    self.stage = Stage::Paced(nodes, faults, rounds, plan, pace_of(line)?)
+                }
+                Kind::Header => return Err(LineFault::Bad),
+            },
+            Stage::Paced(..) => self.stops.push(stop_of(line)?)?,
         }
         Ok(())
     }
 
     /// The schedule, where the header is whole; else the fault at the line past the last.
-    pub fn finish(self, number: u64) -> Result<Schedule, ScheduleFault>
-        ensures ended { Gives result (spec.answer_at_end number self.stage (state_of self)) }
+    pub fn schedule(self, number: u64) -> Result<Schedule, ScheduleFault>
+        ensures ended { Gives result
+            (spec.answer_at_end kinds.Schedule number self.stage (state_of self)) }
         ensures short { result ≢ Err ScheduleFault.TooLong }
     {
         let Draft {
             stage,
             inputs,
             events,
+            ..
         } = self;
-        match stage {
-            Stage::Whole(nodes, faults, rounds, plan) => Ok(Schedule {
-                setup: Setup {
-                    nodes,
-                    faults,
-                    inputs: Inputs::new(inputs),
-                    rounds,
-                },
-                plan,
-                events,
-            }),
-            _ => Err(ScheduleFault::BadLine(number)),
+        let (setup, plan) = header_of(stage, inputs, number)?;
+        Ok(Schedule {
+            setup,
+            plan,
+            events,
+        })
+    }
+
+    /// The thread setup, where the pace was read; else the fault at the line past the last.
+    pub fn threads(self, number: u64) -> Result<ThreadSetup, ScheduleFault>
+        ensures ended { GivesThreads result
+            (spec.answer_at_end kinds.Threads number self.stage (state_of self)) }
+        ensures short { result ≢ Err ScheduleFault.TooLong }
+    {
+        let Draft {
+            stage,
+            inputs,
+            stops,
+            ..
+        } = self;
+        let Stage::Paced(nodes, faults, rounds, plan, pace) = stage else {
+            return Err(ScheduleFault::BadLine(number));
+        };
+        Ok(ThreadSetup {
+            setup: setup_of(nodes, faults, inputs, rounds),
+            plan,
+            pace,
+            stops,
+        })
+    }
+
+    /// The header, where it is whole; else the fault at the line past the last.
+    pub fn header(self, number: u64) -> Result<(Setup, PlanKind), ScheduleFault>
+        ensures ended { GivesHeader result
+            (spec.answer_at_end kinds.Header number self.stage (state_of self)) }
+        ensures short { result ≢ Err ScheduleFault.TooLong }
+    {
+        let Draft { stage, inputs, .. } = self;
+        header_of(stage, inputs, number)
+    }
+}
+
+fn setup_of(nodes: u32, faults: u32, inputs: Vec<u32>, rounds: u32) -> Setup
+    ensures { result
+        ≡ record { nodes = nodes; faults = faults; inputs = inputs.items; rounds = rounds } }
+{
+    Setup {
+        nodes,
+        faults,
+        inputs: Inputs::new(inputs),
+        rounds,
+    }
+}
+
+/// The header that stands at this stage, where it is whole; else the fault at this line.
+fn header_of(
+    stage: Stage,
+    inputs: Vec<u32>,
+    number: u64,
+) -> Result<(Setup, PlanKind), ScheduleFault>
+    ensures { result ≡ whole_header number stage inputs.items }
+{
+    match stage {
+        Stage::Whole(nodes, faults, rounds, plan) => {
+            Ok((setup_of(nodes, faults, inputs, rounds), plan))
         }
+        _ => Err(ScheduleFault::BadLine(number)),
     }
 }

@@ -1,16 +1,17 @@
-//! What single lines of a schedule say.
+//! What single lines of a text say.
 ghost use Rattle.std.specs.Prelude.{◌≡◌, option_map};
 ghost use Rattle.std.specs.Str.{bytes_eq};
 ghost use Rattle.std.specs.Char.{is_ascii_digit};
 ghost use Rattle.std.specs.List.{list_all};
 ghost use Rattle.schedule_text.specs.Numbers.{is_number, words_of};
 ghost use Rattle.schedule_text.specs.Stages.{numbers_in};
-ghost use Rattle.schedule_text.specs.Fronts.{fault_before, three_or_four};
+ghost use Rattle.schedule_text.specs.Fronts.{fault_before, three_or_four, two_numbers};
 ghost use Rattle.schedule_text.specs.Stages as spec;
 ghost use Rattle.schedule_text.specs.Outcome.{GivesItems};
 
 use crate::fault::LineFault;
 use crate::number::{MAX_NUMBER, first_number};
+use crate::pace::{Pace, Stop};
 use slot_plans::PlanKind;
 use std::alloc::Global;
 use step_machine::{Event, Name};
@@ -64,6 +65,59 @@ pub fn plan_of(line: &[u8]) -> Result<PlanKind, LineFault>
         return Ok(PlanKind::Growing);
     }
     Ok(PlanKind::Known(number_after(line, b"plan known ")?))
+}
+
+/// The pace of a line `pace free` or `pace ticks`.
+#[tactic(auto, unfolding(crate::specs::Stages::pace_of))]
+pub fn pace_of(line: &[u8]) -> Result<Pace, LineFault>
+    ensures { result ≡ spec.pace_of line.now }
+{
+    if is_text(line, b"pace free") {
+        return Ok(Pace::Free);
+    }
+    if is_text(line, b"pace ticks") {
+        return Ok(Pace::Ticks);
+    }
+    Err(LineFault::Bad)
+}
+
+/// Two numbers that a text is, each above the largest counting as the next one.
+fn two_numbers(text: &[u8]) -> Option<(u64, u64)>
+    ensures { result ≡ two_numbers (numbers_in text.now) }
+{
+    let first = first_number(text)?;
+    let second = first_number(first.rest?)?;
+    if second.rest.is_some() {
+        return None;
+    }
+    Some((first.value, second.value))
+}
+
+/// The stop of these numbers, if each fits.
+fn sized_stop(node: u64, steps: u64) -> Result<Stop, LineFault>
+    ensures { result ≡ spec.sized_stop node steps }
+{
+    if node > MAX_NUMBER || steps > MAX_NUMBER {
+        return Err(LineFault::Large);
+    }
+    Ok(Stop {
+        node: node as u32,
+        steps: steps as u32,
+    })
+}
+
+/// The stop of a line `stop I C`.
+#[tactic(auto, unfolding(crate::specs::Stages::stop_of))]
+pub fn stop_of(line: &[u8]) -> Result<Stop, LineFault>
+    ensures { result ≡ spec.stop_of line.now }
+{
+    let Some(rest) = after(line, b"stop ") else {
+        return Err(LineFault::Bad);
+    };
+    match two_numbers(rest) {
+        Some((node, steps)) => sized_stop(node, steps),
+        None => Err(LineFault::Bad),
+    }
 }
 
 fn step_of(text: &[u8]) -> Result<Event, LineFault>

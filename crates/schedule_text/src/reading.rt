@@ -1,13 +1,17 @@
-//! Reading a schedule's text.
+//! Reading the texts of schedules, thread setups and headers.
 ghost use Rattle.std.specs.Prelude.{◌≡◌, ◌≢◌, ◌<◌, ◌↔◌, Err, length};
 ghost use Rattle.std.specs.Str.Lines.{lines};
-ghost use Rattle.schedule_text.specs.Outcome.{Gives, IsRead};
-ghost use Rattle.schedule_text.specs.Readings.{Answer, IsReading};
+ghost use Rattle.schedule_text.specs.Outcome.{Gives, GivesEnd, GivesHeader, GivesThreads};
+ghost use Rattle.schedule_text.specs.Outcome.{IsHeaderRead, IsRead, IsThreadsRead};
+ghost use Rattle.schedule_text.specs.Readings.{Answer, AnswerOf, IsReading, IsReadingOf};
 ghost use Rattle.schedule_text.specs.Stages as stage;
 ghost use Rattle.schedule_text.specs.Texts.{max_text};
+ghost use Rattle.schedule_text.specs.declared.kind.Kind.TheVariants as kinds;
 
 use crate::draft::Draft;
 use crate::fault::ScheduleFault;
+use crate::kind::Kind;
+use crate::pace::{Pace, Stop};
 use round_meaning::Setup;
 use slot_plans::PlanKind;
 use std::alloc::Global;
@@ -19,6 +23,15 @@ pub struct Schedule {
     pub setup: Setup,
     pub plan: PlanKind,
     pub events: Vec<Event>,
+}
+
+/// What a thread setup's text says.
+#[derive(Drop)]
+pub struct ThreadSetup {
+    pub setup: Setup,
+    pub plan: PlanKind,
+    pub pace: Pace,
+    pub stops: Vec<Stop>,
 }
 
 /// The most bytes that a text may have.
@@ -46,27 +59,78 @@ pub fn read_schedule(alloc: Global, text: &str) -> Result<Schedule, ScheduleFaul
     ensures only { (answer : Answer) → IsReading text.now answer → Gives result answer }
     ensures long { (result ≡ Err ScheduleFault.TooLong) ↔ (max_text < length text.now) }
 {
+    let (draft, number) = read_text(alloc, Kind::Schedule, text)?;
+    draft.schedule(number)
+}
+
+/// The thread setup that a text is.
+///
+/// The lines and the header are those of a schedule. Then comes `pace free` or `pace ticks`, and
+/// then lines `stop I C`: node I ends after C steps. All are kept, in their order.
+///
+/// A text is refused as by `read_schedule`; one that ends before the pace is at fault at the line
+/// past its last.
+pub fn read_threads(alloc: Global, text: &str) -> Result<ThreadSetup, ScheduleFault>
+    ensures read { IsThreadsRead text.now result }
+    ensures only { (answer : AnswerOf kinds.Threads) → IsReadingOf kinds.Threads text.now answer
+        → GivesThreads result answer }
+    ensures long { (result ≡ Err ScheduleFault.TooLong) ↔ (max_text < length text.now) }
+{
+    let (draft, number) = read_text(alloc, Kind::Threads, text)?;
+    draft.threads(number)
+}
+
+/// The setup and plan of a text that is a header and nothing more.
+///
+/// The lines and the header are those of a schedule, and a text is refused as by `read_schedule`;
+/// a line behind the header that isn't skipped is at fault.
+pub fn read_header(alloc: Global, text: &str) -> Result<(Setup, PlanKind), ScheduleFault>
+    ensures read { IsHeaderRead text.now result }
+    ensures only { (answer : AnswerOf kinds.Header) → IsReadingOf kinds.Header text.now answer
+        → GivesHeader result answer }
+    ensures long { (result ≡ Err ScheduleFault.TooLong) ↔ (max_text < length text.now) }
+{
+    let (draft, number) = read_text(alloc, Kind::Header, text)?;
+    draft.header(number)
+}
+
+/// What all lines of a text of this kind say, and the number of the line past the last.
+#[tactic(auto, unfolding(crate::specs::Stages::answer_of))]
+fn read_text(alloc: Global, kind: Kind, text: &str) -> Result<(Draft, u64), ScheduleFault>
+    ensures read { GivesEnd kind result (stage.answer_of kind text.now) }
+    ensures long { (result ≡ Err ScheduleFault.TooLong) ↔ (max_text < length text.now) }
+{
     if text.len() > MAX_TEXT {
         return Err(ScheduleFault::TooLong);
     }
-    read_lines(alloc, text.as_bytes())
+    let events = match kind {
+        Kind::Schedule => text.len() / USUAL_LINE,
+        _ => 0,
+    };
+    read_lines(alloc, kind, events, text.as_bytes())
 }
 
-fn read_lines(alloc: Global, text: &[u8]) -> Result<Schedule, ScheduleFault>
-    ensures read { Gives result (stage.from_line 1 stage.start (lines text.now)) }
+/// The same of a text that isn't too long, with room for so many events.
+fn read_lines(
+    alloc: Global,
+    kind: Kind,
+    events: usize,
+    text: &[u8],
+) -> Result<(Draft, u64), ScheduleFault>
+    ensures read { GivesEnd kind result (stage.from_line kind 1 stage.start (lines text.now)) }
     ensures short { result ≢ Err ScheduleFault.TooLong }
 {
-    let Ok(mut draft) = Draft::new(alloc, text.len() / USUAL_LINE) else {
+    let Ok(mut draft) = Draft::new(alloc, events) else {
         return Err(ScheduleFault::NoMemory);
     };
     let mut number = 1u64;
     let mut rest = text;
     while !rest.is_empty() {
-        match draft.read_front(alloc, rest) {
+        match draft.read_front(alloc, kind, rest) {
             Ok(behind) => rest = behind,
             Err(fault) => return Err(fault.at(number)),
         }
         number += 1;
     }
-    draft.finish(number)
+    Ok((draft, number))
 }

@@ -1,19 +1,23 @@
-use Rattle.std.proofs.Common.{List, ℕ, sym, subst}
-use Rattle.std.specs.Str.Lines.{lines}
-use Rattle.schedule_text.specs.Readings.{IsReading}
-use Rattle.schedule_text.specs.Stages.{from_line, start}
-use Rattle.schedule_text.proofs.Answered.{only, read}
-use Rattle.schedule_text.proofs.Sound.{short_sound}
+use Rattle.std.proofs.lemmas.Result.{err_from_is_err_and}
+use Rattle.schedule_text.specs.declared.kind.Kind.TheVariants.{Schedule}
+use Rattle.schedule_text.specs.Outcome.{schedule_read}
+use Rattle.schedule_text.proofs.Answered.{end_only, end_read, fault_only, fault_read}
 use Rattle.schedule_text.proofs.reading.read_schedule.Goals as goal
+
+pub returns-in_err-draft-clause-read : goal.returns-in_err-draft-clause-read
+returns-in_err-draft-clause-read c =
+    let p = err_from_is_err_and c.from_residual.result c.from_residual.ensures.1 in
+    rw (p.1, p.2) (fault_read Schedule schedule_read c.args.text.now c.in_err-draft.field-0.0 c.in_err-draft.ensures.read)
+
+pub returns-in_err-draft-clause-only : goal.returns-in_err-draft-clause-only
+returns-in_err-draft-clause-only c =
+    let p = err_from_is_err_and c.from_residual.result c.from_residual.ensures.1 in
+    rw (p.1, p.2) (fault_only Schedule schedule_read c.args.text.now c.in_err-draft.field-0.0 c.in_err-draft.ensures.read)
 
 pub returns-clause-read : goal.returns-clause-read
 returns-clause-read c =
-    let text = c.args.text.now in
-    let is = subst (λ (bytes : List ℕ). IsReading text (from_line 1 start (lines bytes))) (sym c.as_bytes.ensures.value) (short_sound text c.if-text-gt-MAX_TEXT.false) in
-    read text (from_line 1 start (lines c.as_bytes.result.now)) is c.read_lines.result c.read_lines.ensures.read
+    end_read Schedule schedule_read c.args.text.now (c.in_ok-draft.draft, c.in_ok-draft.number) c.schedule.result c.in_ok-draft.ensures.read c.schedule.ensures.ended
 
 pub returns-clause-only : goal.returns-clause-only
 returns-clause-only c =
-    let text = c.args.text.now in
-    let is = subst (λ (bytes : List ℕ). IsReading text (from_line 1 start (lines bytes))) (sym c.as_bytes.ensures.value) (short_sound text c.if-text-gt-MAX_TEXT.false) in
-    only text (from_line 1 start (lines c.as_bytes.result.now)) is c.read_lines.result c.read_lines.ensures.read
+    end_only Schedule schedule_read c.args.text.now (c.in_ok-draft.draft, c.in_ok-draft.number) c.schedule.result c.in_ok-draft.ensures.read c.schedule.ensures.ended

@@ -8,13 +8,13 @@ use Rattle.schedule_text.proofs.draft.Draft.read_front.Goals as goal
 pub returns-in-Some : goal.returns-in-Some
 returns-in-Some c =
     let front = c.in-Some.ensures in
-    (front.shorter, event_front c.args.text.now c.in-Some.rest.now (state_of c.args.self.now) _ _ _ _ _ c.in-Some.event c.in-Whole.is front (ap (λ (es : List Event). record (state_of c.args.self.now) { events = es }) c.in_ok-push.ensures.items))
+    (front.shorter, event_front c.args.kind c.args.text.now c.in-Some.rest.now (state_of c.args.self.now) _ _ _ _ _ c.in-Some.event c.in-Schedule.is c.in-Whole.is front (ap (λ (es : List Event). record (state_of c.args.self.now) { events = es }) c.in_ok-push.ensures.items))
 
 pub returns-in_err-read_line : goal.returns-in_err-read_line
 returns-in_err-read_line c =
     let p = err_from_is_err_and c.from_residual-in_err-read_line.result c.from_residual-in_err-read_line.ensures.1 in
-    rw (p.1, p.2) (front_refused c.args.text.now c.first_line.result.0.now c.first_line.result.1.now (state_of c.args.self.now) c.first_line.ensures.first c.in_err-read_line.field-0.0 c.read_line.new.self c.in_err-read_line.ensures)
+    rw (p.1, p.2) (front_refused c.args.kind c.args.text.now c.first_line.result.0.now c.first_line.result.1.now (state_of c.args.self.now) c.first_line.ensures.first c.in_err-read_line.field-0.0 c.read_line.new.self c.in_err-read_line.ensures)
 
 pub returns : goal.returns
 returns c =
-    (c.first_line.ensures.shorter, line_taken c.args.text.now c.first_line.result.0.now c.first_line.result.1.now (state_of c.args.self.now) c.first_line.ensures.first (state_of c.read_line.new.self) c.in_ok-read_line.ensures)
+    (c.first_line.ensures.shorter, line_taken c.args.kind c.args.text.now c.first_line.result.0.now c.first_line.result.1.now (state_of c.args.self.now) c.first_line.ensures.first (state_of c.read_line.new.self) c.in_ok-read_line.ensures)

@@ -1,0 +1,17 @@
+//! How threads run: their pace, and where nodes end.
+
+/// The pace at which threads take their steps.
+#[derive(Clone, Copy, PartialEq, Eq, Debug)]
+pub enum Pace {
+    /// The threads go on as the system lets them.
+    Free,
+    /// Every running node takes one step a tick, the network first.
+    Ticks,
+}
+
+/// Where a node ends: after so many steps.
+#[derive(Clone, Copy, PartialEq, Eq, Debug)]
+pub struct Stop {
+    pub node: u32,
+    pub steps: u32,
+}
