@@ -1,10 +1,10 @@
 -- The messages in flight as a history grows by one event.
-use Rattle.std.proofs.Common.{◌≡◌, ℕ, ◌+◌, ◌<◌, ◌≤◌, Bool, true, false, List, [], ◌∷◌, Option, Some}
+use Rattle.std.proofs.Common.{◌≡◌, ℕ, ◌+◌, ◌<◌, ◌≤◌, true, false, List, ◌∷◌, Some}
 use Rattle.std.proofs.Common.{None, sym, ap, subst, refl, ◌∙◌, arith, ◌⊎◌, inl, inr}
 use Rattle.std.proofs.lemmas.Bool.{cases_Bool, cases_eq}
 use Rattle.policies.specs.declared.bounded.Bounded.{Bounded}
 use Rattle.policies.specs.Policies.{due_at}
-use Rattle.step_book.specs.declared.mark.Mark.TheVariants.{Flying, Unsent}
+use Rattle.step_book.specs.declared.mark.Mark.TheVariants.{Flying}
 use Rattle.step_book.specs.Fates.{is_slot}
 use Rattle.step_book.specs.History.{let_go, mark_of}
 use Rattle.step_book.specs.Trace.{steps}
@@ -15,7 +15,7 @@ use Rattle.step_book.proofs.Names.{name_cases}
 use Rattle.step_machine.specs.declared.event.Event.{Event}
 use Rattle.step_machine.specs.declared.event.Event.TheVariants.{Step, Release}
 use Rattle.step_machine.specs.declared.event.Name.{Name}
-use Rattle.lockstep_runs.specs.Lockstep.{IsAloft, IsOriginal, due_in}
+use Rattle.lockstep_runs.specs.Lockstep.{IsAloft, due_in}
 use Rattle.lockstep_runs.specs.Pacing.{Flies, Flight, IsFlight, IsOther, waits_at}
 use Rattle.step_book.specs.Serials.{sent, serial}
 use Rattle.step_book.proofs.Serials.{serial_kept, slot_on}

@@ -1,9 +1,10 @@
 -- The order of keys, and what holds of each event.
-use Rattle.std.proofs.Common.{◌≡◌, ℕ, ◌+◌, ◌<◌, ◌≤◌, List, [], ◌∷◌, sym, ap, subst, ◌∙◌, arith}
+use Rattle.std.proofs.Common.{ℕ, ◌<◌, ◌≤◌, List, [], ◌∷◌, ◌∙◌, arith}
 use Rattle.policies.specs.declared.bounded.Bounded.{Bounded}
 use Rattle.step_book.specs.World.{World}
+use Rattle.step_book.proofs.Moments.{At, Newest, Older}
 use Rattle.step_machine.specs.declared.event.Event.{Event}
-use Rattle.lockstep_runs.specs.Lockstep.{AllBefore, Each, IsBefore, Key, Tick, Part, Turn, key_of}
+use Rattle.lockstep_runs.specs.Lockstep.{AllBefore, Each, IsBefore, Key, Tick, Part, Turn}
 
 pub before_before : (a b c : Key) → IsBefore a b → IsBefore b c → IsBefore a c
 before_before a b c (Tick l) (Tick m) = Tick (omega arith)
@@ -21,6 +22,18 @@ pub before_tick : (a b : Key) (tick : ℕ) → tick ≤ b.tick → IsBefore a (r
 before_tick a b tick l (Tick m) = Tick (omega arith)
 before_tick a b tick l (Part e m) = absurd (omega arith)
 before_tick a b tick l (Turn e f m) = absurd (omega arith)
+
+-- the first tick isn't the later one
+pub before_ticks : (a b : Key) → IsBefore a b → a.tick ≤ b.tick
+before_ticks a b (Tick l) = omega arith
+before_ticks a b (Part e l) = omega arith
+before_ticks a b (Turn e f l) = omega arith
+
+-- where the first part is the later one, the first tick is the earlier one
+pub before_parts : (a b : Key) → b.part < a.part → IsBefore a b → a.tick < b.tick
+before_parts a b p (Tick l) = l
+before_parts a b p (Part e l) = absurd (omega arith)
+before_parts a b p (Turn e f l) = absurd (omega arith)
 
 pub each_map : (F G : Event → List Event → Type 0) (t : List Event) → ((e : Event) (past : List Event) → F e past → G e past) → Each F t → Each G t
 unfolding Each
@@ -40,3 +53,10 @@ all_before w b k l t h all = each_map _ _ t (λ e past m. before_before _ k l m 
 
 pub all_before_tick : (w : World) (b : Bounded) (k : Key) (tick : ℕ) (t : List Event) → tick ≤ k.tick → AllBefore w b (record { tick = tick; part = 0; turn = 0 }) t → AllBefore w b k t
 all_before_tick w b k tick t h all = each_map _ _ t (λ e past m. before_tick _ k tick h m) all
+
+-- what holds of each event holds of one
+pub each_at : (F : Event → List Event → Type 0) (m : List Event) (e : Event) (t : List Event) → Each F t → At m e t → F e m
+unfolding Each
+each_at F m e [] h s = elim s [ ]
+each_at F m e (d ∷ t) h Newest = h.0
+each_at F m e (d ∷ t) h (Older d' t' s) = each_at F m e t h.1 s

@@ -5,3 +5,4 @@ pub mod Slots
 pub mod Turns
 pub mod Paces
 pub mod Ticks
+pub mod Judged

@@ -1,6 +1,6 @@
 -- A lockstep run as it goes on by one event.
-use Rattle.std.proofs.Common.{◌≡◌, ℕ, zero, suc, ◌+◌, ◌-◌, ◌<◌, ◌≤◌, Bool, true, false, ltb, List}
-use Rattle.std.proofs.Common.{[], ◌∷◌, Option, Some, None, is_some, reverse, sym, ap, subst, refl}
+use Rattle.std.proofs.Common.{◌≡◌, ℕ, suc, ◌+◌, ◌<◌, ◌≤◌, Bool, true, false, ltb, List}
+use Rattle.std.proofs.Common.{◌∷◌, Option, Some, None, is_some, reverse, sym, ap, subst, refl}
 use Rattle.std.proofs.Common.{◌∙◌, arith, ◌⊎◌, inl, inr}
 use Rattle.std.proofs.lemmas.Bool.{and_from, cases_Bool, cases_eq, eq-eqb, eqb-true}
 use Rattle.policies.specs.declared.bounded.Bounded.{Bounded}
@@ -10,7 +10,7 @@ use Rattle.round_meaning.specs.Nodes.{has_node}
 use Rattle.step_book.specs.declared.mark.Mark.TheVariants.{Flying}
 use Rattle.step_book.specs.Fates.{is_slot}
 use Rattle.step_book.specs.History.{mark_of, message, spoken}
-use Rattle.step_book.specs.Log.{Log, Recorded, history, world_of}
+use Rattle.step_book.specs.Log.{Recorded, history, world_of}
 use Rattle.step_book.specs.Trace.{steps}
 use Rattle.step_book.specs.Work.{sent_name}
 use Rattle.step_book.specs.World.{IsPlan, World, nodes_of}
@@ -23,7 +23,7 @@ use Rattle.step_machine.specs.declared.event.Event.TheVariants.{Step, Release, D
 use Rattle.step_machine.specs.declared.event.InFlight.{InFlight}
 use Rattle.step_machine.specs.declared.event.Name.{Name}
 use Rattle.adversary.specs.Driving.{IsOneMore}
-use Rattle.lockstep_runs.specs.Lockstep.{AllBefore, Each, IsAloft, IsBefore, IsLockstepRun}
+use Rattle.lockstep_runs.specs.Lockstep.{AllBefore, IsAloft, IsBefore, IsLockstepRun}
 use Rattle.lockstep_runs.specs.Lockstep.{IsOriginal, Key, MayHappen, Part, Tick, Turn, due_in}
 use Rattle.lockstep_runs.specs.Lockstep.{key_of, turn_in}
 use Rattle.lockstep_runs.specs.Pacing.{AreSteps, Flies, Flight, IsFlight, IsOther, IsPaced}

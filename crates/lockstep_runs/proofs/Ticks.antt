@@ -1,12 +1,12 @@
 -- The ticks of a run that is recorded.
-use Rattle.std.proofs.Common.{◌≡◌, ℕ, ◌+◌, ◌%◌, ◌<◌, ◌≤◌, Bool, true, false, List, [], ◌∷◌, Some}
+use Rattle.std.proofs.Common.{◌≡◌, ℕ, ◌+◌, ◌%◌, ◌<◌, Bool, true, false, [], ◌∷◌, Some}
 use Rattle.std.proofs.Common.{length, sym, ap, subst, refl, ◌∙◌, arith, if◌then◌else◌}
 use Rattle.policies.specs.declared.bounded.Bounded.{Bounded}
 use Rattle.policies.specs.Policies.{due_at}
 use Rattle.round_lang.specs.Syntax.{ProgramTree}
 use Rattle.round_meaning.specs.declared.setup.Setup.{Setup}
 use Rattle.round_meaning.specs.Nodes.{has_node}
-use Rattle.step_book.specs.declared.mark.Mark.TheVariants.{Flying, Unsent}
+use Rattle.step_book.specs.declared.mark.Mark.TheVariants.{Flying}
 use Rattle.step_book.specs.Log.{IsFlying, Recorded, count_of, history, opened, world_of}
 use Rattle.step_book.specs.Names.{IsName, IsNameOf}
 use Rattle.step_book.specs.History.{mark_of}

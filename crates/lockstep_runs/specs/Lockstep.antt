@@ -1,15 +1,17 @@
 -- Runs in which the correct nodes step in lockstep, and each message has its delay.
 use Rattle.std.specs.Prelude.{◌≡◌, ℕ, ◌+◌, ◌-◌, ◌%◌, ◌<◌, ◌≤◌, true, List, [], ◌∷◌, length}
-use Rattle.std.specs.Prelude.{if◌then◌else◌}
+use Rattle.std.specs.Prelude.{if◌then◌else◌, IfSome, Option}
 use Rattle.policies.specs.declared.bounded.Bounded.{Bounded}
 use Rattle.policies.specs.Policies.{due_at}
 use Rattle.policies.specs.Tables.{round_entry}
 use Rattle.round_meaning.specs.declared.setup.Setup.{Setup}
 use Rattle.round_meaning.specs.Nodes.{has_node}
 use Rattle.round_meaning.specs.Setups.{IsLawful}
-use Rattle.slot_plans.specs.Plan.{IsDelta}
+use Rattle.omission_explainer.specs.Verdict.{HearsFrom}
+use Rattle.slot_plans.specs.Plan.{IsClearRound, IsDelta}
 use Rattle.step_book.specs.declared.mark.Mark.TheVariants.{Flying}
 use Rattle.step_book.specs.History.{mark_of}
+use Rattle.step_book.specs.Log.{Log}
 use Rattle.step_book.specs.Names.{IsNameOf}
 use Rattle.step_book.specs.Trace.{steps}
 use Rattle.step_book.specs.World.{World, nodes_of}
@@ -99,6 +101,13 @@ pub record IsLockstepRun (w : World) (b : Bounded) (correct ticks : ℕ)
   pub steps : (i : ℕ) → i < nodes_of w → steps i t ≡ (if has_node correct i then ticks else 0)
   -- a message that is still in flight is due later
   pub released : (n : Name) → IsAloft w t n → ticks ≤ due_in w b t n
+
+-- from the plan's clear round on, if it has one, no closed round of a correct node omits the
+-- message of a correct node
+abbrev pub HearsFromClear : (receives start : ℕ → ℕ) → Log → ℕ → ℕ → ℕ → Type 0
+HearsFromClear receives start v correct delta gst =
+    (clear : Option ℕ) → IsClearRound receives start delta gst clear
+    → IfSome clear (HearsFrom start v correct)
 
 -- the most entries that a table may have
 abbrev pub max_entries : ℕ

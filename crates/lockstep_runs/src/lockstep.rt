@@ -5,7 +5,8 @@ ghost use Rattle.adversary.specs.Driving.{ClosedAreDue};
 ghost use Rattle.round_meaning.specs.Nodes.{has_node};
 ghost use Rattle.round_meaning.specs.Setups.{IsLawful};
 ghost use Rattle.step_book.specs.Log.{history, world_of};
-ghost use Rattle.lockstep_runs.specs.Lockstep.{IsFit, IsLockstepRun};
+ghost use Rattle.omission_explainer.specs.Verdict.{AreNodes, IsDelayBound, IsLockstep};
+ghost use Rattle.lockstep_runs.specs.Lockstep.{HearsFromClear, IsFit, IsLockstepRun};
 
 use crate::ticking::tick;
 use adversary::{Driver, RunFault};
@@ -29,6 +30,9 @@ pub const MAX_ENTRIES: usize = 65_536;
 /// on, and round again. A message is due by its sender's step number and its delay, as
 /// [`Bounded`] has it.
 ///
+/// Such a run keeps lockstep and the bound on the delay, as `omission_explainer` judges them. So no
+/// closed round from the clear round of the plan on omits a message between correct nodes.
+///
 /// An unlawful setup, a correct node that isn't one of the setup's, and a bound or a table outside
 /// its limits are refused as `BadSetup`, before any memory is taken.
 pub fn run_lockstep<P: Plan>(
@@ -51,6 +55,11 @@ pub fn run_lockstep<P: Plan>(
     ensures closed { IfOk result (λ j. ClosedAreDue (P.start j.plan) j.log) }
     ensures lockstep { IfOk result (λ j. IsLockstepRun
         (world_of (P.start j.plan) j.log) bounded.now correct.bits ticks (history j.log)) }
+    ensures paced { IfOk result (λ j. IsLockstep j.log.trace correct.bits) }
+    ensures bound { IfOk result (λ j. IsDelayBound
+        (P.start j.plan) j.log correct.bits bounded.now.delta bounded.now.gst) }
+    ensures hears { IfOk result (λ j. HearsFromClear (P.receives j.plan)
+        (P.start j.plan) j.log correct.bits bounded.now.delta bounded.now.gst) }
 {
     if !is_fit(program, setup, correct, bounded) {
         return Err(RunFault::BadSetup);
@@ -101,11 +110,26 @@ fn run<P: Plan>(
     ensures closed { IfOk result (λ j. ClosedAreDue (P.start j.plan) j.log) }
     ensures lockstep { IfOk result (λ j. IsLockstepRun
         (world_of (P.start j.plan) j.log) bounded.now correct.bits ticks (history j.log)) }
+    ensures paced { IfOk result (λ j. IsLockstep j.log.trace correct.bits) }
+    ensures bound { IfOk result (λ j. IsDelayBound
+        (P.start j.plan) j.log correct.bits bounded.now.delta bounded.now.gst) }
+    ensures hears { IfOk result (λ j. HearsFromClear (P.receives j.plan)
+        (P.start j.plan) j.log correct.bits bounded.now.delta bounded.now.gst) }
 {
     let mut driver = Driver::open(alloc, program, setup, plan)?;
     let mut flight = BTreeMap::new(alloc);
     for now in 0..ticks {
         driver = tick(driver, &mut flight, correct, bounded, now)?;
     }
-    Ok(driver.into_journal())
+    let journal = driver.into_journal();
+    journal.book().agrees();
+    are_below_64(correct.bits);
+    Ok(journal)
+}
+
+/// A set of 64 bits has no member past 63.
+fn are_below_64(members: u64)
+    ensures { AreNodes 64 members }
+{
+    let _members = members;
 }

@@ -50,7 +50,7 @@ module _ (w : World) (t p : List Event) (n : Name) (plan : IsPlan w) (few : n.to
   slot_here = record { there = at_place p (Step n.from) t stands; number = at_steps n.from p (Step n.from) t stands ∙ slot }
 
   -- copy 0 is made there
-  was_made : fate w t (original n) ≡ Unmade → ⊥
+  pub was_made : fate w t (original n) ≡ Unmade → ⊥
   was_made = made_found w t (original n) (length p) (Sent refl slot_here)
 
   -- a receive of its receiver isn't that send
@@ -89,7 +89,7 @@ module _ (w : World) (t p : List Event) (n : Name) (plan : IsPlan w) (few : n.to
           absurd (omega arith)
 
   -- a copy whose receiver had taken no more steps when it was let in came between
-  came_between : (c : List Event) (k x : ℕ) → k ≤ 3 → At c (Step n.to) t → let_in_of (fate w t (record n { copy = k })) ≡ Some x → x ≤ steps n.to c → IsLetInBetween w (reverse t) n (length p) (length c)
+  pub came_between : (c : List Event) (k x : ℕ) → k ≤ 3 → At c (Step n.to) t → let_in_of (fate w t (record n { copy = k })) ≡ Some x → x ≤ steps n.to c → IsLetInBetween w (reverse t) n (length p) (length c)
   came_between c k x l s e low =
       let found = let_in_place w t (record n { copy = k }) x e in
       let at = let_in_moment w t (record n { copy = k }) found.0 found.1 in

@@ -1,4 +1,4 @@
-use Rattle.std.proofs.Common.{◌≡◌, ◌∙◌, ◌+◌, ◌%◌, ◌<◌, ap, arith, subst, sym, true}
+use Rattle.std.proofs.Common.{◌≡◌, ◌∙◌, ◌+◌, ◌%◌, ◌<◌, ap, arith, subst, sym}
 use Rattle.std.proofs.lemmas.Nat.{mod_below}
 use Rattle.round_meaning.specs.declared.setup.Setup.{Setup}
 use Rattle.step_book.specs.Log.{Recorded}

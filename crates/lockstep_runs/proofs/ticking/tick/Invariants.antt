@@ -1,8 +1,4 @@
-use Rattle.std.proofs.Common.{◌≡◌, ◌+◌, ◌<◌}
 use Rattle.std.specs.BTreeMap as tree
-use Rattle.step_book.specs.Log.{history, world_of}
-use Rattle.lockstep_runs.specs.Pacing.{AreSteps, AreStepsIn, IsPacedIn, IsSameRun, NoneBefore}
-use Rattle.lockstep_runs.specs.Pacing.{turn_key}
 use Rattle.lockstep_runs.proofs.Ticks.{IsReleasing, IsStepping}
 use Rattle.lockstep_runs.proofs.ticking.tick.Given as goal
 
