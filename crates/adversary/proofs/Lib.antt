@@ -4,3 +4,4 @@ pub mod Runs
 mod Rows
 pub mod Settled
 pub mod Nodes
+pub mod Asked

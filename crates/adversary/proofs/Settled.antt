@@ -1,10 +1,11 @@
 -- No due round stays open.
-use Rattle.std.proofs.Common.{◌≡◌, ◌≢◌, ℕ, zero, suc, ◌+◌, ◌-◌, ◌<◌, ◌≤◌, [], ◌∷◌, Result, Ok, Err}
+use Rattle.std.proofs.Common.{◌≡◌, ◌≢◌, ℕ, ◌+◌, ◌<◌, ◌≤◌, [], ◌∷◌, Result, Ok, Err}
 use Rattle.std.proofs.Common.{OnOk, true, false, length, reverse, sym, ap, ◌∙◌, subst, arith, inl}
 use Rattle.std.proofs.Common.{inr, append-nil}
 use Rattle.std.proofs.lemmas.Bool.{cases_eq, cases_lt}
 use Rattle.std.proofs.lemmas.Bool.Decides.{nat_tests}
 use Rattle.slot_plans.specs.Plan.{PlanLaws}
+use Rattle.slot_plans.proofs.Rounds.{start-le, starts_apart}
 use Rattle.round_meaning.specs.declared.setup.Setup.{Setup}
 use Rattle.step_book.proofs.Leaves.{happened_first}
 use Rattle.step_book.proofs.Places.{steps_at, steps_other}
@@ -37,15 +38,11 @@ pub due_now : (start : ℕ → ℕ) (old new : Log) (i : ℕ) → count_of old i
 due_now start old new i last g same = stepped old new i g ∙ last ∙ ap (λ x. start (length x + 1)) (sym same)
 
 module _ (start receives : ℕ → ℕ) (nodes : ℕ) (laws : PlanLaws nodes receives start) where
-  -- a round has a send for each node and a receive at least
-  longer : (r : ℕ) → 0 < r → start r + nodes < start (r + 1)
-  longer r some = omega (arith, laws.next_start r some, laws.some_receive r some)
-
   -- after a send the round has a receive to come
   pub settled_send : (old new : Log) (i : ℕ) → 0 < round_of old i → count_of old i < start (round_of old i) + nodes
       → GoesOn old new i (Step i ∷ []) → round_of new i ≡ round_of old i → IsSettled start new i
   settled_send old new i some within g same due =
-      omega (arith, due.1, within, stepped old new i g, longer (round_of old i) some, ap (λ r. start (r + 1)) same)
+      omega (arith, due.1, within, stepped old new i g, starts_apart laws (round_of old i) some, ap (λ r. start (r + 1)) same)
 
   -- after a receive that isn't the last
   pub settled_receive : (old new : Log) (i : ℕ) → round_of old i ≤ old.setup.rounds → IsSettled start old i → count_of old i + 1 ≢ start (round_of old i + 1)
@@ -61,34 +58,25 @@ module _ (start receives : ℕ → ℕ) (nodes : ℕ) (laws : PlanLaws nodes rec
       → GoesOn old middle i (Step i ∷ []) → round_of middle i ≡ round_of old i → GoesOn middle new i [] → round_of new i ≡ round_of middle i + 1 → IsSettled start new i
   settled_close old middle new i last g same h next due =
       let round : round_of new i ≡ round_of old i + 1 = next ∙ ap (λ r. r + 1) same in
-      omega (arith, due.1, last, stepped old middle i g, ap (steps i) (same_history middle new i h), longer (round_of old i + 1) (omega arith), ap (λ r. start (r + 1)) round)
+      omega (arith, due.1, last, stepped old middle i g, ap (steps i) (same_history middle new i h), starts_apart laws (round_of old i + 1) (omega arith), ap (λ r. start (r + 1)) round)
 
   -- past the last round
   pub settled_idle : (old new : Log) (i : ℕ) → old.setup.rounds < round_of old i → GoesOn old new i (Step i ∷ []) → round_of new i ≡ round_of old i → IsSettled start new i
   settled_idle old new i past g same due = omega (arith, due.0, past, same, ap (λ (s : Setup). s.rounds) g.setup)
 
-  rises : (a d : ℕ) → 0 < a → start a ≤ start (a + d)
-  rises a zero some = let e : a + 0 ≡ a = omega arith in omega (arith, ap start e)
-  rises a (suc d) some =
-      let e : a + suc d ≡ (a + d) + 1 = omega arith in
-      omega (arith, ap start e, longer (a + d) (omega arith), rises a d some)
-
-  starts_le : (a b : ℕ) → 0 < a → a ≤ b → start a ≤ start b
-  starts_le a b some le = let e : a + (b - a) ≡ b = omega arith in omega (arith, ap start e, rises a (b - a) some)
-
   -- no round is due before the first event
   pub settled_first : (v : Log) → v.trace ≡ [] → IsFaithful start v → AreSettled start v
   settled_first v none faithful i node due =
       let some = faithful.began i node in
-      omega (arith, due.1, no_steps v none i, starts_le 2 (round_of v i + 1) (omega arith) (omega (arith, some)), longer 1 (omega arith))
+      omega (arith, due.1, no_steps v none i, start-le nodes start (starts_apart laws) 2 (round_of v i + 1) (omega arith) (omega (arith, some)), starts_apart laws 1 (omega arith))
 
   -- where no due round is open, a round is closed exactly where it's due
   pub closed_are_due : (v : Log) → IsFaithful start v → AreSettled start v → ClosedAreDue start v
   closed_are_due v faithful settled i r node some last = (
-    (λ closed. omega (arith, starts_le (r + 1) (round_of v i) (omega arith) (omega (arith, closed)), faithful.past i node)),
+    (λ closed. omega (arith, start-le nodes start (starts_apart laws) (r + 1) (round_of v i) (omega arith) (omega (arith, closed)), faithful.past i node)),
     (λ due. elim (cases_lt r (round_of v i)) [
       | inl closed ↦ closed
-      | inr open_yet ↦ absurd (settled i node (omega (arith, open_yet, last), omega (arith, due, starts_le (round_of v i + 1) (r + 1) (omega arith) (omega (arith, open_yet)))))
+      | inr open_yet ↦ absurd (settled i node (omega (arith, open_yet, last), omega (arith, due, start-le nodes start (starts_apart laws) (round_of v i + 1) (r + 1) (omega arith) (omega (arith, open_yet)))))
     ]),
   )
 

@@ -1,2 +1,3 @@
 pub use Rattle.step_book.specs.Log
 pub mod Driving
+pub mod Asking

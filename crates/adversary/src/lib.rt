@@ -1,11 +1,17 @@
 //! Schedules of a run: their texts, and the journals of running them.
 #![tactic(auto)]
 
+mod asking;
 mod driver;
 mod fault;
 mod running;
 
+pub use asking::run_policy;
 pub use driver::Driver;
 pub use fault::RunFault;
+pub use policies::{Bounded, Choice, Faulty, Hoard, Policy, Prompt, Script, Table};
 pub use running::run_schedule;
-pub use schedule_text::{MAX_TEXT, Schedule, ScheduleFault, read_schedule, write_schedule};
+pub use schedule_text::{
+    MAX_TEXT, Pace, Schedule, ScheduleFault, Stop, ThreadSetup, read_header, read_schedule,
+    read_threads, write_schedule,
+};

@@ -6,20 +6,26 @@
 //! policy_tests script NAME ..
 //! policy_tests faulty CHOICE ..
 //! policy_tests bounded DELTA GST DELAY ..
+//! policy_tests run VALUES INPUTS ROUNDS RECEIVES CORRECT TICKS POLICY ..
 //! ```
 //!
-//! Each line of standard input is a call: the tick, and then the messages in flight, each as its
+//! With `run`, standard output has the schedule of a run of `gather` in which the policy is asked,
+//! or `refused`; INPUTS and CORRECT have commas, and `-` stands for none. Else each line of standard input is a call: the tick, and then the messages in flight, each as its
 //! name, `sent_at` and `serial`, `0.1.1.0.5.7`. A line of standard output has the choice: `none`,
 //! `release 0`, `drop 0` or `copy 0`. A name is `FROM.TO.ROUND.COPY`, and a choice among the words
 //! is `release.0`.
 #![tactic(auto)]
 
+mod chosen;
 mod fault;
 mod reading;
+mod running;
 
+use chosen::Chosen;
 use fault::Fault;
-use policies::{Bounded, Choice, Faulty, Hoard, Policy, Prompt, Script, Table};
-use reading::{choices, flight, names, number, numbers};
+use policies::{Choice, Policy};
+use reading::{flight, number};
+use running::schedule;
 use std::alloc::Global;
 use std::io::Write;
 use std::process::ExitCode;
@@ -36,7 +42,7 @@ fn show(out: &mut String, choice: Option<Choice>) -> Result<(), Fault> {
 }
 
 /// A line for each call of a policy.
-fn call_all<P: Policy + Drop>(alloc: Global, mut policy: P, input: &str) -> Result<String, Fault> {
+fn call_all(alloc: Global, mut policy: Chosen, input: &str) -> Result<String, Fault> {
     let mut out = String::new(alloc);
     for line in input.lines() {
         let (now, messages) = line.split_once(' ').unwrap_or((line, ""));
@@ -47,40 +53,12 @@ fn call_all<P: Policy + Drop>(alloc: Global, mut policy: P, input: &str) -> Resu
     Ok(out)
 }
 
-/// What the policy that the words name answers.
+/// What the words ask for: a run, or what a policy chooses at each call.
 fn answer_all(alloc: Global, words: &[String], input: &str) -> Result<String, Fault> {
-    let [kind, rest @ ..] = words else {
-        return Err(Fault::Unreadable);
-    };
-    match kind.as_str() {
-        "prompt" => call_all(alloc, Prompt, input),
-        "hoard" => call_all(alloc, hoard(rest)?, input),
-        "script" => call_all(alloc, Script::new(names(alloc, rest)?), input),
-        "faulty" => call_all(alloc, Faulty::new(choices(alloc, rest)?), input),
-        "bounded" => call_all(alloc, bounded(alloc, rest)?, input),
-        _ => Err(Fault::Unreadable),
+    match words {
+        [kind, rest @ ..] if kind.as_str() == "run" => schedule(alloc, rest),
+        _ => call_all(alloc, Chosen::read(alloc, words)?, input),
     }
-}
-
-fn hoard(words: &[String]) -> Result<Hoard, Fault> {
-    let [count] = words else {
-        return Err(Fault::Unreadable);
-    };
-    Ok(Hoard {
-        count: number(count.as_str())? as usize,
-    })
-}
-
-fn bounded(alloc: Global, words: &[String]) -> Result<Bounded, Fault> {
-    let [delta, gst, delays @ ..] = words else {
-        return Err(Fault::Unreadable);
-    };
-    Ok(Bounded {
-        delta: number(delta.as_str())?,
-        gst: number(gst.as_str())?,
-        delays: Table::new(numbers(alloc, delays)?),
-        orders: Table::new(Vec::new(alloc)),
-    })
 }
 
 /// Does what the words say, and gives what is to be printed.

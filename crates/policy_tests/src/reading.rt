@@ -16,6 +16,17 @@ pub fn numbers(alloc: Global, words: &[String]) -> Result<Vec<u32>, Fault> {
     Ok(numbers)
 }
 
+/// Numbers with commas between them, none in `-`.
+pub fn comma_numbers(alloc: Global, text: &str) -> Result<Vec<u32>, Fault> {
+    let mut numbers = Vec::new(alloc);
+    if text != "-" {
+        for word in text.split(',') {
+            numbers.push(number(word)?)?;
+        }
+    }
+    Ok(numbers)
+}
+
 /// Numbers with dots between them.
 fn dotted(alloc: Global, text: &str) -> Result<Vec<u32>, Fault> {
     let mut numbers = Vec::new(alloc);

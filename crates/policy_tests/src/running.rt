@@ -1,0 +1,57 @@
+//! Runs of `gather` in which a policy is asked.
+use crate::chosen::Chosen;
+use crate::fault::Fault;
+use crate::reading::{comma_numbers, number};
+use adversary::{RunFault, run_policy, write_schedule};
+use round_check::{Checked, check};
+use round_lang::parse;
+use round_meaning::{Inputs, NodeSet, Setup};
+use slot_plans::{Known, PlanKind};
+use std::alloc::Global;
+
+/// Each node sends what it has seen.
+fn gather(alloc: Global, values: &str) -> Result<Checked, Fault> {
+    let text = format!(in alloc;
+        "values {values} period 1 input x state seen: set = single(x) decide seen
+        at 1: message (s: set) send when true: (seen)
+        on message: seen := seen union s; end:"
+    )?;
+    Ok(check(alloc, parse(alloc, text.as_str())?)?)
+}
+
+fn nodes(alloc: Global, text: &str) -> Result<NodeSet, Fault> {
+    let members = comma_numbers(alloc, text)?;
+    let mut set = NodeSet::empty();
+    for node in &members {
+        set = set.with(*node);
+    }
+    Ok(set)
+}
+
+/// The schedule of the run that the words ask for.
+pub fn schedule(alloc: Global, words: &[String]) -> Result<String, Fault> {
+    let [values, inputs, rounds, receives, correct, ticks, policy @ ..] = words else {
+        return Err(Fault::Unreadable);
+    };
+    let program = gather(alloc, values.as_str())?;
+    let inputs = comma_numbers(alloc, inputs.as_str())?;
+    let setup = Setup {
+        nodes: inputs.len().min(16) as u32,
+        faults: 0,
+        inputs: Inputs::new(inputs),
+        rounds: number(rounds.as_str())?,
+    };
+    let receives = number(receives.as_str())?;
+    let plan = Known::new(setup.nodes, receives).ok_or(Fault::Unreadable)?;
+    let correct = nodes(alloc, correct.as_str())?;
+    let ticks = number(ticks.as_str())?;
+    let mut policy = Chosen::read(alloc, policy)?;
+    match run_policy(alloc, &program, &setup, plan, correct, &mut policy, ticks) {
+        Ok(journal) => {
+            let events = journal.book().trace();
+            Ok(write_schedule(alloc, &setup, PlanKind::Known(receives), events)?)
+        }
+        Err(RunFault::NoMemory) => Err(Fault::NoMemory),
+        Err(_) => Ok(String::from_str(alloc, "refused\n")?),
+    }
+}
