@@ -1,2 +1,4 @@
 pub mod Copies
 pub mod Received
+pub mod Alike
+pub mod NetworkEvents

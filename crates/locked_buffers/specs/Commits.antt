@@ -1,5 +1,5 @@
 -- What a buffer holds after a call, and when what stands under the locks lets the call go through.
-use Rattle.std.specs.Prelude.{◌≡◌, ℕ, ◌++◌, Bool, true, false, List, [], ◌∷◌, None, Option}
+use Rattle.std.specs.Prelude.{◌≡◌, ℕ, ◌++◌, Bool, true, false, [], ◌∷◌, None, Option}
 use Rattle.std.specs.Prelude.{option_map, option_to_list}
 use Rattle.step_machine.specs.declared.event.Event.{Event}
 use Rattle.step_machine.specs.Frames.{Frame, Ready, copied_as, original}

@@ -1,3 +1,5 @@
 pub mod Runs
 pub mod Seats
 pub mod Commits
+pub mod Accounts
+pub mod Posted

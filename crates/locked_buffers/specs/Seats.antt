@@ -1,5 +1,5 @@
 -- What a node and the network were told, and what a node may do next by that alone.
-use Rattle.std.specs.Prelude.{◌≡◌, ℕ, ◌+◌, ◌<◌, ◌≤◌, Bool, List, [], ◌∷◌, length}
+use Rattle.std.specs.Prelude.{◌≡◌, ℕ, ◌+◌, ◌≤◌, Bool, List, [], ◌∷◌, length}
 use Rattle.round_lang.specs.Syntax.{ProgramTree}
 use Rattle.round_meaning.specs.Rounds.{algorithm_of}
 use Rattle.round_meaning.specs.declared.setup.Setup.{Setup}

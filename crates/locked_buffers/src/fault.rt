@@ -4,6 +4,7 @@ ghost use Rattle.locked_buffers.specs.declared.fault.PostFault.TheVariants as po
 ghost use Rattle.locked_buffers.specs.declared.fault.RelayFault.TheVariants as relay;
 
 use round_lang::NoMemory;
+use std::fmt;
 
 /// Why a receive is refused. `Stranger`: what stands under the locks is of another run, or refuses
 /// for another cause than memory.
@@ -35,5 +36,16 @@ impl From<NoMemory> for RelayFault {
 
     fn from(_error: NoMemory) -> RelayFault {
         RelayFault::NoMemory
+    }
+}
+
+/// The seats or the relay were told another thing than what is recorded, or what stands under the
+/// locks is of another run.
+#[derive(Clone, Copy, PartialEq, Eq, Debug)]
+pub struct Unmatched;
+
+impl fmt::Display for Unmatched {
+    fn fmt<W: fmt::Write>(&self, f: &mut fmt::Formatter<W>) -> fmt::Result {
+        write!(f, "the seats and the relay aren't of the recorded run")
     }
 }

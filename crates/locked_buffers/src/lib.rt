@@ -2,9 +2,11 @@
 //! its own.
 #![tactic(auto)]
 
+mod account;
 mod commit;
 mod fault;
 mod gate;
+mod mail;
 mod network;
 mod post;
 mod refusals;
@@ -12,7 +14,8 @@ mod room;
 mod run;
 mod seat;
 
-pub use fault::{PostFault, RelayFault};
+pub use fault::{PostFault, RelayFault, Unmatched};
 pub use gate::{Gate, OpenGate, Point};
+pub use mail::{Mail, PostMail};
 pub use post::Post;
 pub use seat::{Relay, Seat};

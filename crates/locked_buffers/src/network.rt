@@ -44,7 +44,8 @@ pub(crate) fn commit_release<P: Plan>(
     ensures kept { OnErr result (book.new ≡ book.old) }
     ensures moved { IfOk result (λ moved. IsTrue moved ↔ IsFlying (P.start book.old.plan)
         book.old.log name) }
-    ensures told { IfOk result (λ moved. relay.new ≡ told_with relay.old (event.Release name) moved) }
+    ensures told { IfOk result (λ moved. relay.new ≡ told_with relay.old (event.Release name)
+        moved) }
     ensures untold { OnErr result (relay.new ≡ relay.old) }
     ensures frame { OnOk result (LetsGo name.copy (place_among run.now.setup.nodes name) buffer.old
         buffer.new) }

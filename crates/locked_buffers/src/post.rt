@@ -7,13 +7,15 @@ ghost use Rattle.step_book.specs.Names.{IsName};
 ghost use Rattle.step_book.specs.Stock.{IsMail, names_in};
 ghost use Rattle.step_machine.specs.Frames.{IsPrepared};
 ghost use Rattle.step_machine.specs.declared.event.Event.TheVariants as event;
+ghost use Rattle.locked_buffers.specs.Accounts.{AccountsAgree};
 ghost use Rattle.locked_buffers.specs.Commits.{told_with};
-ghost use Rattle.locked_buffers.specs.Runs.{algorithm_by};
+ghost use Rattle.locked_buffers.specs.Runs.{IsBookOfRun, IsFlightOfOne, algorithm_by};
 ghost use Rattle.locked_buffers.specs.Seats.{Account, CloseBlame, MayClose, MayReceive, MaySend};
 ghost use Rattle.locked_buffers.specs.Seats.{ReceiveBlame, SendBlame, opening};
 
+use crate::account::joined;
 use crate::commit::{commit_close, commit_receive, commit_send};
-use crate::fault::{PostFault, RelayFault};
+use crate::fault::{PostFault, RelayFault, Unmatched};
 use crate::gate::{Gate, Point};
 use crate::network::{commit_copy, commit_drop, commit_release};
 use crate::refusals::{may_close, refuses_receive, refuses_send};
@@ -27,7 +29,7 @@ use std::alloc::Global;
 use std::marker::Model;
 use std::sync::{Mutex, Wait};
 use step_book::{Book, Buffer, CloseFault, Refused};
-use step_journal::Took;
+use step_journal::{Journal, Took};
 use step_machine::{Finished, InFlight, Name, Prepared};
 
 /// A run's book and its buffers, each under a lock. A buffer's lock may be held when the book's is
@@ -38,13 +40,15 @@ pub struct Post<P: Plan> {
     run: Run<P>,
     book: Mutex<Book<P>>,
     buffers: Vec<Mutex<Buffer>>,
+    returned: Vec<Buffer>,
 }
 
 impl<P: Plan> Model for Post<P> {
-    ghost use Rattle.std.specs.Prelude.{◌≡◌, vec_len};
+    ghost use Rattle.std.specs.Prelude.{vec_capacity, vec_len};
     ghost use Rattle.round_lang.specs.contracts.formula.Formula as formula;
     ghost use Rattle.std.specs.Coded.{codes};
     ghost use Rattle.locked_buffers.specs.Runs.{Run};
+    ghost use Rattle.locked_buffers.specs.Posted.{IsPosted};
 
     ghost Value = { Run P };
 
@@ -52,7 +56,8 @@ impl<P: Plan> Model for Post<P> {
 
     ghost view = { λ s. s.run };
 
-    ghost invariant = { λ s. vec_len s.buffers ≡ s.run.setup.nodes };
+    ghost invariant = { λ s. IsPosted s.run.setup.nodes (vec_len s.buffers) (vec_len s.returned)
+        (vec_capacity s.returned) };
 }
 
 /// A seat for each node.
@@ -113,6 +118,7 @@ impl<P: Plan> Post<P> {
             run: Run::new(program, setup, plan)?,
             book: Mutex::new(book),
             buffers,
+            returned: Vec::with_capacity(alloc, setup.nodes as usize)?,
         };
         Ok((post, seats, Relay::new(alloc)))
     }
@@ -251,10 +257,34 @@ impl<P: Plan> Post<P> {
     }
 
     /// The copies in flight, in the order of their messages' serials and then of the copy numbers,
-    /// and how many events are recorded.
-    pub fn flight<R: Wait>(&self, rt: &R) -> Result<(Vec<InFlight>, usize), NoMemory> {
+    /// and how many events are recorded: both of one moment, since they are read under one lock.
+    pub fn flight<R: Wait>(&self, rt: &R) -> Result<(Vec<InFlight>, usize), NoMemory>
+        ensures { IfOk result (λ o. IsFlightOfOne P.start o.0.items o.1) }
+    {
         let book = self.book.lock(rt);
         let flight = book.flight(self.alloc)?;
         Ok((flight, book.trace().len()))
+    }
+
+    /// The journal of the run, where the seats and the relay were told what is recorded of it, and
+    /// the buffers hold the frames that are in flight or wait. Takes no memory. What stands under
+    /// the locks is of this run by how the calls above write it, which the comparison here finds
+    /// again: no contract can say so of a lock.
+    pub fn into_journal(self, seats: Vec<Seat>, relay: Relay) -> Result<Journal<P>, Unmatched>
+        ensures run { IfOk result (IsBookOfRun self) }
+        ensures agree { IfOk result (λ journal. AccountsAgree (P.start journal.plan) journal
+            seats.items relay) }
+    {
+        let Post {
+            alloc: _,
+            run,
+            book,
+            buffers,
+            mut returned,
+        } = self;
+        for buffer in buffers {
+            returned.push_reserved(buffer.into_inner());
+        }
+        joined(&run, book.into_inner(), returned, &seats, &relay)
     }
 }
