@@ -1,0 +1,5 @@
+use Rattle.step_book.proofs.Taking.{IsTakingAll}
+use Rattle.node_threads.proofs.body.take_all.Given as goal
+
+abbrev pub invariant-loop-frame : goal.invariant-loop-frame
+invariant-loop-frame l = IsTakingAll l.initial.node l.node l.fn.frames.items l.frame-iterator.rest.items

@@ -1,0 +1,217 @@
+//! What a node's thread does, over whatever answers its calls.
+ghost use Rattle.std.specs.Option.{ForSome};
+ghost use Rattle.std.specs.Prelude.{◌≡◌, ◌+◌, ◌<◌, ◌≤◌, All, OnOk};
+ghost use Rattle.round_meaning.specs.Setups.{max_rounds};
+ghost use Rattle.step_book.specs.Stock.{IsMail};
+ghost use Rattle.step_book.specs.Taking.{HasTaken};
+ghost use Rattle.step_machine.specs.Nodes.{HasPlaces, algorithm_in};
+ghost use Rattle.locked_buffers.specs.Seats.{round_by};
+ghost use Rattle.node_threads.specs.Bodies.{IsEnded, IsInPlace, IsPlanned, IsTogether};
+ghost use Rattle.node_threads.specs.declared.body.Halt.TheVariants as halt;
+
+use crate::ended::Ended;
+use crate::stops::is_stop;
+use locked_buffers::{Gate, Mail, Point, PostFault, Seat};
+use round_lang::NoMemory;
+use slot_plans::Plan;
+use step_book::{CloseFault, SendFault};
+use step_machine::{Name, Node, Sealed};
+
+/// Why a thread can't go on: out of memory, or a call was refused for another cause.
+#[derive(Clone, Copy, PartialEq, Eq, Debug)]
+pub enum Halt {
+    NoMemory,
+    Refused,
+}
+
+impl From<NoMemory> for Halt {
+    ghost from_gives = { λ _ e. e ≡ halt.NoMemory };
+
+    fn from(_error: NoMemory) -> Halt {
+        Halt::NoMemory
+    }
+}
+
+/// What a node's thread waits for.
+pub trait Beat {
+    /// Waits for the next step, after so many.
+    fn next(&self, steps: u64);
+
+    /// There is no step more.
+    fn leave(&self);
+}
+
+/// A send step.
+fn send_step<P: Plan, M: Mail<P>, G: Gate>(
+    mail: &M,
+    gate: &G,
+    seat: &mut Seat,
+    node: &mut Node,
+    dest: u32,
+) -> Result<(), Halt>
+    requires together { IsTogether (M.run mail.now) seat.old node.old }
+    requires dest { dest < node.old.setup.nodes }
+    requires first { 0 < node.old.round }
+    requires last { node.old.round ≤ node.old.setup.rounds }
+    ensures steps { OnOk result (seat.new.steps ≡ seat.old.steps + 1) }
+    ensures states { OnOk result (seat.new.states ≡ seat.old.states) }
+    ensures together { OnOk result (IsTogether (M.run mail.now) seat.new node.new) }
+{
+    let name = Name {
+        from: seat.node(),
+        to: dest,
+        round: node.round(),
+        copy: 0,
+    };
+    gate.pass(Point::Prepare(name));
+    let prepared = node.prepare(dest)?;
+    match mail.send(seat, prepared) {
+        Ok(()) => {}
+        Err(refused) => return Err(halt_of_send(refused.fault)),
+    }
+    gate.pass(Point::Sent(name));
+    Ok(())
+}
+
+fn halt_of_send(fault: SendFault) -> Halt {
+    match fault {
+        SendFault::NoMemory => Halt::NoMemory,
+        _ => Halt::Refused,
+    }
+}
+
+/// A receive step: the node takes what was handed out.
+fn receive_step<P: Plan, M: Mail<P>>(mail: &M, seat: &mut Seat, node: &mut Node) -> Result<(), Halt>
+    requires together { IsTogether (M.run mail.now) seat.old node.old }
+    ensures steps { OnOk result (seat.new.steps ≡ seat.old.steps + 1) }
+    ensures states { OnOk result (seat.new.states ≡ seat.old.states) }
+    ensures together { OnOk result (IsTogether (M.run mail.now) seat.new node.new) }
+{
+    match mail.receive(seat) {
+        Ok(took) => {
+            take_all(node, took.frames);
+            Ok(())
+        }
+        Err(PostFault::NoMemory) => Err(Halt::NoMemory),
+        Err(_) => Err(Halt::Refused),
+    }
+}
+
+/// The node takes frames that were sent to it, in their order.
+fn take_all(node: &mut Node, frames: Vec<Sealed>)
+    requires places { HasPlaces node.old.setup.nodes node.old.held }
+    requires mail { All
+        (IsMail (algorithm_in node.old) node.old.setup.nodes node.old.me) frames.items }
+    ensures { HasTaken node.old node.new frames.items }
+{
+    for frame in frames {
+        let _taken = node.take(frame);
+    }
+}
+
+/// The end of the due round.
+fn close_round<P: Plan, M: Mail<P>, G: Gate>(
+    mail: &M,
+    gate: &G,
+    seat: &mut Seat,
+    node: &mut Node,
+) -> Result<(), Halt>
+    requires together { IsTogether (M.run mail.now) seat.old node.old }
+    requires last { node.old.round ≤ node.old.setup.rounds }
+    ensures together { OnOk result (IsTogether (M.run mail.now) seat.new node.new) }
+    ensures steps { OnOk result (seat.new.steps ≡ seat.old.steps) }
+    ensures round { OnOk result (round_by seat.new ≡ round_by seat.old + 1) }
+{
+    let me = seat.node();
+    let round = node.round();
+    gate.pass(Point::Finish { node: me, round });
+    let finished = node.finish()?;
+    match mail.close(seat, &finished) {
+        Ok(()) => {}
+        Err(CloseFault::NoMemory) => return Err(Halt::NoMemory),
+        Err(_) => return Err(Halt::Refused),
+    }
+    node.settle();
+    gate.pass(Point::Closed { node: me, round });
+    Ok(())
+}
+
+/// The next step of the round: to another node, or a receive.
+fn next_step<P: Plan, M: Mail<P>, G: Gate>(
+    mail: &M,
+    gate: &G,
+    plan: P,
+    seat: &mut Seat,
+    node: &mut Node,
+) -> Result<(), Halt>
+    requires planned { IsPlanned P.nodes (M.run mail.now) plan node.old.setup.rounds }
+    requires together { IsTogether (M.run mail.now) seat.old node.old }
+    requires first { 0 < node.old.round }
+    requires last { node.old.round ≤ node.old.setup.rounds }
+    requires begun { P.start plan node.old.round ≤ seat.old.steps }
+    ensures steps { OnOk result (seat.new.steps ≡ seat.old.steps + 1) }
+    ensures states { OnOk result (seat.new.states ≡ seat.old.states) }
+    ensures together { OnOk result (IsTogether (M.run mail.now) seat.new node.new) }
+{
+    let offset = seat.steps() - u64::from(plan.start(node.round()));
+    if offset < u64::from(plan.nodes()) {
+        send_step(mail, gate, seat, node, offset as u32)
+    } else {
+        receive_step(mail, seat, node)
+    }
+}
+
+/// One step, and the end of the round where it makes that due.
+fn step<P: Plan, M: Mail<P>, G: Gate>(
+    mail: &M,
+    gate: &G,
+    plan: P,
+    seat: &mut Seat,
+    node: &mut Node,
+) -> Result<(), Halt>
+    requires planned { IsPlanned P.nodes (M.run mail.now) plan node.old.setup.rounds }
+    requires together { IsTogether (M.run mail.now) seat.old node.old }
+    requires place { IsInPlace (P.start plan) node.old.setup.rounds seat.old }
+    requires last { node.old.round ≤ node.old.setup.rounds }
+    ensures together { OnOk result (IsTogether (M.run mail.now) seat.new node.new) }
+    ensures place { OnOk result (IsInPlace (P.start plan) node.old.setup.rounds seat.new) }
+    ensures steps { OnOk result (seat.new.steps ≡ seat.old.steps + 1) }
+{
+    let round = node.round();
+    next_step(mail, gate, plan, seat, node)?;
+    if seat.steps() == u64::from(plan.start(round + 1)) {
+        close_round(mail, gate, seat, node)?;
+    }
+    Ok(())
+}
+
+/// A node's thread from where its seat stands, up to its end: after the last round, at its stop,
+/// without memory, or, where there is no answer, at a refusal for another cause.
+pub fn run_steps<P: Plan, M: Mail<P>, G: Gate, B: Beat>(
+    mail: &M,
+    gate: &G,
+    beat: &B,
+    plan: P,
+    rounds: u32,
+    stop: Option<u32>,
+    mut seat: Seat,
+    mut node: Node,
+) -> (Seat, Option<Ended>)
+    requires planned { IsPlanned P.nodes (M.run mail.now) plan rounds }
+    requires together { IsTogether (M.run mail.now) seat node }
+    requires place { IsInPlace (P.start plan) rounds seat }
+    ensures { ForSome result.1 (IsEnded (P.start plan) rounds stop result.0) }
+{
+    while node.round() <= rounds {
+        if is_stop(stop, seat.steps()) {
+            return (seat, Some(Ended::Stopped));
+        }
+        beat.next(seat.steps());
+        match step(mail, gate, plan, &mut seat, &mut node) {
+            Ok(()) => {}
+            Err(Halt::NoMemory) => return (seat, Some(Ended::NoMemory)),
+            Err(Halt::Refused) => return (seat, None),
+        }
+    }
+    (seat, Some(Ended::Done))
+}

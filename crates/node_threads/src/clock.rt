@@ -1,0 +1,142 @@
+//! What the threads of a run wait by.
+use crate::body::Beat;
+use schedule_text::Pace;
+use std::sync::{Condvar, Mutex, Wait};
+
+/// What the threads know of one another.
+#[derive(Drop)]
+struct Count {
+    /// The nodes that haven't ended.
+    running: u32,
+    /// The ticks that began.
+    ticks: u64,
+    /// The nodes that took their step of this tick.
+    stepped: u32,
+    /// Whether a node took a step or ended since the network's last turn.
+    is_new: bool,
+    /// Whether the network has ended.
+    is_over: bool,
+}
+
+impl Count {
+    fn note_step(&mut self) {
+        self.stepped = self.stepped.saturating_add(1);
+        self.is_new = true;
+    }
+
+    fn note_end(&mut self) {
+        self.running = self.running.saturating_sub(1);
+        self.is_new = true;
+    }
+
+    fn begin_tick(&mut self) {
+        self.ticks = self.ticks.saturating_add(1);
+        self.stepped = 0;
+    }
+}
+
+/// What lets the nodes and the network of a run go on.
+#[derive(Drop)]
+pub(crate) struct Clock {
+    pace: Pace,
+    count: Mutex<Count>,
+    /// A tick began, or the network ended.
+    begun: Condvar,
+    /// A node took a step or ended.
+    moved: Condvar,
+}
+
+impl Clock {
+    /// A clock for so many nodes, before their first step.
+    pub(crate) fn new(pace: Pace, nodes: u32) -> Clock {
+        Clock {
+            pace,
+            count: Mutex::new(Count {
+                running: nodes,
+                ticks: 0,
+                stepped: 0,
+                is_new: false,
+                is_over: false,
+            }),
+            begun: Condvar::new(),
+            moved: Condvar::new(),
+        }
+    }
+
+    /// A node that took so many steps waits for its next.
+    fn next<R: Wait>(&self, rt: &R, steps: u64) {
+        let mut count = self.count.lock(rt);
+        if steps > 0 {
+            count.note_step();
+            self.moved.notify_all();
+        }
+        if self.pace == Pace::Ticks {
+            let _count = self
+                .begun
+                .wait_while(rt, count, |it| it.ticks <= steps && !it.is_over);
+        }
+    }
+
+    /// A node ended.
+    pub(crate) fn leave<R: Wait>(&self, rt: &R) {
+        let mut count = self.count.lock(rt);
+        count.note_end();
+        self.moved.notify_all();
+    }
+
+    /// The network ended: no node waits for it any more.
+    pub(crate) fn close<R: Wait>(&self, rt: &R) {
+        let mut count = self.count.lock(rt);
+        count.is_over = true;
+        self.begun.notify_all();
+    }
+
+    /// The network waits for its next turn; false once every node ended. Under the free pace it
+    /// waits until a node took a step or ended.
+    pub(crate) fn turn<R: Wait>(&self, rt: &R) -> bool {
+        let count = self.count.lock(rt);
+        if self.pace == Pace::Ticks {
+            return count.running > 0;
+        }
+        let mut count = self
+            .moved
+            .wait_while(rt, count, |it| !it.is_new && it.running > 0);
+        count.is_new = false;
+        count.running > 0
+    }
+
+    /// The network had its turn. In ticks the running nodes take their steps, and it waits until
+    /// each has taken one or has ended.
+    pub(crate) fn step<R: Wait>(&self, rt: &R) {
+        if self.pace == Pace::Free {
+            return;
+        }
+        let mut count = self.count.lock(rt);
+        count.begin_tick();
+        self.begun.notify_all();
+        let _count = self
+            .moved
+            .wait_while(rt, count, |it| it.stepped < it.running);
+    }
+
+    pub(crate) fn pace(&self) -> Pace {
+        self.pace
+    }
+}
+
+/// A clock, with what its calls wait by.
+#[derive(Clone, Copy)]
+pub(crate) struct ClockBeat<'a, R: Wait> {
+    pub(crate) rt: &'a R,
+    pub(crate) clock: &'a Clock,
+}
+
+impl<'a, R: Wait> Beat for ClockBeat<'a, R> {
+    fn next(&self, steps: u64) {
+        self.clock.next(self.rt, steps)
+    }
+
+    fn leave(&self) {
+        self.clock.leave(self.rt)
+    }
+}
