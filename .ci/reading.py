@@ -392,7 +392,7 @@ def check_forms(source, options):
         raise BadWords("error: SOURCE is a file, or `@`, a name, `:` and digits")
     number = lambda text: bool(re.fullmatch(r"[0-9]+", text)) and int(text) <= LARGEST
     if not all(map(number, options.get("correct", "0").split(","))):
-        text = "error: LIST is node numbers of 0 to 4294967295 with commas between them"
+        text = "error: LIST is numbers of 0 to 4294967295 with commas between them"
         raise BadWords(text)
     delta = options.get("delta", "1")
     if not number(delta) or not 1 <= int(delta) <= DELTA:

@@ -47,18 +47,18 @@ err_then (Err y) Q P h f = f y h
 
 -- a file that fits and isn't UTF-8 is no text, and neither is a longer one that doesn't begin as
 -- one
-no_whole_text : (limit : ℕ) (held bytes : List ℕ) → length held ≤ limit → bytes ≡ held → ¬ (IsUtf8 bytes) → IsNoText limit held
+pub no_whole_text : (limit : ℕ) (held bytes : List ℕ) → length held ≤ limit → bytes ≡ held → ¬ (IsUtf8 bytes) → IsNoText limit held
 no_whole_text limit held bytes short same none =
     (λ t. none (subst IsUtf8 (sym same) t.utf8), λ t. let long : limit < length held = t.long in absurd (omega arith))
 
-no_long_text : (limit : ℕ) (held bytes : List ℕ) → limit < length held → bytes ≡ take (limit + 1) held → ¬ (BeginsUtf8 bytes) → IsNoText limit held
+pub no_long_text : (limit : ℕ) (held bytes : List ℕ) → limit < length held → bytes ≡ take (limit + 1) held → ¬ (BeginsUtf8 bytes) → IsNoText limit held
 no_long_text limit held bytes long same none =
     (λ t. let short : length held ≤ limit = t.short in absurd (omega arith), λ t. none (subst BeginsUtf8 (sym same) t.utf8))
 
-whole_text : (limit : ℕ) (held bytes : List ℕ) → length held ≤ limit → bytes ≡ held → IsUtf8 bytes → IsText limit held
+pub whole_text : (limit : ℕ) (held bytes : List ℕ) → length held ≤ limit → bytes ≡ held → IsUtf8 bytes → IsText limit held
 whole_text limit held bytes short same utf8 = record { short = short; utf8 = subst IsUtf8 same utf8 }
 
-long_text : (limit : ℕ) (held bytes : List ℕ) → limit < length held → bytes ≡ take (limit + 1) held → BeginsUtf8 bytes → IsLongText limit held
+pub long_text : (limit : ℕ) (held bytes : List ℕ) → limit < length held → bytes ≡ take (limit + 1) held → BeginsUtf8 bytes → IsLongText limit held
 long_text limit held bytes long same utf8 = record { long = long; utf8 = subst BeginsUtf8 same utf8 }
 
 -- the program of what was read is the file's
@@ -199,6 +199,8 @@ no_run A P p s events correct (run.UnknownNode k) to from bad cause =
 no_run A P p s events correct (run.UnknownMessage k) to from bad cause =
     (λ none. let same : ◌≡◌ {A = Result A RunFault} (Err (run.UnknownMessage k)) (Err run.BadSetup) = bad.1 (λ q. none (from q)) in cc same, cause)
 no_run A P p s events correct run.NoMemory to from bad cause = tt
+no_run A P p s events correct run.NoThread to from bad cause = absurd cause
+no_run A P p s events correct run.Unmatched to from bad cause = absurd cause
 
 -- under a plan within its limits
 pub not_run : (p : ProgramTree) (s : Setup) (k : PlanKind) (events : List Event) (correct : List ℕ) (r : Refusal) → IsPlan k → IsNotRunAs p s events correct r → IsNotRun p s k events correct r
@@ -208,6 +210,8 @@ not_run p s k events correct (refusal.Run (run.UnknownNode n)) plan none =
 not_run p s k events correct (refusal.Run (run.UnknownMessage n)) plan none =
     (λ bad. none.0 (λ both. bad (record { setup = both.0; plan = plan; listed = both.1 })), none.1)
 not_run p s k events correct (refusal.Run run.NoMemory) plan none = absurd none.1
+not_run p s k events correct (refusal.Run run.NoThread) plan none = absurd none.1
+not_run p s k events correct (refusal.Run run.Unmatched) plan none = absurd none.1
 not_run p s k events correct refusal.NoMemory plan none = tt
 not_run p s k events correct (refusal.Words fault) plan none = absurd none
 not_run p s k events correct refusal.File plan none = absurd none

@@ -1,4 +1,5 @@
 pub mod Explained
+pub mod InLockstep
 pub mod Library
 pub mod Texts
 pub mod Served

@@ -29,9 +29,10 @@ words_line (words.Refused error) = None
 words_line words.Missing = Some (codes "error: a value is missing\n")
 words_line words.Source = Some (codes "error: SOURCE is a file, or `@`, a name, `:` and digits\n")
 words_line words.List =
-    Some (codes "error: LIST is node numbers of 0 to 4294967295 with commas between them\n")
+    Some (codes "error: LIST is numbers of 0 to 4294967295 with commas between them\n")
 words_line words.Delta = Some (codes "error: D is a number of 1 to 1024\n")
 words_line words.Gst = Some (codes "error: G is a number of 0 to 4294967295\n")
+words_line words.Ticks = Some (codes "error: T is a number of 0 to 4294967295\n")
 words_line words.NoMemory = Some memory_line
 
 -- a text that is no program, with the place of what is wrong
@@ -72,12 +73,14 @@ library_line library.TooFew = codes "refused library 1\n"
 library_line library.BadValues = codes "refused library 2\n"
 library_line library.NoMemory = memory_line
 
--- a schedule that isn't run, with the position of its event
+-- a schedule that isn't run, with the position of its event, or threads without a journal
 abbrev pub run_line : RunFault → List ℕ
 run_line run.BadSetup = codes "refused run 1\n"
 run_line (run.UnknownNode k) = codes "refused run 2 at " ++ decimal k ++ codes "\n"
 run_line (run.UnknownMessage k) = codes "refused run 3 at " ++ decimal k ++ codes "\n"
 run_line run.NoMemory = memory_line
+run_line run.NoThread = codes "refused run 5\n"
+run_line run.Unmatched = codes "refused run 6\n"
 
 -- the line of a refusal, where it isn't `clap`'s own text
 abbrev pub line_of : Refusal → Option (List ℕ)

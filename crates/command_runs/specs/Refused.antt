@@ -7,9 +7,10 @@ use Rattle.adversary.specs.declared.fault.RunFault.TheVariants as run
 use Rattle.algorithm_library.specs.Refusals.{IsCount, IsTooFew, IsWithin}
 use Rattle.algorithm_library.specs.declared.fault.LibraryFault.{LibraryFault}
 use Rattle.algorithm_library.specs.declared.fault.LibraryFault.TheVariants as library
+use Rattle.command_runs.specs.InLockstep.{AreTerms}
 use Rattle.command_runs.specs.Lines.{status_of}
-use Rattle.command_runs.specs.Served.{AsksForHelp, IsCheckedSource, IsProgramOf, IsSchedule, Prints}
-use Rattle.command_runs.specs.Served.{file_name}
+use Rattle.command_runs.specs.Served.{AsksForHelp, IsCheckedSource, IsHeader, IsProgramOf}
+use Rattle.command_runs.specs.Served.{IsSchedule, Prints, file_name}
 use Rattle.command_runs.specs.Texts.{Files, IsLongText, IsNoText, IsText}
 use Rattle.command_runs.specs.declared.desk.DeskFault.{DeskFault}
 use Rattle.command_runs.specs.declared.desk.DeskFault.TheVariants as desk
@@ -19,7 +20,7 @@ use Rattle.command_words.specs.Given.{Explains, Means}
 use Rattle.command_words.specs.declared.values.Source.{Source}
 use Rattle.command_words.specs.declared.values.Source.TheVariants.{File, Library}
 use Rattle.command_words.specs.declared.words.Words.{Words}
-use Rattle.command_words.specs.declared.words.Words.TheVariants.{Check, Judge, Run}
+use Rattle.command_words.specs.declared.words.Words.TheVariants.{Check, Judge, Lockstep, Run}
 use Rattle.command_words.specs.declared.words.WordsFault.{WordsFault}
 use Rattle.command_words.specs.declared.words.WordsFault.TheVariants as words
 use Rattle.round_check.specs.Causes.{fault_of}
@@ -32,7 +33,9 @@ use Rattle.round_lang.specs.declared.fault.LangFault.{LangFault}
 use Rattle.round_lang.specs.declared.fault.LangFault.TheVariants as lang
 use Rattle.round_meaning.specs.Setups.{IsLawful}
 use Rattle.round_meaning.specs.declared.setup.Setup.{Setup}
-use Rattle.schedule_text.specs.Readings.{IsReading}
+use Rattle.policies.specs.declared.bounded.Bounded.{Bounded}
+use Rattle.schedule_text.specs.Readings.{IsReading, IsReadingOf}
+use Rattle.schedule_text.specs.declared.kind.Kind.TheVariants.{Header}
 use Rattle.schedule_text.specs.Texts.{max_text as max_schedule}
 use Rattle.schedule_text.specs.declared.fault.ScheduleFault.{ScheduleFault}
 use Rattle.schedule_text.specs.declared.fault.ScheduleFault.TheVariants as schedule
@@ -114,6 +117,19 @@ IsNoSchedule file (refusal.Schedule fault) = IfSome file (λ held. IsBadSchedule
 IsNoSchedule file refusal.NoMemory = ⊤
 IsNoSchedule file _ = ⊥
 
+-- a text is too long to be a header, or this is the first line at fault
+abbrev pub IsBadHeader : List ℕ → ScheduleFault → Type 0
+IsBadHeader held schedule.TooLong = IsLongText max_schedule held
+IsBadHeader held schedule.NoMemory = ⊥
+IsBadHeader held fault = IsText max_schedule held × IsReadingOf Header held (Err fault)
+
+-- why there is no header in a file
+abbrev pub IsNoHeader : Option (List ℕ) → Refusal → Type 0
+IsNoHeader file refusal.File = IfSome file (IsNoText max_schedule)
+IsNoHeader file (refusal.Schedule fault) = IfSome file (λ held. IsBadHeader held fault)
+IsNoHeader file refusal.NoMemory = ⊤
+IsNoHeader file _ = ⊥
+
 -- a program of the library that needs no more than values, or Algorithm 1
 abbrev pub IsPlain : List ℕ → Type 0
 IsPlain name = (name ≡ codes "gather") ⊎ (name ≡ codes "count_votes")
@@ -179,6 +195,31 @@ IsUnanswered source files file correct r =
     ⊎ ((IsOpened source files × IsNoSchedule file r)
     ⊎ (IsOpened source files × IsRefusedFor source files file correct r))
 
+-- why there is no run in lockstep: a number or a table is past its limits
+abbrev pub IsNotMade : ProgramTree → Setup → PlanKind → List ℕ → Bounded → Refusal → Type 0
+IsNotMade p s k list b (refusal.Run run.BadSetup) = ¬ (AreTerms p s list b × IsPlan k)
+IsNotMade p s k list b refusal.NoMemory = ⊤
+IsNotMade p s k list b _ = ⊥
+
+-- a header and a program for it are there, and no run is made of them
+abbrev pub IsRefusedPacing : Source → Files → Setup → PlanKind → List ℕ → Bounded → Refusal → Type 0
+IsRefusedPacing source files s k list b r =
+    (p : ProgramTree) × IsProgramOf source files s.nodes s.faults p × IsNotMade p s k list b r
+
+-- a header is there, and there is no program for it, or no run is made
+abbrev pub IsRefusedBy : Source → Files → Option (List ℕ) → List ℕ → Bounded → Refusal → Type 0
+IsRefusedBy source files file list b r =
+    (s : Setup) × (k : PlanKind) × IfSome file (λ held. IsHeader held s k)
+    × (IsNotOffered source s.nodes s.faults r ⊎ IsRefusedPacing source files s k list b r)
+
+-- why no schedule of a run in lockstep is made: first the source's file, then the header's, then
+-- the library, then the run
+abbrev pub IsUnmade : Source → Files → Option (List ℕ) → List ℕ → Bounded → Refusal → Type 0
+IsUnmade source files file list b r =
+    IsNotOpened source files r
+    ⊎ ((IsOpened source files × IsNoHeader file r)
+    ⊎ (IsOpened source files × IsRefusedBy source files file list b r))
+
 -- why a source isn't checked
 abbrev pub IsUnchecked : Source → Files → Refusal → Type 0
 IsUnchecked source files r = IsNotOpened source files r ⊎ IsNotOffered source 1 0 r
@@ -189,6 +230,9 @@ IsUnserved (Check source) files r = IsUnchecked source files r
 IsUnserved (Run source schedule told) files r = IsUnanswered source files (files schedule.now) [] r
 IsUnserved (Judge source schedule correct delta gst) files r =
     IsUnanswered source files (files schedule.now) correct.items r
+IsUnserved (Lockstep source header correct delta gst delays orders ticks) files r =
+    IsUnmade source files (files header.now) correct.items
+    (record { delta = delta; gst = gst; delays = delays.items; orders = orders.items }) r
 
 -- and last, that `out` doesn't take what the command prints
 abbrev pub IsRefusedCommand : Words → Files → Refusal → Type 0

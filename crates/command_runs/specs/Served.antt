@@ -4,7 +4,9 @@ use Rattle.std.specs.Prelude.{if◌then◌else◌}
 use Rattle.std.specs.Fmt.{decimal}
 use Rattle.std.specs.Io.KnownBytes.{Appends}
 use Rattle.std.specs.Str.{bytes_eq}
-use Rattle.schedule_text.specs.Texts.{Says, max_text as max_schedule}
+use Rattle.policies.specs.declared.bounded.Bounded.{Bounded}
+use Rattle.schedule_text.specs.Texts.{Says, SaysOf, max_text as max_schedule}
+use Rattle.schedule_text.specs.declared.kind.Kind.TheVariants.{Header}
 use Rattle.schedule_text.specs.declared.reading.Schedule.{Schedule}
 use Rattle.command_runs.specs.declared.asking.Answer.{Answer}
 use Rattle.command_runs.specs.declared.asking.Answer.TheVariants as answer
@@ -13,6 +15,7 @@ use Rattle.command_runs.specs.declared.asking.Question.TheVariants as question
 use Rattle.command_runs.specs.declared.sources.Opened.{Opened}
 use Rattle.command_runs.specs.declared.sources.Opened.TheVariants as opened
 use Rattle.command_runs.specs.Explained.{IsReportOf, IsVerdictOf}
+use Rattle.command_runs.specs.InLockstep.{IsLockstepText}
 use Rattle.command_runs.specs.Library.{Offers}
 use Rattle.command_runs.specs.Texts.{Files, IsText}
 use Rattle.clap.specs.Words.{IsAmong, fault_of}
@@ -22,7 +25,7 @@ use Rattle.command_words.specs.Given.{Means}
 use Rattle.command_words.specs.declared.values.Source.{Source}
 use Rattle.command_words.specs.declared.values.Source.TheVariants.{File, Library}
 use Rattle.command_words.specs.declared.words.Words.{Words}
-use Rattle.command_words.specs.declared.words.Words.TheVariants.{Check, Judge, Run}
+use Rattle.command_words.specs.declared.words.Words.TheVariants.{Check, Judge, Lockstep, Run}
 use Rattle.omission_explainer.specs.Decided.{decided_line, summary_of}
 use Rattle.omission_explainer.specs.Report.{report_text}
 use Rattle.omission_explainer.specs.Verdict.{verdict_text}
@@ -83,6 +86,11 @@ pub record IsSchedule (text : List ℕ) (s : Setup) (k : PlanKind)
   pub fits : IsText max_schedule text
   pub says : Says text s k events
 
+-- the text is a header, with nothing behind it, of this setup and plan
+pub record IsHeader (text : List ℕ) (s : Setup) (k : PlanKind) : Type 0 where
+  pub fits : IsText max_schedule text
+  pub says : SaysOf Header text s k tt
+
 -- `ok values K period P variables M`
 abbrev pub summary_text : ProgramTree → List ℕ
 summary_text p =
@@ -102,6 +110,14 @@ JudgesRun source files file correct delta gst verdict =
     IfSome file (λ text. (s : Setup) × (k : PlanKind) × (events : List Event) × (p : ProgramTree)
     × IsSchedule text s k events × IsProgramOf source files s.nodes s.faults p
     × IsVerdictOf (start_of k s.nodes) (receives_of k) p s events correct delta gst verdict)
+
+-- the text is the schedule of a run in lockstep, of the source's program under the header in a file
+abbrev pub MakesLockstep : Source → Files → Option (List ℕ) → List ℕ → Bounded → Option ℕ → List ℕ
+    → Type 0
+MakesLockstep source files file list b asked made =
+    IfSome file (λ text. (s : Setup) × (k : PlanKind) × (p : ProgramTree) × IsHeader text s k
+    × IsProgramOf source files s.nodes s.faults p
+    × IsLockstepText (start_of k s.nodes) p s k list b asked made)
 
 -- the answer to a question on a run
 abbrev pub AnswersRun : Source → Files → Option (List ℕ) → Question → Answer → Type 0
@@ -139,6 +155,9 @@ Prints (Judge source schedule correct delta gst) files text =
     (verdict : Verdict)
     × JudgesRun source files (files schedule.now) correct.items delta gst verdict
     × (text ≡ verdict_text verdict ++ codes "\n")
+Prints (Lockstep source header correct delta gst delays orders ticks) files text =
+    MakesLockstep source files (files header.now) correct.items
+    (record { delta = delta; gst = gst; delays = delays.items; orders = orders.items }) ticks text
 
 -- `out` gained what the command prints
 abbrev pub Serves : Words → Files → Option (List ℕ) → Option (List ℕ) → Type 0

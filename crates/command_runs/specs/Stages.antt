@@ -4,8 +4,9 @@ use Rattle.std.specs.Io.KnownBytes.{Appends}
 use Rattle.std.specs.Str.{IsUtf8}
 use Rattle.adversary.specs.Driving.{IsUnknownAt}
 use Rattle.adversary.specs.declared.fault.RunFault.TheVariants as run
-use Rattle.command_runs.specs.Refused.{IsNoOffer, IsUnanswered}
-use Rattle.command_runs.specs.Served.{AnswersRun, answer_text}
+use Rattle.command_runs.specs.InLockstep.{AreTerms}
+use Rattle.command_runs.specs.Refused.{IsNoOffer, IsUnanswered, IsUnmade}
+use Rattle.command_runs.specs.Served.{AnswersRun, MakesLockstep, answer_text}
 use Rattle.command_runs.specs.Texts.{BeginsUtf8, Files}
 use Rattle.command_runs.specs.declared.asking.Answer.{Answer}
 use Rattle.command_runs.specs.declared.asking.Question.{Question}
@@ -17,6 +18,7 @@ use Rattle.command_runs.specs.declared.sources.Opened.TheVariants as opened
 use Rattle.command_runs.specs.declared.texts.Text.{Text}
 use Rattle.command_runs.specs.declared.texts.Text.TheVariants as text
 use Rattle.command_words.specs.declared.values.Source.{Source}
+use Rattle.policies.specs.declared.bounded.Bounded.{Bounded}
 use Rattle.round_check.specs.Causes.{fault_of, is_typed}
 use Rattle.round_lang.specs.Limits.{max_text}
 use Rattle.round_lang.specs.Source.{IsSource}
@@ -24,8 +26,10 @@ use Rattle.round_lang.specs.Syntax.{ProgramTree}
 use Rattle.round_lang.specs.declared.fault.LangFault.TheVariants as lang
 use Rattle.round_meaning.specs.Setups.{IsLawful}
 use Rattle.round_meaning.specs.declared.setup.Setup.{Setup}
-use Rattle.schedule_text.specs.Readings.{IsReading}
-use Rattle.schedule_text.specs.Texts.{Says, max_text as max_schedule}
+use Rattle.schedule_text.specs.Readings.{IsReading, IsReadingOf}
+use Rattle.schedule_text.specs.Texts.{Says, SaysOf, max_text as max_schedule}
+use Rattle.schedule_text.specs.declared.kind.Kind.TheVariants.{Header}
+use Rattle.slot_plans.specs.declared.kind.PlanKind.{PlanKind}
 use Rattle.schedule_text.specs.declared.fault.ScheduleFault.TheVariants as schedule
 use Rattle.schedule_text.specs.declared.reading.Schedule.{Schedule}
 use Rattle.step_machine.specs.declared.event.Event.{Event}
@@ -73,6 +77,26 @@ IsNoScheduleIn (text.Longer bytes) refusal.File = ¬ (BeginsUtf8 bytes.items)
 IsNoScheduleIn (text.Longer bytes) (refusal.Schedule schedule.TooLong) = BeginsUtf8 bytes.items
 IsNoScheduleIn (text.Longer bytes) _ = ⊥
 
+-- why a text in UTF-8 is no header
+abbrev pub IsNoHeaderOf : List ℕ → Refusal → Type 0
+IsNoHeaderOf held (refusal.Schedule schedule.TooLong) = max_schedule < length held
+IsNoHeaderOf held (refusal.Schedule schedule.NoMemory) = ⊥
+IsNoHeaderOf held (refusal.Schedule fault) = IsReadingOf Header held (Err fault)
+IsNoHeaderOf held refusal.NoMemory = ⊤
+IsNoHeaderOf held _ = ⊥
+
+-- the header of what was read, and why there is none
+abbrev pub IsHeaderIn : Text → Setup × PlanKind → Type 0
+IsHeaderIn (text.Whole bytes) h = IsUtf8 bytes.items × SaysOf Header bytes.items h.0 h.1 tt
+IsHeaderIn (text.Longer bytes) h = ⊥
+
+abbrev pub IsNoHeaderIn : Text → Refusal → Type 0
+IsNoHeaderIn (text.Whole bytes) refusal.File = ¬ (IsUtf8 bytes.items)
+IsNoHeaderIn (text.Whole bytes) r = IsUtf8 bytes.items × IsNoHeaderOf bytes.items r
+IsNoHeaderIn (text.Longer bytes) refusal.File = ¬ (BeginsUtf8 bytes.items)
+IsNoHeaderIn (text.Longer bytes) (refusal.Schedule schedule.TooLong) = BeginsUtf8 bytes.items
+IsNoHeaderIn (text.Longer bytes) _ = ⊥
+
 -- why an opened source has no program
 abbrev pub IsHeldBack : Opened → (nodes faults : ℕ) → Refusal → Type 0
 IsHeldBack (opened.File p) n t r = ⊥
@@ -97,6 +121,25 @@ abbrev pub TellsAnswer : Source → Files → Option (List ℕ) → Question
     → Option (List ℕ) → Option (List ℕ) → Type 0
 TellsAnswer source files file q old new =
     (a : Answer) × AnswersRun source files file q a × Appends old new (answer_text a)
+
+-- `out` gained the schedule of a run in lockstep
+abbrev pub TellsLockstep : Source → Files → Option (List ℕ) → List ℕ → Bounded → Option ℕ
+    → Option (List ℕ) → Option (List ℕ) → Type 0
+TellsLockstep source files file list b asked old new =
+    (made : List ℕ) × MakesLockstep source files file list b asked made × Appends old new made
+
+-- why it isn't told
+abbrev pub IsRefusedLockstep : Source → Files → Option (List ℕ) → List ℕ → Bounded → Option ℕ
+    → Refusal → Type 0
+IsRefusedLockstep source files file list b asked refusal.Write =
+    (made : List ℕ) × MakesLockstep source files file list b asked made
+IsRefusedLockstep source files file list b asked r = IsUnmade source files file list b r
+
+-- why there is no run in lockstep under a plan
+abbrev pub IsNotMadeAs : ProgramTree → Setup → List ℕ → Bounded → Refusal → Type 0
+IsNotMadeAs p s list b (refusal.Run run.BadSetup) = ¬ (AreTerms p s list b)
+IsNotMadeAs p s list b refusal.NoMemory = ⊤
+IsNotMadeAs p s list b _ = ⊥
 
 -- why an answer isn't told
 abbrev pub IsRefusedAnswer : Source → Files → Option (List ℕ) → Question → Refusal → Type 0

@@ -86,7 +86,7 @@ pub fn judged_run<P: Plan>(
 
 /// The set of the listed nodes, where each is below a number of nodes and below the most that there
 /// can be.
-fn nodes_in(list: &[u32], nodes: u32) -> Option<NodeSet>
+pub(crate) fn nodes_in(list: &[u32], nodes: u32) -> Option<NodeSet>
     ensures some { IfSome result (λ set. AreListed nodes list.now set.bits) }
     ensures each { IfSome result (λ _set. All (λ n. n < nodes) list.now) }
     ensures none { IfNone result (All (λ n. (n < nodes) × (n < max_nodes)) list.now → ⊥) }

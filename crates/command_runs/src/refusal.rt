@@ -93,11 +93,12 @@ fn write_words<W: fmt::Write>(fault: &WordsFault, f: &mut fmt::Formatter<W>) -> 
         WordsFault::List => {
             writeln!(
                 f,
-                "error: LIST is node numbers of 0 to 4294967295 with commas between them"
+                "error: LIST is numbers of 0 to 4294967295 with commas between them"
             )
         }
         WordsFault::Delta => writeln!(f, "error: D is a number of 1 to 1024"),
         WordsFault::Gst => writeln!(f, "error: G is a number of 0 to 4294967295"),
+        WordsFault::Ticks => writeln!(f, "error: T is a number of 0 to 4294967295"),
         WordsFault::NoMemory => write_no_memory(f),
     }
 }
@@ -166,6 +167,8 @@ fn write_run<W: fmt::Write>(fault: RunFault, f: &mut fmt::Formatter<W>) -> fmt::
         RunFault::UnknownNode(position) => writeln!(f, "refused run 2 at {position}"),
         RunFault::UnknownMessage(position) => writeln!(f, "refused run 3 at {position}"),
         RunFault::NoMemory => write_no_memory(f),
+        RunFault::NoThread => writeln!(f, "refused run 5"),
+        RunFault::Unmatched => writeln!(f, "refused run 6"),
     }
 }
 

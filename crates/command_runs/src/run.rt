@@ -4,15 +4,18 @@ ghost use Rattle.std.specs.Io.KnownBytes.{Appends, Keeps};
 ghost use Rattle.command_runs.specs.Refused.{IsCause, IsRefused, IsRefusedCommand, IsSilent};
 ghost use Rattle.command_runs.specs.Served.{AsksForHelp, IsServed, Serves, answer_text};
 ghost use Rattle.command_runs.specs.Served.{summary_text};
-ghost use Rattle.command_runs.specs.Stages.{IsRefusedAnswer, TellsAnswer};
+ghost use Rattle.command_runs.specs.Stages.{IsRefusedAnswer, IsRefusedLockstep, TellsAnswer};
+ghost use Rattle.command_runs.specs.Stages.{TellsLockstep};
 
 use crate::asking::{Answer, Question, Run};
 use crate::desk::Desk;
 use crate::explained::Terms;
+use crate::lockstep::{Pacing, Paced};
 use crate::refusal::Refusal;
 use crate::sources::Opened;
 use command_words::{Source, Words, WordsFault, read_words};
 use omission_explainer::{decided, write_report};
+use policies::{Bounded, Table};
 use round_check::Checked;
 use std::alloc::Global;
 use std::io;
@@ -112,6 +115,29 @@ fn carry_out<'a, D: Desk, O: Write>(
             };
             answer(alloc, run, Question::Verdict(terms), desk, out)
         }
+        Words::Lockstep {
+            source,
+            header,
+            correct,
+            delta,
+            gst,
+            delays,
+            orders,
+            ticks,
+        } => {
+            let bounded = Bounded {
+                delta,
+                gst,
+                delays: Table::new(delays),
+                orders: Table::new(orders),
+            };
+            let pacing = Pacing {
+                correct: &correct,
+                bounded: &bounded,
+                ticks,
+            };
+            pace(alloc, Paced { source, header }, pacing, desk, out)
+        }
     }
 }
 
@@ -154,6 +180,28 @@ fn answer<'a, D: Desk, O: Write>(
 {
     let answer = run.answer(alloc, question, desk)?;
     written(write_answer(&answer, out), out)
+}
+
+/// Writes the schedule of a run in lockstep.
+#[tactic(auto, using(crate::proofs::Telling::silent_same))]
+fn pace<'a, D: Desk, O: Write>(
+    alloc: Global,
+    paced: Paced<'a>,
+    pacing: Pacing<'_>,
+    desk: &mut D,
+    out: &mut O,
+) -> Result<(), Refusal>
+    ensures served { OnOk result (TellsLockstep paced.entry.source (D.files desk.old)
+        (D.files desk.old paced.entry.header.now) pacing.entry.correct.now
+        pacing.entry.bounded.now pacing.entry.ticks (O.contents out.old) (O.contents out.new)) }
+    ensures refused { IfErr result (IsRefusedLockstep paced.entry.source (D.files desk.old)
+        (D.files desk.old paced.entry.header.now) pacing.entry.correct.now
+        pacing.entry.bounded.now pacing.entry.ticks) }
+    ensures silent { IfErr result (IsSilent (O.contents out.old) (O.contents out.new)) }
+    ensures written { D.written desk.new ≡ D.written desk.old }
+{
+    let text = paced.schedule(alloc, pacing, desk)?;
+    written(out.write_all(text.as_bytes()), out)
 }
 
 /// What a program declares: the number of its values, its period and the number of its variables.

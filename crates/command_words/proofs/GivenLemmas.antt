@@ -88,9 +88,24 @@ lack_explained words name rows (fault.Refused e) none is lack = absurd (elim lac
     | inr more ↦ elim more [
       | inl judge ↦ elim judge.1 [
         | inl run ↦ elim run [ inl source ↦ source | inr file ↦ file ]
-        | inr value ↦ elim value [ inl list ↦ list | inr value ↦ elim value [ inl delta ↦ delta | inr gst ↦ gst ] ]
+        | inr terms ↦ elim terms [ inl list ↦ list | inr value ↦ elim value [ inl delta ↦ delta | inr gst ↦ gst ] ]
       ]
-      | inr other ↦ cc (other.1)
+      | inr more ↦ elim more [
+        | inl lockstep ↦ elim lockstep.1 [
+          | inl source ↦ source
+          | inr more ↦ elim more [
+            | inl file ↦ file
+            | inr more ↦ elim more [
+              | inl terms ↦ elim terms [ inl list ↦ list | inr value ↦ elim value [ inl delta ↦ delta | inr gst ↦ gst ] ]
+              | inr more ↦ elim more [
+                | inl delays ↦ delays
+                | inr more ↦ elim more [ inl orders ↦ orders | inr ticks ↦ ticks ]
+              ]
+            ]
+          ]
+        ]
+        | inr other ↦ cc (other.1)
+      ]
     ]
   ]
 ])
@@ -99,6 +114,7 @@ lack_explained words name rows fault.Source none is lack = (none, (name, rows, i
 lack_explained words name rows fault.List none is lack = inl (none, (name, rows, is, lack))
 lack_explained words name rows fault.Delta none is lack = inl (none, (name, rows, is, lack))
 lack_explained words name rows fault.Gst none is lack = inl (none, (name, rows, is, lack))
+lack_explained words name rows fault.Ticks none is lack = inl (none, (name, rows, is, lack))
 lack_explained words name rows fault.NoMemory none is lack = tt
 
 -- what the code makes of an error explains the refusal
@@ -112,6 +128,7 @@ mistake_explained words error fault.Source kinds is = absurd is
 mistake_explained words error fault.List kinds is = inr is
 mistake_explained words error fault.Delta kinds is = inr is
 mistake_explained words error fault.Gst kinds is = inr is
+mistake_explained words error fault.Ticks kinds is = inr is
 mistake_explained words error fault.NoMemory kinds is = tt
 
 or_else_right : (a b : Kinds) → or_else a b ≡ [] → b ≡ []

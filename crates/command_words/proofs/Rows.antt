@@ -1,5 +1,5 @@
 -- Command lines written out: `clap`'s definition takes them, and gives these values.
-use Rattle.std.proofs.Common.{◌≡◌, refl, codes, true, option_map, Some, List, [], ◌∷◌}
+use Rattle.std.proofs.Common.{◌≡◌, refl, codes, true, option_map, None, Some, List, [], ◌∷◌}
 use Rattle.clap.specs.Words.{Text, fault_of, first_of, subcommand_of, takes}
 use Rattle.clap.specs.declared.error.kind.ErrorKind.TheVariants as kind
 use Rattle.clap.proofs.OnLiterals.{clap_on_literals}
@@ -36,6 +36,23 @@ judge_taken = refl
 judge_gst : option_map (λ p. first_of (codes "gst") p.1) (subcommand_of roundc_app judge_row) ≡ Some (Some (codes "7"))
 unfolding clap_on_literals
 judge_gst = refl
+
+abbrev lockstep_row : List Text
+lockstep_row =
+    codes "lockstep" ∷ codes "a" ∷ codes "--header" ∷ codes "b" ∷ codes "--correct" ∷ codes "0,1" ∷ codes "--delta" ∷ codes "2"
+    ∷ codes "--gst" ∷ codes "3" ∷ codes "--ticks" ∷ codes "9" ∷ []
+
+lockstep_taken : takes roundc_app lockstep_row ≡ true
+unfolding clap_on_literals
+lockstep_taken = refl
+
+lockstep_ticks : option_map (λ p. first_of (codes "ticks") p.1) (subcommand_of roundc_app lockstep_row) ≡ Some (Some (codes "9"))
+unfolding clap_on_literals
+lockstep_ticks = refl
+
+lockstep_delays : option_map (λ p. first_of (codes "delays") p.1) (subcommand_of roundc_app lockstep_row) ≡ Some None
+unfolding clap_on_literals
+lockstep_delays = refl
 
 check_taken : takes roundc_app (codes "check" ∷ codes "a" ∷ []) ≡ true
 unfolding clap_on_literals

@@ -36,6 +36,23 @@ judge_app =
     (text_rule (codes "schedule"))) (text_rule (codes "correct"))) (text_rule (codes "delta")))
     (text_rule (codes "gst"))
 
+-- `--NAME VALUE`, which may be left out
+abbrev pub optional_rule : Text → Rule
+optional_rule name = record (new_rule name) { long = Some name; value_names = 1 }
+
+-- `lockstep SOURCE --header FILE --correct LIST --delta D --gst G`
+abbrev pub required_lockstep_app : App
+required_lockstep_app =
+    with_rule (with_rule (with_rule (with_rule (with_rule (new_app (codes "lockstep")) source_rule)
+    (text_rule (codes "header"))) (text_rule (codes "correct"))) (text_rule (codes "delta")))
+    (text_rule (codes "gst"))
+
+-- the same with `[--delays LIST] [--orders LIST] [--ticks T]`
+abbrev pub lockstep_app : App
+lockstep_app =
+    with_rule (with_rule (with_rule required_lockstep_app (optional_rule (codes "delays")))
+    (optional_rule (codes "orders"))) (optional_rule (codes "ticks"))
+
 -- the command line with no command in it yet
 abbrev pub bare_app : App
 bare_app = let new = new_app (codes "roundc") in record new {
@@ -48,8 +65,9 @@ bare_app = let new = new_app (codes "roundc") in record new {
 
 -- the whole command line
 abbrev pub roundc_app : App
-roundc_app = with_subcommand
-    (with_subcommand (with_subcommand bare_app check_app.top) run_app.top) judge_app.top
+roundc_app = with_subcommand (with_subcommand
+    (with_subcommand (with_subcommand bare_app check_app.top) run_app.top) judge_app.top)
+    lockstep_app.top
 
 -- what a parse reads of the command is this, and none of its arguments is global
 abbrev pub IsCommandOf : App → Command → Type 0

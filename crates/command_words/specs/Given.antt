@@ -1,6 +1,6 @@
 -- What the words of a command line say, by `clap`'s own definition of a simple command's matches.
 use Rattle.std.specs.Prelude.{◌≡◌, ◌≢◌, ◌≤◌, ◌⊎◌, ◌↔◌, ◌∷◌, ◌&&◌, ◌||◌, ℕ, Bool, IsTrue, List, None}
-use Rattle.std.specs.Prelude.{Some, codes, [], false, true, ⊤}
+use Rattle.std.specs.Prelude.{Option, Some, codes, [], false, true, ⊤}
 use Rattle.std.specs.Str.{bytes_eq}
 use Rattle.clap.specs.Words.{Row, Text, first_of, subcommand_of, fault_of, IsAmong, kind_of}
 use Rattle.clap.specs.declared.error.Error.{Error}
@@ -10,7 +10,7 @@ use Rattle.command_words.specs.Values.{IsNoList, ListText, NumberText, SourceTex
 use Rattle.command_words.specs.Values.{max_delta}
 use Rattle.command_words.specs.declared.values.Source.{Source}
 use Rattle.command_words.specs.declared.words.Words.{Words}
-use Rattle.command_words.specs.declared.words.Words.TheVariants.{Check, Judge, Run}
+use Rattle.command_words.specs.declared.words.Words.TheVariants.{Check, Judge, Lockstep, Run}
 use Rattle.command_words.specs.declared.words.WordsFault.{WordsFault}
 use Rattle.command_words.specs.declared.words.WordsFault.TheVariants.{Refused, Missing, NoMemory}
 use Rattle.command_words.specs.declared.words.WordsFault.TheVariants as fault
@@ -20,10 +20,14 @@ abbrev pub GivesSource : List Row → Source → Type 0
 GivesSource rows source =
     (text : Text) × (first_of (codes "source") rows ≡ Some text) × SourceText text source
 
--- the argument has a value, and it is the text of the list
-abbrev pub GivesList : List Row → List ℕ → Type 0
-GivesList rows list =
-    (text : Text) × (first_of (codes "correct") rows ≡ Some text) × ListText text list
+-- the option of this name has a value, and it is the text of the list
+abbrev pub GivesList : Text → List Row → List ℕ → Type 0
+GivesList name rows list = (text : Text) × (first_of name rows ≡ Some text) × ListText text list
+
+-- the option isn't there, and the list is empty, or it has the list as its value
+abbrev pub GivesTable : Text → List Row → List ℕ → Type 0
+GivesTable name rows list =
+    ((first_of name rows ≡ None) × (list ≡ [])) ⊎ GivesList name rows list
 
 -- the argument has a value, and it is the text of a number of 1 to 1,024
 abbrev pub GivesDelta : List Row → ℕ → Type 0
@@ -33,6 +37,17 @@ GivesDelta rows n = (text : Text) × (first_of (codes "delta") rows ≡ Some tex
 -- the argument has a value, and it is the text of the number
 abbrev pub GivesGst : List Row → ℕ → Type 0
 GivesGst rows n = (text : Text) × (first_of (codes "gst") rows ≡ Some text) × NumberText text n
+
+-- the argument has this value, or isn't there
+abbrev pub GivesTicks : List Row → Option ℕ → Type 0
+GivesTicks rows None = first_of (codes "ticks") rows ≡ None
+GivesTicks rows (Some n) =
+    (text : Text) × (first_of (codes "ticks") rows ≡ Some text) × NumberText text n
+
+-- the arguments have the correct nodes, the bound and the step from which it holds
+abbrev pub GivesTerms : List Row → List ℕ → ℕ → ℕ → Type 0
+GivesTerms rows correct delta gst =
+    GivesList (codes "correct") rows correct × GivesDelta rows delta × GivesGst rows gst
 
 -- `--decided` stands there
 abbrev pub HasFlag : List Row → Type 0
@@ -45,8 +60,12 @@ Gives name rows (Run source schedule decided) = (name ≡ codes "run") × GivesS
     × (first_of (codes "schedule") rows ≡ Some schedule.now) × (IsTrue decided ↔ HasFlag rows)
 Gives name rows (Judge source schedule correct delta gst) = (name ≡ codes "judge")
     × GivesSource rows source × (first_of (codes "schedule") rows ≡ Some schedule.now)
-    × GivesList rows correct.items × GivesDelta rows delta
-    × GivesGst rows gst
+    × GivesTerms rows correct.items delta gst
+Gives name rows (Lockstep source header correct delta gst delays orders ticks) =
+    (name ≡ codes "lockstep")
+    × GivesSource rows source × (first_of (codes "header") rows ≡ Some header.now)
+    × GivesTerms rows correct.items delta gst × GivesTable (codes "delays") rows delays.items
+    × GivesTable (codes "orders") rows orders.items × GivesTicks rows ticks
 
 -- the words name a command, and give it its values
 abbrev pub Means : List Text → Words → Type 0
@@ -60,19 +79,33 @@ FailsBySource rows fault.Source = (text : Text) × (first_of (codes "source") ro
     × ((source : Source) → ¬ (SourceText text source))
 FailsBySource rows _ = ⊥
 
--- the fault of FILE: it has no value
-abbrev pub FailsByFile : List Row → WordsFault → Type 0
-FailsByFile rows Missing = first_of (codes "schedule") rows ≡ None
-FailsByFile rows _ = ⊥
+-- the fault of FILE, the value of this option: it has none
+abbrev pub FailsByFile : Text → List Row → WordsFault → Type 0
+FailsByFile name rows Missing = first_of name rows ≡ None
+FailsByFile name rows _ = ⊥
 
--- the fault of LIST: it has no value, or one that is the text of no list, or there was no memory
--- for the list
-abbrev pub FailsByList : List Row → WordsFault → Type 0
-FailsByList rows Missing = first_of (codes "correct") rows ≡ None
-FailsByList rows fault.List =
-    (text : Text) × (first_of (codes "correct") rows ≡ Some text) × IsNoList text fault.List
-FailsByList rows NoMemory = ⊤
-FailsByList rows _ = ⊥
+-- the fault of LIST, the value of this option: it has none, or one that is the text of no list, or
+-- there was no memory for the list
+abbrev pub FailsByList : Text → List Row → WordsFault → Type 0
+FailsByList name rows Missing = first_of name rows ≡ None
+FailsByList name rows fault.List =
+    (text : Text) × (first_of name rows ≡ Some text) × IsNoList text fault.List
+FailsByList name rows NoMemory = ⊤
+FailsByList name rows _ = ⊥
+
+-- the fault of an option that may be left out: it has a value that is the text of no list, or there
+-- was no memory for the list
+abbrev pub FailsByTable : Text → List Row → WordsFault → Type 0
+FailsByTable name rows fault.List =
+    (text : Text) × (first_of name rows ≡ Some text) × IsNoList text fault.List
+FailsByTable name rows NoMemory = ⊤
+FailsByTable name rows _ = ⊥
+
+-- the fault of T: it is the text of no number
+abbrev pub FailsByTicks : List Row → WordsFault → Type 0
+FailsByTicks rows fault.Ticks =
+    (text : Text) × (first_of (codes "ticks") rows ≡ Some text) × ((n : ℕ) → ¬ (NumberText text n))
+FailsByTicks rows _ = ⊥
 
 -- the fault of D: it has no value, or one that is the text of no number of 1 to 1,024
 abbrev pub FailsByDelta : List Row → WordsFault → Type 0
@@ -90,13 +123,25 @@ FailsByGst rows _ = ⊥
 
 -- the fault of a value of `run`
 abbrev pub FailsByRun : List Row → WordsFault → Type 0
-FailsByRun rows fault = FailsBySource rows fault ⊎ FailsByFile rows fault
+FailsByRun rows fault = FailsBySource rows fault ⊎ FailsByFile (codes "schedule") rows fault
+
+-- the fault of LIST, D or G
+abbrev pub FailsByTerms : List Row → WordsFault → Type 0
+FailsByTerms rows fault =
+    FailsByList (codes "correct") rows fault ⊎ (FailsByDelta rows fault ⊎ FailsByGst rows fault)
 
 -- the fault of a value of `judge`
 abbrev pub FailsByJudge : List Row → WordsFault → Type 0
-FailsByJudge rows fault =
-    FailsByRun rows fault
-    ⊎ (FailsByList rows fault ⊎ (FailsByDelta rows fault ⊎ FailsByGst rows fault))
+FailsByJudge rows fault = FailsByRun rows fault ⊎ FailsByTerms rows fault
+
+-- the fault of a value of `lockstep`
+abbrev pub FailsByLockstep : List Row → WordsFault → Type 0
+FailsByLockstep rows fault =
+    FailsBySource rows fault
+    ⊎ (FailsByFile (codes "header") rows fault
+    ⊎ (FailsByTerms rows fault
+    ⊎ (FailsByTable (codes "delays") rows fault
+    ⊎ (FailsByTable (codes "orders") rows fault ⊎ FailsByTicks rows fault))))
 
 -- the fault of a command's values; a command of another name lacks all
 abbrev pub FailsByValue : Text → List Row → WordsFault → Type 0
@@ -104,8 +149,9 @@ FailsByValue name rows fault =
     ((name ≡ codes "check") × FailsBySource rows fault)
     ⊎ (((name ≡ codes "run") × FailsByRun rows fault)
     ⊎ (((name ≡ codes "judge") × FailsByJudge rows fault)
-    ⊎ (((name ≢ codes "check") × (name ≢ codes "run") × (name ≢ codes "judge"))
-    × (fault ≡ Missing))))
+    ⊎ (((name ≡ codes "lockstep") × FailsByLockstep rows fault)
+    ⊎ (((name ≢ codes "check") × (name ≢ codes "run") × (name ≢ codes "judge")
+    × (name ≢ codes "lockstep")) × (fault ≡ Missing)))))
 
 -- `clap` finds no mistake in the words, and a value of the command that they name has the fault
 abbrev pub HasBadValue : List Text → WordsFault → Type 0
@@ -122,6 +168,11 @@ has_negative option [] = false
 has_negative option (word ∷ rest) =
     (bytes_eq word option && begins_negative rest) || has_negative option rest
 
+-- a number below 0 follows an option that has a list
+abbrev pub has_negative_list : List Text → Bool
+has_negative_list words = has_negative (codes "--correct") words
+    || (has_negative (codes "--delays") words || has_negative (codes "--orders") words)
+
 -- a value isn't of its form, or is a number below 0
 abbrev pub HasBadNumber : Text → List Text → WordsFault → Type 0
 HasBadNumber option words fault = HasBadValue words fault ⊎ (has_negative option words ≡ true)
@@ -130,17 +181,19 @@ HasBadNumber option words fault = HasBadValue words fault ⊎ (has_negative opti
 -- finds none, and a value is missing or isn't of its form; or a number below 0 follows an option
 abbrev pub Explains : List Text → WordsFault → Type 0
 Explains words (Refused error) = IsAmong (kind_of error) (fault_of roundc_app words)
-Explains words fault.List = HasBadNumber (codes "--correct") words fault.List
+Explains words fault.List = HasBadValue words fault.List ⊎ (has_negative_list words ≡ true)
 Explains words fault.Delta = HasBadNumber (codes "--delta") words fault.Delta
 Explains words fault.Gst = HasBadNumber (codes "--gst") words fault.Gst
+Explains words fault.Ticks = HasBadNumber (codes "--ticks") words fault.Ticks
 Explains words NoMemory = ⊤
 Explains words fault = HasBadValue words fault
 
 -- what the code makes of an error of `clap`
 abbrev pub IsMistake : List Text → Error → WordsFault → Type 0
 IsMistake words error (Refused e) = (e ≡ error) × (kind_of error ≢ OutOfMemory)
-IsMistake words error fault.List = has_negative (codes "--correct") words ≡ true
+IsMistake words error fault.List = has_negative_list words ≡ true
 IsMistake words error fault.Delta = has_negative (codes "--delta") words ≡ true
 IsMistake words error fault.Gst = has_negative (codes "--gst") words ≡ true
+IsMistake words error fault.Ticks = has_negative (codes "--ticks") words ≡ true
 IsMistake words error NoMemory = kind_of error ≡ OutOfMemory
 IsMistake words error _ = ⊥

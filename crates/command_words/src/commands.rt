@@ -2,6 +2,7 @@
 ghost use Rattle.std.specs.Prelude.{◌≡◌, IfOk, codes, false};
 ghost use Rattle.clap.specs.Words.{rule_of};
 ghost use Rattle.command_words.specs.Commands.{IsCommandOf, check_app, decided_rule, judge_app};
+ghost use Rattle.command_words.specs.Commands.{lockstep_app, optional_rule, required_lockstep_app};
 ghost use Rattle.command_words.specs.Commands.{roundc_app, run_app, source_rule, text_rule};
 
 use clap::{Arg, ArgAction, Command};
@@ -28,6 +29,41 @@ fn value_arg<'a>(alloc: Global, name: &'a str, value: &'a str, help: &'a str) ->
         .value_name(value)
         .required(true)
         .help(help)
+}
+
+/// `--NAME VALUE`, an option of any text that may be left out.
+fn optional_arg<'a>(alloc: Global, name: &'a str, value: &'a str, help: &'a str) -> Arg<'a>
+    ensures rule { rule_of result ≡ optional_rule name.entry.now }
+    ensures local { result.global ≡ false }
+{
+    Arg::new(alloc, name)
+        .long(name)
+        .value_name(value)
+        .help(help)
+}
+
+/// `--correct LIST`.
+fn correct_arg<'a>(alloc: Global) -> Arg<'a>
+    ensures rule { rule_of result ≡ text_rule (codes "correct") }
+    ensures local { result.global ≡ false }
+{
+    value_arg(alloc, "correct", "LIST", "The correct nodes, as 0,2,3")
+}
+
+/// `--delta D`.
+fn delta_arg<'a>(alloc: Global) -> Arg<'a>
+    ensures rule { rule_of result ≡ text_rule (codes "delta") }
+    ensures local { result.global ≡ false }
+{
+    value_arg(alloc, "delta", "D", "The delay bound in steps, 1 to 1024")
+}
+
+/// `--gst G`.
+fn gst_arg<'a>(alloc: Global, help: &'a str) -> Arg<'a>
+    ensures rule { rule_of result ≡ text_rule (codes "gst") }
+    ensures local { result.global ≡ false }
+{
+    value_arg(alloc, "gst", "G", help)
 }
 
 /// `--schedule FILE`.
@@ -71,13 +107,59 @@ fn judge_command<'a>(alloc: Global) -> Result<Command<'a>, AllocError>
         .about("Says whether a schedule keeps lockstep and the delay bound")
         .arg(source_arg(alloc))?
         .arg(schedule_arg(alloc))?
-        .arg(value_arg(alloc, "correct", "LIST", "The correct nodes, as 0,2,3"))?
-        .arg(value_arg(alloc, "delta", "D", "The delay bound in steps, 1 to 1024"))?
-        .arg(value_arg(
+        .arg(correct_arg(alloc))?
+        .arg(delta_arg(alloc))?
+        .arg(gst_arg(alloc, "The step from which the bound is to hold"))
+}
+
+/// `--header FILE`.
+fn header_arg<'a>(alloc: Global) -> Arg<'a>
+    ensures rule { rule_of result ≡ text_rule (codes "header") }
+    ensures local { result.global ≡ false }
+{
+    value_arg(
+        alloc,
+        "header",
+        "FILE",
+        "The file of the five header lines, or - for standard input",
+    )
+}
+
+/// `lockstep SOURCE --header FILE --correct LIST --delta D --gst G`.
+fn required_lockstep<'a>(alloc: Global) -> Result<Command<'a>, AllocError>
+    ensures { IfOk result (IsCommandOf required_lockstep_app) }
+{
+    Command::new(alloc, "lockstep")
+        .about("Writes the schedule of a run in lockstep")
+        .arg(source_arg(alloc))?
+        .arg(header_arg(alloc))?
+        .arg(correct_arg(alloc))?
+        .arg(delta_arg(alloc))?
+        .arg(gst_arg(alloc, "The step from which the bound holds"))
+}
+
+/// The same with the terms that may be left out.
+fn lockstep_command<'a>(alloc: Global) -> Result<Command<'a>, AllocError>
+    ensures { IfOk result (IsCommandOf lockstep_app) }
+{
+    required_lockstep(alloc)?
+        .arg(optional_arg(
             alloc,
-            "gst",
-            "G",
-            "The step from which the bound is to hold",
+            "delays",
+            "LIST",
+            "The delays of the messages, by their serials",
+        ))?
+        .arg(optional_arg(
+            alloc,
+            "orders",
+            "LIST",
+            "The node that steps first in each tick",
+        ))?
+        .arg(optional_arg(
+            alloc,
+            "ticks",
+            "T",
+            "How many ticks, where it isn't what the rounds need",
         ))
 }
 
@@ -104,5 +186,6 @@ pub(crate) fn roundc_command<'a>(alloc: Global) -> Result<Command<'a>, AllocErro
         .subcommand_required(true)
         .subcommand(check_command(alloc)?)?
         .subcommand(run_command(alloc)?)?
-        .subcommand(judge_command(alloc)?)
+        .subcommand(judge_command(alloc)?)?
+        .subcommand(lockstep_command(alloc)?)
 }

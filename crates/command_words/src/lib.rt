@@ -4,11 +4,13 @@
 //! roundc check SOURCE
 //! roundc run SOURCE --schedule FILE
 //! roundc judge SOURCE --schedule FILE --correct LIST --delta D --gst G
+//! roundc lockstep SOURCE --header FILE --correct LIST --delta D --gst G [--delays LIST]
+//!     [--orders LIST] [--ticks T]
 //! ```
 //!
 //! SOURCE is a file's name, or `@NAME:VALUES`, a program of the library. FILE is a file's name, or
-//! `-` for standard input: what `-` means is left to the caller, who opens the file. LIST is node
-//! numbers with commas, D a number of 1 to 1,024, G a number of 32 bits.
+//! `-` for standard input: what `-` means is left to the caller, who opens the file. LIST is
+//! numbers with commas, D a number of 1 to 1,024, G and T are numbers of 32 bits.
 #![tactic(auto)]
 
 mod commands;

@@ -1,4 +1,4 @@
-//! The values SOURCE, LIST, D and G, which `clap` passes on as any text.
+//! The values SOURCE, LIST, D, G and T, which `clap` passes on as any text.
 ghost use Rattle.std.specs.Prelude.{◌≡◌, ◌≢◌, ◌↔◌, ◌∷◌, ◌++◌, [], ℕ, List, IfErr, IfNone, IfOk};
 ghost use Rattle.std.specs.Prelude.{IfSome, IsTrue, MatchOption, min};
 ghost use Rattle.std.specs.Char.{is_ascii_digit};

@@ -1,12 +1,14 @@
 //! What the words say.
 ghost use Rattle.std.specs.Prelude.{◌≡◌, ◌≢◌, ◌⊎◌, ◌↔◌, [], IfErr, IfOk, IsTrue, OnErr, OnOk};
-ghost use Rattle.std.specs.Prelude.{codes, map};
+ghost use Rattle.std.specs.Prelude.{codes, map, option_map};
 ghost use Rattle.clap.specs.Words.{fault_of, first_of, found_of, kind_of, rows_of};
 ghost use Rattle.command_words.specs.Commands.{roundc_app};
 ghost use Rattle.command_words.specs.Given.{Explains, FailsByDelta, FailsByGst, FailsByJudge};
-ghost use Rattle.command_words.specs.Given.{FailsByList, FailsBySource, FailsByValue, Gives};
-ghost use Rattle.command_words.specs.Given.{GivesDelta, GivesGst, GivesList, GivesSource, HasFlag};
-ghost use Rattle.command_words.specs.Given.{IsMistake, Means, begins_negative, has_negative};
+ghost use Rattle.command_words.specs.Given.{FailsByList, FailsByLockstep, FailsBySource};
+ghost use Rattle.command_words.specs.Given.{FailsByTable, FailsByTicks, FailsByValue, Gives};
+ghost use Rattle.command_words.specs.Given.{GivesDelta, GivesGst, GivesList, GivesSource};
+ghost use Rattle.command_words.specs.Given.{GivesTable, GivesTicks, HasFlag, IsMistake, Means};
+ghost use Rattle.command_words.specs.Given.{begins_negative, has_negative, has_negative_list};
 ghost use Rattle.command_words.specs.Values.{is_negative};
 ghost use Rattle.command_words.specs.declared.words.WordsFault.TheVariants.{NoMemory};
 
@@ -39,6 +41,18 @@ pub enum Words<'a> {
         delta: u32,
         gst: u32,
     },
+    /// `lockstep SOURCE --header FILE --correct LIST --delta D --gst G [--delays LIST]
+    /// [--orders LIST] [--ticks T]`; a LIST that is left out is empty.
+    Lockstep {
+        source: Source<'a>,
+        header: &'a str,
+        correct: Vec<u32>,
+        delta: u32,
+        gst: u32,
+        delays: Vec<u32>,
+        orders: Vec<u32>,
+        ticks: Option<u32>,
+    },
 }
 
 /// Why the words give no command.
@@ -59,6 +73,8 @@ pub enum WordsFault {
     Delta,
     /// A G that isn't a number of 32 bits, also one below 0.
     Gst,
+    /// A T that isn't a number of 32 bits, also one below 0.
+    Ticks,
     /// Memory ran out. Nothing is known of the words.
     NoMemory,
 }
@@ -110,6 +126,15 @@ fn begins_negative(words: &[&str]) -> bool
     }
 }
 
+/// Whether a number below 0 follows an option that has a list.
+fn has_negative_list(words: &[&str]) -> bool
+    ensures { result ≡ has_negative_list (map (λ s. s.now) words.now) }
+{
+    has_negative("--correct", words)
+        || has_negative("--delays", words)
+        || has_negative("--orders", words)
+}
+
 /// The program's own word for an error of `clap`, which takes a number below 0 for an option.
 fn refusal(error: clap::Error, words: &[&str]) -> WordsFault
     ensures { IsMistake (map (λ s. s.now) words.now) error result }
@@ -117,9 +142,10 @@ fn refusal(error: clap::Error, words: &[&str]) -> WordsFault
     match error.kind() {
         ErrorKind::OutOfMemory => WordsFault::NoMemory,
         ErrorKind::DisplayHelp | ErrorKind::DisplayVersion => WordsFault::Refused(error),
-        _ if has_negative("--correct", words) => WordsFault::List,
+        _ if has_negative_list(words) => WordsFault::List,
         _ if has_negative("--delta", words) => WordsFault::Delta,
         _ if has_negative("--gst", words) => WordsFault::Gst,
+        _ if has_negative("--ticks", words) => WordsFault::Ticks,
         _ => WordsFault::Refused(error),
     }
 }
@@ -133,6 +159,13 @@ fn text_of<'a>(matches: &ArgMatches<'a>, id: &str) -> Result<&'a str, WordsFault
     matches.get_str(id).ok_or(WordsFault::Missing)
 }
 
+/// The value of an argument that may be left out.
+fn optional_text<'a>(matches: &ArgMatches<'a>, id: &str) -> Option<&'a str>
+    ensures { first_of id.now (rows_of (found_of matches.now)) ≡ option_map (λ t. t.now) result }
+{
+    matches.get_str(id)
+}
+
 /// The value of SOURCE, in its two forms.
 fn source_of<'a>(matches: &ArgMatches<'a>) -> Result<Source<'a>, WordsFault>
     ensures ok { IfOk result (GivesSource (rows_of (found_of matches.now))) }
@@ -144,11 +177,38 @@ fn source_of<'a>(matches: &ArgMatches<'a>) -> Result<Source<'a>, WordsFault>
 
 /// The value of LIST.
 fn correct_of(alloc: Global, matches: &ArgMatches<'_>) -> Result<Vec<u32>, WordsFault>
-    ensures ok { IfOk result (λ list. GivesList (rows_of (found_of matches.now)) list.items) }
-    ensures err { IfErr result (FailsByList (rows_of (found_of matches.now))) }
+    ensures ok { IfOk result (λ list.
+        GivesList (codes "correct") (rows_of (found_of matches.now)) list.items) }
+    ensures err { IfErr result (FailsByList (codes "correct") (rows_of (found_of matches.now))) }
 {
     let text = text_of(matches, "correct")?;
     read_list(alloc, text)
+}
+
+/// The value of a LIST that may be left out.
+fn table_of(alloc: Global, matches: &ArgMatches<'_>, id: &str) -> Result<Vec<u32>, WordsFault>
+    ensures ok { IfOk result (λ list.
+        GivesTable id.now (rows_of (found_of matches.now)) list.items) }
+    ensures err { IfErr result (FailsByTable id.now (rows_of (found_of matches.now))) }
+{
+    match optional_text(matches, id) {
+        Some(text) => read_list(alloc, text),
+        None => Ok(Vec::new(alloc)),
+    }
+}
+
+/// The value of T, where it isn't left out.
+fn ticks_of(matches: &ArgMatches<'_>) -> Result<Option<u32>, WordsFault>
+    ensures ok { IfOk result (GivesTicks (rows_of (found_of matches.now))) }
+    ensures err { IfErr result (FailsByTicks (rows_of (found_of matches.now))) }
+{
+    match optional_text(matches, "ticks") {
+        None => Ok(None),
+        Some(text) => match read_number(text) {
+            Some(ticks) => Ok(Some(ticks)),
+            None => Err(WordsFault::Ticks),
+        },
+    }
 }
 
 /// Whether `--decided` stands there.
@@ -196,6 +256,23 @@ fn judge_of<'a>(alloc: Global, matches: &ArgMatches<'a>) -> Result<Words<'a>, Wo
     })
 }
 
+/// The values of the command `lockstep`.
+fn lockstep_of<'a>(alloc: Global, matches: &ArgMatches<'a>) -> Result<Words<'a>, WordsFault>
+    ensures ok { IfOk result (Gives (codes "lockstep") (rows_of (found_of matches.now))) }
+    ensures err { IfErr result (FailsByLockstep (rows_of (found_of matches.now))) }
+{
+    Ok(Words::Lockstep {
+        source: source_of(matches)?,
+        header: text_of(matches, "header")?,
+        correct: correct_of(alloc, matches)?,
+        delta: delta_of(matches)?,
+        gst: gst_of(matches)?,
+        delays: table_of(alloc, matches, "delays")?,
+        orders: table_of(alloc, matches, "orders")?,
+        ticks: ticks_of(matches)?,
+    })
+}
+
 /// The values of the command `name`.
 fn command_of<'a>(
     alloc: Global,
@@ -215,6 +292,7 @@ fn command_of<'a>(
             decided: is_decided(matches),
         }),
         "judge" => judge_of(alloc, matches),
+        "lockstep" => lockstep_of(alloc, matches),
         _ => Err(WordsFault::Missing),
     }
 }
@@ -223,8 +301,8 @@ fn command_of<'a>(
 ///
 /// A value that is missing, a repeated option, an unknown word, no word at all and a call for help
 /// or the version are `WordsFault::Refused`, with `clap`'s error. Where SOURCE has a fault too,
-/// `clap`'s goes first. Where `clap` refuses the words and an option of `judge` has a number below
-/// 0 behind it, that is told.
+/// `clap`'s goes first. Where `clap` refuses the words and an option that takes numbers has a number
+/// below 0 behind it, that is told.
 pub fn read_words<'a>(alloc: Global, words: &'a [&'a str]) -> Result<Words<'a>, WordsFault>
     // The command and its values are those of `clap`'s definition of a simple command's matches,
     // in which it finds no mistake.

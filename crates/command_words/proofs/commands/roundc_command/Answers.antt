@@ -8,4 +8,5 @@ pub returns : goal.returns
 returns c =
     let first = subcommand_added _ _ _ bare_app _ c.in_ok-subcommand.ensures (search rules) c.in_ok-check_command.ensures in
     let second = subcommand_added _ _ _ _ _ c.in_ok-subcommand-2.ensures first c.in_ok-run_command.ensures in
-    IfOk-weaker c.subcommand-3.result _ _ (λ r h. subcommand_added _ _ _ _ _ h second c.in_ok-judge_command.ensures) c.subcommand-3.ensures
+    let third = subcommand_added _ _ _ _ _ c.in_ok-subcommand-3.ensures second c.in_ok-judge_command.ensures in
+    IfOk-weaker c.subcommand-4.result _ _ (λ r h. subcommand_added _ _ _ _ _ h third c.in_ok-lockstep_command.ensures) c.subcommand-4.ensures
