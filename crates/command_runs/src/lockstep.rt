@@ -62,11 +62,7 @@ impl<'a> Paced<'a> {
 }
 
 /// The header in a file.
-fn header_in<D: Desk>(
-    alloc: Global,
-    name: &str,
-    desk: &mut D,
-) -> Result<(Setup, PlanKind), Refusal>
+fn header_in<D: Desk>(alloc: Global, name: &str, desk: &mut D) -> Result<(Setup, PlanKind), Refusal>
     ensures header { IfOk result (λ h. IfSome (D.files desk.old name.now)
         (λ text. IsHeader text h.0 h.1)) }
     ensures refused { IfErr result (IsNoHeader (D.files desk.old name.now)) }

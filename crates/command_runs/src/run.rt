@@ -10,7 +10,7 @@ ghost use Rattle.command_runs.specs.Stages.{TellsLockstep};
 use crate::asking::{Answer, Question, Run};
 use crate::desk::Desk;
 use crate::explained::Terms;
-use crate::lockstep::{Pacing, Paced};
+use crate::lockstep::{Paced, Pacing};
 use crate::refusal::Refusal;
 use crate::sources::Opened;
 use command_words::{Source, Words, WordsFault, read_words};

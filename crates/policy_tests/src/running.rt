@@ -30,7 +30,16 @@ fn nodes(alloc: Global, text: &str) -> Result<NodeSet, Fault> {
 
 /// The schedule of the run that the words ask for.
 pub fn schedule(alloc: Global, words: &[String]) -> Result<String, Fault> {
-    let [values, inputs, rounds, receives, correct, ticks, policy @ ..] = words else {
+    let [
+        values,
+        inputs,
+        rounds,
+        receives,
+        correct,
+        ticks,
+        policy @ ..,
+    ] = words
+    else {
         return Err(Fault::Unreadable);
     };
     let program = gather(alloc, values.as_str())?;
