@@ -48,7 +48,8 @@ ComesTo start v flight _ _ = ⊥
 abbrev pub CountsAsNone : (ℕ → ℕ) → Log → List InFlight → Choice → Type 0
 CountsAsNone start v flight (choice.Release k) = length flight ≤ k
 CountsAsNone start v flight (choice.Drop k) = length flight ≤ k
-CountsAsNone start v flight (choice.Copy k) = (n : Name) → IsAtPlace flight k n → HasNoCopy start v n
+CountsAsNone start v flight (choice.Copy k) =
+    (n : Name) → IsAtPlace flight k n → HasNoCopy start v n
 
 -- what an answer comes to
 abbrev pub AnswerComesTo : (ℕ → ℕ) → Log → List InFlight → Option Choice → Option Event → Type 0

@@ -10,10 +10,12 @@
 //! ```
 //!
 //! With `run`, standard output has the schedule of a run of `gather` in which the policy is asked,
-//! or `refused`; INPUTS and CORRECT have commas, and `-` stands for none. Else each line of standard input is a call: the tick, and then the messages in flight, each as its
-//! name, `sent_at` and `serial`, `0.1.1.0.5.7`. A line of standard output has the choice: `none`,
-//! `release 0`, `drop 0` or `copy 0`. A name is `FROM.TO.ROUND.COPY`, and a choice among the words
-//! is `release.0`.
+//! or `refused`; INPUTS and CORRECT have commas, and `-` stands for none.
+//!
+//! Else each line of standard input is a call: the tick, and then the messages in flight, each as
+//! its name, `sent_at` and `serial`, `0.1.1.0.5.7`. A line of standard output has the choice:
+//! `none`, `release 0`, `drop 0` or `copy 0`. A name is `FROM.TO.ROUND.COPY`, and a choice among
+//! the words is `release.0`.
 #![tactic(auto)]
 
 mod chosen;
