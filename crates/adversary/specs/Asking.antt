@@ -8,32 +8,15 @@ use Rattle.round_meaning.specs.declared.setup.Setup.{Setup}
 use Rattle.round_meaning.specs.Nodes.{has_node}
 use Rattle.round_meaning.specs.Setups.{IsLawful}
 use Rattle.step_book.specs.Flight.{IsFlight}
-use Rattle.step_book.specs.Log.{CanCopy, Log}
+use Rattle.step_book.specs.Log.{HasNoCopy, IsLeastCopy, Log}
 use Rattle.step_machine.specs.declared.event.Event.{Event}
 use Rattle.step_machine.specs.declared.event.Event.TheVariants.{Step, Release, Drop, Copy}
 use Rattle.step_machine.specs.declared.event.InFlight.{InFlight}
 use Rattle.step_machine.specs.declared.event.Name.{Name}
-use Rattle.step_machine.specs.Frames.{max_copy}
 
 -- the copy at this place of those in flight has this name
 abbrev pub IsAtPlace : List InFlight → ℕ → Name → Type 0
 IsAtPlace flight k n = (k < length flight) × ((d : InFlight) → (slice_index_or flight k d).name ≡ n)
-
--- copy c of the message was never made and can be
-abbrev pub CanMake : (ℕ → ℕ) → Log → Name → ℕ → Type 0
-CanMake start v n c = CanCopy start v (record n { copy = c })
-
--- the least copy that can be made of what is in flight under this name, which is copy 0
-pub record IsLeastCopy (start : ℕ → ℕ) (v : Log) (n : Name) (c : ℕ) : Type 0 where
-  pub original : n.copy ≡ 0
-  pub other : 0 < c
-  pub few : c ≤ max_copy
-  pub can : CanMake start v n c
-  pub least : (d : ℕ) → 0 < d → d < c → ¬ (CanMake start v n d)
-
--- there is none: it's a copy itself, or all copies were made
-abbrev pub HasNoCopy : (ℕ → ℕ) → Log → Name → Type 0
-HasNoCopy start v n = n.copy ≡ 0 → (d : ℕ) → 0 < d → d ≤ max_copy → ¬ (CanMake start v n d)
 
 -- the event that a choice comes to
 abbrev pub ComesTo : (ℕ → ℕ) → Log → List InFlight → Choice → Event → Type 0

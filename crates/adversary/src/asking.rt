@@ -7,8 +7,8 @@ ghost use Rattle.step_book.specs.Flight.{IsFlight};
 ghost use Rattle.step_book.specs.Log.{opened};
 ghost use Rattle.step_book.specs.Names.{IsName};
 ghost use Rattle.policies.specs.declared.policy.Choice.TheVariants as choice;
-ghost use Rattle.adversary.specs.Asking.{AnswerComesTo, HasNoCopy, HasStepped, IsAsked};
-ghost use Rattle.adversary.specs.Asking.{IsAskedOut, IsAtPlace, IsFitFor, IsLeastCopy, RunsAsked};
+ghost use Rattle.adversary.specs.Asking.{AnswerComesTo, HasStepped, IsAsked, IsAskedOut};
+ghost use Rattle.adversary.specs.Asking.{IsAtPlace, IsFitFor, RunsAsked};
 ghost use Rattle.adversary.specs.Driving.{ClosedAreDue, IsKnown};
 
 use crate::driver::Driver;
@@ -21,7 +21,7 @@ use slot_plans::Plan;
 use std::alloc::Global;
 use step_book::Book;
 use step_journal::Journal;
-use step_machine::{Event, InFlight, MAX_COPY, Name};
+use step_machine::{Event, InFlight, Name};
 
 /// The journal of a run of `ticks` ticks in which a policy decides what the network does.
 ///
@@ -171,7 +171,7 @@ fn copy_at<P: Plan>(book: &Book<P>, flight: &[InFlight], place: usize) -> Option
         (Option.Some (choice.Copy place)) result }
 {
     match name_at(book, flight, place) {
-        Some(name) => match next_copy(book, name) {
+        Some(name) => match book.next_copy(name) {
             Some(copied) => Some(Event::Copy(copied)),
             None => None,
         },
@@ -191,24 +191,4 @@ fn name_at<P: Plan>(book: &Book<P>, flight: &[InFlight], place: usize) -> Option
         Some(message) => Some(message.name),
         None => None,
     }
-}
-
-/// The least copy that can be made of a message.
-fn next_copy<P: Plan>(book: &Book<P>, name: Name) -> Option<Name>
-    requires { IsName book.now.log.setup name }
-    ensures some { IfSome result (λ copied. (copied ≡ record name { copy = copied.copy })
-        × IsLeastCopy (P.start book.now.plan) book.now.log name copied.copy) }
-    ensures known { IfSome result (IsName book.now.log.setup) }
-    ensures none { result ≡ None → HasNoCopy (P.start book.now.plan) book.now.log name }
-{
-    if name.copy != 0 {
-        return None;
-    }
-    for copy in 1..MAX_COPY + 1 {
-        let copied = Name { copy, ..name };
-        if book.can_copy(copied) {
-            return Some(copied);
-        }
-    }
-    None
 }

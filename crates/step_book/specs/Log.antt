@@ -20,7 +20,7 @@ use Rattle.step_book.specs.Trace.{steps}
 use Rattle.step_book.specs.World.{World, IsPlan, is_receive}
 use Rattle.step_machine.specs.declared.event.Event.{Event}
 use Rattle.step_machine.specs.declared.event.Name.{Name}
-use Rattle.step_machine.specs.Frames.{original}
+use Rattle.step_machine.specs.Frames.{max_copy, original}
 use Rattle.step_machine.specs.Nodes.{NodeView, algorithm_in, held_now, inbox_of}
 
 -- a run so far: its program and setup, the events in their order, and the states of each node after
@@ -89,6 +89,22 @@ IsFlying start v n = mark_in start v n ≡ Flying
 -- the copy was never made, and copy 0 is in flight
 abbrev pub CanCopy : (ℕ → ℕ) → Log → Name → Type 0
 CanCopy start v n = IsFlying start v (original n) × (mark_in start v n ≡ Unsent)
+
+-- copy c of the message was never made and can be
+abbrev pub CanMake : (ℕ → ℕ) → Log → Name → ℕ → Type 0
+CanMake start v n c = CanCopy start v (record n { copy = c })
+
+-- the least copy that can be made of what is in flight under this name, which is copy 0
+pub record IsLeastCopy (start : ℕ → ℕ) (v : Log) (n : Name) (c : ℕ) : Type 0 where
+  pub original : n.copy ≡ 0
+  pub other : 0 < c
+  pub few : c ≤ max_copy
+  pub can : CanMake start v n c
+  pub least : (d : ℕ) → 0 < d → d < c → ¬ (CanMake start v n d)
+
+-- there is none: it's a copy itself, or no copy more can be made
+abbrev pub HasNoCopy : (ℕ → ℕ) → Log → Name → Type 0
+HasNoCopy start v n = n.copy ≡ 0 → (d : ℕ) → 0 < d → d ≤ max_copy → ¬ (CanMake start v n d)
 
 -- a round of the node is due and isn't closed
 abbrev pub IsDue : (ℕ → ℕ) → Log → ℕ → Type 0

@@ -1,6 +1,7 @@
 //! What a run has recorded, by the names of its messages.
 ghost use Rattle.std.specs.Prelude.{◌≡◌, ◌+◌, ◌-◌, ◌*◌, ◌^◌, ◌<◌, ◌≤◌, ◌++◌, ◌↔◌, [], IfErr, IfOk};
-ghost use Rattle.std.specs.Prelude.{IsTrue, MatchOption, OnErr, OnOk, length, option_map};
+ghost use Rattle.std.specs.Prelude.{IfSome, IsTrue, MatchOption, None, OnErr, OnOk, length};
+ghost use Rattle.std.specs.Prelude.{option_map};
 ghost use Rattle.round_meaning.specs.Rounds.{algorithm_of};
 ghost use Rattle.round_meaning.specs.Setups.{IsLawful};
 ghost use Rattle.step_machine.specs.Frames.{IsPrepared, original};
@@ -11,7 +12,8 @@ ghost use Rattle.step_book.specs.Causes.{IsReceiveFit, IsSendFit, ReceiveCause, 
 ghost use Rattle.step_book.specs.Flight.{IsFlight, IsFlightBefore};
 ghost use Rattle.step_book.specs.History.{answers_of, arrival, copied, dropped, handed_of, let_go};
 ghost use Rattle.step_book.specs.History.{spoken};
-ghost use Rattle.step_book.specs.Log.{CanCopy, IsDue, IsFaithful, IsFlying, IsReceive, SameMarks};
+ghost use Rattle.step_book.specs.Log.{CanCopy, HasNoCopy, IsDue, IsFaithful, IsFlying, IsLeastCopy};
+ghost use Rattle.step_book.specs.Log.{IsReceive, SameMarks};
 ghost use Rattle.step_book.specs.Log.{SameMarksBut, SameWaiting, SameWaitingBut, closed, count_of};
 ghost use Rattle.step_book.specs.Log.{happened, history, mark_in, opened, round_of, state_before};
 ghost use Rattle.step_book.specs.Log.{states_of, waiting_in, world_of};
@@ -211,6 +213,27 @@ impl<P: Plan> Book<P> {
         ensures { IsTrue result ↔ CanCopy (P.start self.now.plan) self.now.log name }
     {
         self.is_flying(name.original()) && self.mark(name) == Mark::Unsent
+    }
+
+    /// The least copy of a message in flight that the network can make; none of what is a copy
+    /// itself.
+    pub fn next_copy(&self, name: Name) -> Option<Name>
+        requires { IsName self.now.log.setup name }
+        ensures some { IfSome result (λ copied. (copied ≡ record name { copy = copied.copy })
+            × IsLeastCopy (P.start self.now.plan) self.now.log name copied.copy) }
+        ensures known { IfSome result (IsName self.now.log.setup) }
+        ensures none { result ≡ None → HasNoCopy (P.start self.now.plan) self.now.log name }
+    {
+        if name.copy != 0 {
+            return None;
+        }
+        for copy in 1..MAX_COPY + 1 {
+            let copied = Name { copy, ..name };
+            if self.can_copy(copied) {
+                return Some(copied);
+            }
+        }
+        None
     }
 
     /// The names that wait for a node.

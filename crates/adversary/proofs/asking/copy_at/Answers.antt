@@ -1,5 +1,5 @@
 use Rattle.std.proofs.Common.{subst}
-use Rattle.adversary.specs.Asking.{HasNoCopy}
+use Rattle.step_book.specs.Log.{HasNoCopy}
 use Rattle.adversary.proofs.Asked.{at_same}
 use Rattle.adversary.proofs.asking.copy_at.Goals as goal
 
