@@ -2,3 +2,4 @@ pub mod Copies
 pub mod Received
 pub mod Alike
 pub mod NetworkEvents
+pub mod Copied

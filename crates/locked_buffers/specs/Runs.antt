@@ -1,12 +1,14 @@
 -- The run that what stands under a lock has to be of.
-use Rattle.std.specs.Prelude.{◌≡◌, ℕ, List, length}
+use Rattle.std.specs.Prelude.{◌≡◌, ℕ, ◌++◌, List, drop, length, Option, None, Some}
 use Rattle.round_lang.specs.Syntax.{ProgramTree}
 use Rattle.round_meaning.specs.Rounds.{Algorithm, algorithm_of}
 use Rattle.round_meaning.specs.Setups.{IsLawful}
 use Rattle.round_meaning.specs.declared.setup.Setup.{Setup}
 use Rattle.step_book.specs.Flight.{IsFlight}
-use Rattle.step_book.specs.Log.{Recorded}
+use Rattle.step_book.specs.Log.{HasNoCopy, IsLeastCopy, Recorded, history, world_of}
+use Rattle.step_book.specs.Serials.{AreSent}
 use Rattle.step_machine.specs.declared.event.InFlight.{InFlight}
+use Rattle.step_machine.specs.declared.event.Name.{Name}
 
 -- a run by its plan, program and setup
 pub record Run (P : Type 0) : Type 0 where
@@ -35,3 +37,23 @@ pub record IsFlightOfOne {P : Type 0} (start : P → ℕ → ℕ) (flight : List
   pub one : Recorded P
   pub flies : IsFlight (start one.plan) one.log flight
   pub counted : count ≡ length one.log.trace
+
+-- these are the messages that were sent by the events of some record, but for this many that were
+-- sent first, after those that were there before; and how many events it has
+pub record AddsSent {P : Type 0} (start : P → ℕ → ℕ) (known : ℕ) (old new : List Name) (count : ℕ)
+    : Type 0 where
+  pub one : Recorded P
+  pub messages : List Name
+  pub are : AreSent (world_of (start one.plan) one.log) (history one.log) messages
+  pub adds : new ≡ old ++ drop known messages
+  pub counted : count ≡ length one.log.trace
+
+-- the copy is the least of the message that can be made after a record, or there is none
+abbrev pub IsNextCopy : {P : Type 0} → (P → ℕ → ℕ) → Recorded P → Name → Option Name → Type 0
+IsNextCopy start one n (Some m) =
+    (m ≡ record n { copy = m.copy }) × IsLeastCopy (start one.plan) one.log n m.copy
+IsNextCopy start one n None = HasNoCopy (start one.plan) one.log n
+
+-- it is so after the events of some record
+abbrev pub IsNextCopyInOne : {P : Type 0} → (P → ℕ → ℕ) → Name → Option Name → Type 0
+IsNextCopyInOne {P} start n o = (one : Recorded P) × IsNextCopy start one n o

@@ -1,5 +1,6 @@
 //! A run under locks.
 ghost use Rattle.std.specs.Prelude.{◌≡◌, ◌+◌, ◌<◌, ◌∷◌, ◌++◌, ◌↔◌, [], All, EachIndex, IfErr, IfOk};
+ghost use Rattle.std.specs.Prelude.{IfSome};
 ghost use Rattle.std.specs.Prelude.{MatchResult, OnErr, OnOk, slice_index_or, vec_len};
 ghost use Rattle.round_meaning.specs.Setups.{IsLawful};
 ghost use Rattle.step_book.specs.Log.{end_state};
@@ -9,7 +10,8 @@ ghost use Rattle.step_machine.specs.Frames.{IsPrepared};
 ghost use Rattle.step_machine.specs.declared.event.Event.TheVariants as event;
 ghost use Rattle.locked_buffers.specs.Accounts.{AccountsAgree};
 ghost use Rattle.locked_buffers.specs.Commits.{told_with};
-ghost use Rattle.locked_buffers.specs.Runs.{IsBookOfRun, IsFlightOfOne, algorithm_by};
+ghost use Rattle.locked_buffers.specs.Runs.{AddsSent, IsBookOfRun, IsFlightOfOne, IsNextCopyInOne};
+ghost use Rattle.locked_buffers.specs.Runs.{algorithm_by};
 ghost use Rattle.locked_buffers.specs.Seats.{Account, CloseBlame, MayClose, MayReceive, MaySend};
 ghost use Rattle.locked_buffers.specs.Seats.{ReceiveBlame, SendBlame, opening};
 
@@ -264,6 +266,40 @@ impl<P: Plan> Post<P> {
         let book = self.book.lock(rt);
         let flight = book.flight(self.alloc)?;
         Ok((flight, book.trace().len()))
+    }
+
+    /// Adds to this list the names of the messages that were sent, but for this many that were sent
+    /// first, in the order of their serials, and answers how many events are recorded: both of one
+    /// moment, since they are read under one lock.
+    pub fn sent_since<R: Wait>(
+        &self,
+        rt: &R,
+        known: usize,
+        sent: &mut Vec<Name>,
+    ) -> Result<usize, NoMemory>
+        ensures ok { IfOk result (λ count. AddsSent P.start known sent.old.items sent.new.items
+            count) }
+        ensures err { OnErr result (sent.new.items ≡ sent.old.items) }
+    {
+        let book = self.book.lock(rt);
+        if let Some(rest) = book.messages().get(known..) {
+            sent.extend_from_slice(rest)?;
+        }
+        Ok(book.trace().len())
+    }
+
+    /// The least copy of a message in flight that the network can make; none of what is a copy
+    /// itself.
+    pub fn next_copy<R: Wait>(&self, rt: &R, name: Name) -> Result<Option<Name>, RelayFault>
+        requires { IsName self.now.setup name }
+        ensures ok { IfOk result (IsNextCopyInOne P.start name) }
+        ensures known { IfOk result (λ copied. IfSome copied (IsName self.now.setup)) }
+    {
+        let book = self.book.lock(rt);
+        if !self.run.setup.same(book.setup()) {
+            return Err(RelayFault::Stranger);
+        }
+        Ok(book.next_copy(name))
     }
 
     /// The journal of the run, where the seats and the relay were told what is recorded of it, and
