@@ -4,6 +4,7 @@ use Rattle.std.specs.Prelude.{slice_index_or}
 use Rattle.locked_buffers.specs.Runs.{Run}
 use Rattle.locked_buffers.specs.Seats.{Account, IsDueBy, round_by}
 use Rattle.round_meaning.specs.Setups.{max_rounds}
+use Rattle.schedule_text.specs.declared.pace.Stop.{Stop}
 use Rattle.step_machine.specs.Nodes.{HasPlaces, NodeView}
 use Rattle.node_threads.specs.declared.ended.Ended.{Ended}
 use Rattle.node_threads.specs.declared.ended.Ended.TheVariants.{Done, Stopped}
@@ -41,7 +42,7 @@ pub record IsEnded (start : ℕ → ℕ) (rounds : ℕ) (stop : Option ℕ) (a :
       → (stop ≡ Some a.steps) × (a.steps < start (rounds + 1)) × (¬ IsDueBy start rounds a)
 
 -- each seat is as its thread ended
-pub record SeatsEnded (start : ℕ → ℕ) (rounds : ℕ) (stops : List (ℕ × ℕ)) (seats : List Account)
+pub record SeatsEnded (start : ℕ → ℕ) (rounds : ℕ) (stops : List Stop) (seats : List Account)
     (ends : List Ended) : Type 0 where
   pub sized : length ends ≡ length seats
   pub each : (i : ℕ) (d : Account) (e : Ended) → i < length seats

@@ -1,3 +1,5 @@
 pub mod Stops
 pub mod Bodies
 pub mod Choices
+pub mod Ends
+pub mod Faults

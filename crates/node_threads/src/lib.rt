@@ -4,10 +4,16 @@
 mod body;
 mod clock;
 mod ended;
+mod fault;
+mod flight;
 mod job;
+mod laws;
 mod network;
+mod run;
 mod stops;
 
 pub use body::{Beat, Halt, run_steps};
 pub use ended::Ended;
-pub use schedule_text::Pace;
+pub use laws::run_again;
+pub use run::run_threads;
+pub use schedule_text::{Pace, Stop};

@@ -1,12 +1,13 @@
 //! The network's thread.
-ghost use Rattle.std.specs.Prelude.{◌≡◌, ◌≤◌, ◌↔◌, IfOk, IsTrue, OnErr, true};
+ghost use Rattle.std.specs.Prelude.{◌≡◌, ◌+◌, ◌<◌, ◌≤◌, ◌↔◌, IfOk, IsTrue, OnErr, Option, length};
 ghost use Rattle.locked_buffers.specs.Commits.{told_with};
+ghost use Rattle.round_meaning.specs.Setups.{max_rounds};
 ghost use Rattle.step_book.specs.Names.{IsName};
-ghost use Rattle.step_machine.specs.declared.event.Event.TheVariants as event;
-ghost use Rattle.node_threads.specs.Choices.{copies_of, event_of, is_same_message, next_copy};
+ghost use Rattle.node_threads.specs.Choices.{ComesToInOne, IsCopyInOne, halt_of};
 
 use crate::body::Halt;
 use crate::clock::Clock;
+use crate::flight::Flight;
 use locked_buffers::{Post, Relay, RelayFault};
 use policies::{Choice, Policy};
 use round_meaning::Setup;
@@ -15,63 +16,6 @@ use slot_plans::Plan;
 use std::alloc::Global;
 use std::sync::Wait;
 use step_machine::{Event, InFlight, MAX_COPY, Name};
-
-fn is_same_message(one: Name, other: Name) -> bool
-    ensures { result ≡ is_same_message one other }
-{
-    one.from == other.from && one.to == other.to && one.round == other.round
-}
-
-/// How many of these copies are of the message.
-fn copies_of(made: &[Name], name: Name) -> usize
-    ensures { result ≡ copies_of made.now name }
-{
-    let mut count = 0;
-    for copy in made {
-        if is_same_message(*copy, name) {
-            count += 1;
-        }
-    }
-    count
-}
-
-/// The message's least copy that wasn't made, where these were.
-fn next_copy(made: &[Name], name: Name) -> Option<Event>
-    ensures { result ≡ next_copy made.now name }
-{
-    if name.copy != 0 {
-        return None;
-    }
-    let count = copies_of(made, name);
-    if count >= MAX_COPY as usize {
-        return None;
-    }
-    Some(Event::Copy(Name {
-        copy: count as u32 + 1,
-        ..name
-    }))
-}
-
-/// What the network does by a choice over these messages in flight, where these copies were made.
-fn event_of(made: &[Name], flight: &[InFlight], choice: Option<Choice>) -> Option<Event>
-    ensures { result ≡ event_of made.now flight.now choice }
-{
-    match choice {
-        None => None,
-        Some(Choice::Release(place)) => {
-            let message = flight.get(place)?;
-            Some(Event::Release(message.name))
-        }
-        Some(Choice::Drop(place)) => {
-            let message = flight.get(place)?;
-            Some(Event::Drop(message.name))
-        }
-        Some(Choice::Copy(place)) => {
-            let message = flight.get(place)?;
-            next_copy(made, message.name)
-        }
-    }
-}
 
 fn is_name(setup: &Setup, name: Name) -> bool
     ensures { IsTrue result ↔ IsName setup.now name }
@@ -88,10 +32,41 @@ fn is_name(setup: &Setup, name: Name) -> bool
 pub(crate) struct Network<'a, P: Plan> {
     post: &'a Post<P>,
     setup: &'a Setup,
+    plan: P,
     relay: Relay,
-    /// The copies that it made.
-    made: Vec<Name>,
+    /// What it knows to be in flight.
+    flight: Flight,
+    /// How many messages it knows.
+    known: usize,
+    /// The names of messages that it didn't know.
+    sent: Vec<Name>,
     ghost same: { post.now.setup ≡ setup.now },
+    ghost few: { setup.now.rounds ≤ max_rounds },
+}
+
+impl From<RelayFault> for Halt {
+    ghost from_gives = { λ fault halt. halt ≡ halt_of fault };
+
+    fn from(fault: RelayFault) -> Halt {
+        match fault {
+            RelayFault::NoMemory => Halt::NoMemory,
+            RelayFault::Stranger => Halt::Refused,
+        }
+    }
+}
+
+/// How many entries from a place on are copies of one message.
+fn copies_from(messages: &[InFlight], place: usize) -> usize
+    requires { place < length messages.now }
+    ensures low { 0 < result }
+    ensures high { place + result ≤ length messages.now }
+{
+    let serial = messages[place].serial;
+    let mut end = place + 1;
+    while end < messages.len() && messages[end].serial == serial {
+        end += 1;
+    }
+    end - place
 }
 
 impl<'a, P: Plan> Network<'a, P> {
@@ -99,15 +74,84 @@ impl<'a, P: Plan> Network<'a, P> {
         alloc: Global,
         post: &'a Post<P>,
         setup: &'a Setup,
+        plan: P,
         relay: Relay,
     ) -> Network<'a, P>
-        requires { post.now.setup ≡ setup.now }
+        requires same { post.now.setup ≡ setup.now }
+        requires few { setup.now.rounds ≤ max_rounds }
     {
         Network {
             post,
             setup,
+            plan,
             relay,
-            made: Vec::new(alloc),
+            flight: Flight::new(alloc),
+            known: 0,
+            sent: Vec::new(alloc),
+        }
+    }
+
+    /// Learns which messages were sent since it did so last, and how many events are recorded.
+    fn learn<R: Wait>(&mut self, rt: &R) -> Result<usize, Halt>
+        ensures { self.new.relay ≡ self.old.relay }
+    {
+        let events = self.post.sent_since(rt, self.known, &mut self.sent)?;
+        for place in 0..self.sent.len() {
+            let name = self.sent[place];
+            self.add(name)?;
+        }
+        self.sent.clear();
+        Ok(events)
+    }
+
+    /// Adds a message that was sent.
+    fn add(&mut self, name: Name) -> Result<(), Halt>
+        ensures relay { self.new.relay ≡ self.old.relay }
+        ensures sent { self.new.sent.items ≡ self.old.sent.items }
+    {
+        if !is_name(self.setup, name) {
+            return Err(Halt::Refused);
+        }
+        self.flight.push(InFlight {
+            name,
+            sent_at: self.plan.start(name.round).saturating_add(name.to),
+            serial: self.known,
+        })?;
+        self.known = self.known.saturating_add(1);
+        Ok(())
+    }
+
+    /// What the network does by a choice; nothing where it counts as none.
+    fn event_of<R: Wait>(&self, rt: &R, choice: Choice) -> Result<Option<Event>, Halt>
+        ensures { IfOk result (ComesToInOne P.start self.now.flight (Option.Some choice)) }
+    {
+        let messages = self.flight.messages();
+        match choice {
+            Choice::Release(place) => match messages.get(place) {
+                Some(message) => Ok(Some(Event::Release(message.name))),
+                None => Ok(None),
+            },
+            Choice::Drop(place) => match messages.get(place) {
+                Some(message) => Ok(Some(Event::Drop(message.name))),
+                None => Ok(None),
+            },
+            Choice::Copy(place) => match messages.get(place) {
+                Some(message) => self.copy_of(rt, message.name),
+                None => Ok(None),
+            },
+        }
+    }
+
+    /// The least copy of a message that can be made.
+    fn copy_of<R: Wait>(&self, rt: &R, name: Name) -> Result<Option<Event>, Halt>
+        ensures { IfOk result (IsCopyInOne P.start name) }
+    {
+        if !is_name(self.setup, name) {
+            return Err(Halt::Refused);
+        }
+        match self.post.next_copy(rt, name)? {
+            Some(copied) => Ok(Some(Event::Copy(copied))),
+            None => Ok(None),
         }
     }
 
@@ -129,37 +173,55 @@ impl<'a, P: Plan> Network<'a, P> {
             }
             _ => return Err(Halt::Refused),
         };
-        match answer {
-            Ok(answer) => Ok(answer),
-            Err(RelayFault::NoMemory) => Err(Halt::NoMemory),
-            Err(RelayFault::Stranger) => Err(Halt::Refused),
+        Ok(answer?)
+    }
+
+    /// Notes what is in flight after an event that came of a choice.
+    fn note(&mut self, choice: Choice, event: Event) -> Result<(), Halt>
+        ensures { self.new.relay ≡ self.old.relay }
+    {
+        match (choice, event) {
+            (Choice::Copy(place), Event::Copy(name)) if place < self.flight.messages().len() => {
+                let messages = self.flight.messages();
+                let copied = InFlight {
+                    name,
+                    ..messages[place]
+                };
+                let after = place + copies_from(messages, place);
+                self.flight.insert(after, copied)?;
+            }
+            (Choice::Release(place) | Choice::Drop(place), _)
+                if place < self.flight.messages().len() => {
+                self.flight.remove(place);
+            }
+            _ => {}
         }
+        Ok(())
     }
 
     /// Asks the policy until it chooses nothing. Without a tick `now` is the number of events that
-    /// are recorded.
-    fn ask<R: Wait, Q: Policy>(
+    /// were recorded when the network last looked, with its own since.
+    fn take_turn<R: Wait, Q: Policy>(
         &mut self,
         rt: &R,
         policy: &mut Q,
         tick: Option<u32>,
     ) -> Result<(), Halt> {
+        let mut events = self.learn(rt)?;
         for _ in rt.forever() {
-            let (flight, events) = self.post.flight(rt)?;
             let now = match tick {
                 Some(tick) => tick,
                 None => events.min(u32::MAX as usize) as u32,
             };
-            let choice = policy.choose(now, &flight);
-            let Some(event) = event_of(&self.made, &flight, choice) else {
+            let Some(choice) = policy.choose(now, self.flight.messages()) else {
+                return Ok(());
+            };
+            let Some(event) = self.event_of(rt, choice)? else {
                 return Ok(());
             };
             let _answer = self.act(rt, event)?;
-            if let Event::Copy(name) = event {
-                if self.made.push(name).is_err() {
-                    return Err(Halt::NoMemory);
-                }
-            }
+            self.note(choice, event)?;
+            events = events.saturating_add(1);
         }
         unreachable!()
     }
@@ -181,7 +243,7 @@ impl<'a, P: Plan> Network<'a, P> {
                 Pace::Free => None,
                 Pace::Ticks => Some(tick),
             };
-            if let Err(fault) = self.ask(rt, &mut policy, now) {
+            if let Err(fault) = self.take_turn(rt, &mut policy, now) {
                 halt = Some(fault);
                 break;
             }

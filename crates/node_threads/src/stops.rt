@@ -2,12 +2,14 @@
 ghost use Rattle.std.specs.Prelude.{◌≡◌, ◌↔◌, All, IsTrue, Some};
 ghost use Rattle.node_threads.specs.Stops.{AreStops, stop_of};
 
+use schedule_text::Stop;
+
 /// Whether each stop is of one of so many nodes.
-pub(crate) fn are_stops(nodes: u32, stops: &[(u32, u32)]) -> bool
+pub(crate) fn are_stops(nodes: u32, stops: &[Stop]) -> bool
     ensures { IsTrue result ↔ AreStops nodes stops.now }
 {
-    for (node, _steps) in stops {
-        if *node >= nodes {
+    for stop in stops {
+        if stop.node >= nodes {
             return false;
         }
     }
@@ -15,16 +17,16 @@ pub(crate) fn are_stops(nodes: u32, stops: &[(u32, u32)]) -> bool
 }
 
 /// The steps after which a node's thread stops; the last entry for it counts.
-pub(crate) fn stop_of(stops: &[(u32, u32)], me: usize) -> Option<u32>
+pub(crate) fn stop_of(stops: &[Stop], me: usize) -> Option<u32>
     ensures { result ≡ stop_of stops.now me }
 {
-    let mut stop = None;
-    for (node, steps) in stops {
-        if *node as usize == me {
-            stop = Some(*steps);
+    let mut found = None;
+    for stop in stops {
+        if stop.node as usize == me {
+            found = Some(stop.steps);
         }
     }
-    stop
+    found
 }
 
 /// Whether a thread stops after so many steps.

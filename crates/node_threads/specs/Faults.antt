@@ -1,0 +1,30 @@
+-- Why a run by threads has no journal.
+use Rattle.std.specs.Prelude.{◌≡◌, ◌⊎◌}
+use Rattle.adversary.specs.declared.fault.RunFault.{RunFault}
+use Rattle.adversary.specs.declared.fault.RunFault.TheVariants as run
+use Rattle.node_threads.specs.declared.body.Halt.{Halt}
+use Rattle.node_threads.specs.declared.body.Halt.TheVariants as halt
+use Rattle.node_threads.specs.declared.fault.ThreadFault.{ThreadFault}
+use Rattle.node_threads.specs.declared.fault.ThreadFault.TheVariants.{NoMemory, NoThread, Unmatched}
+
+-- the one of both that is told: the one with the least number
+abbrev pub least_of : ThreadFault → ThreadFault → ThreadFault
+least_of NoMemory g = NoMemory
+least_of NoThread NoMemory = NoMemory
+least_of NoThread _ = NoThread
+least_of Unmatched g = g
+
+-- the fault of a run in which a thread halted
+abbrev pub thread_fault : Halt → ThreadFault
+thread_fault halt.NoMemory = NoMemory
+thread_fault halt.Refused = Unmatched
+
+-- the fault as it is told
+abbrev pub run_fault : ThreadFault → RunFault
+run_fault NoMemory = run.NoMemory
+run_fault NoThread = run.NoThread
+run_fault Unmatched = run.Unmatched
+
+-- it's a fault of threads, and not of what they were to run
+abbrev pub IsOfThreads : RunFault → Type 0
+IsOfThreads f = (f ≡ run.NoMemory) ⊎ (f ≡ run.NoThread) ⊎ (f ≡ run.Unmatched)

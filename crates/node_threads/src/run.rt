@@ -1,0 +1,292 @@
+//! Runs by threads.
+ghost use Rattle.std.specs.Prelude.{◌≡◌, ◌≢◌, ◌∷◌, ◌++◌, ◌⊎◌, ◌↔◌, [], All, Err, IfErr, IfOk, OnOk};
+ghost use Rattle.adversary.specs.Driving.{ClosedAreDue};
+ghost use Rattle.locked_buffers.specs.Runs.{IsBookOfRun};
+ghost use Rattle.round_meaning.specs.Agreement.{RunsAlgorithm1};
+ghost use Rattle.round_meaning.specs.Setups.{IsLawful};
+ghost use Rattle.step_book.specs.Agreed.{JournalAgrees};
+ghost use Rattle.step_book.specs.Log.{mark_in, waiting_in};
+ghost use Rattle.node_threads.specs.Bodies.{SeatsEnded};
+ghost use Rattle.node_threads.specs.Ends.{HasOneDecision, HaveEnded, IsFitForThreads};
+ghost use Rattle.node_threads.specs.Faults.{IsOfThreads};
+ghost use Rattle.node_threads.specs.declared.ended.Ended.TheVariants as ended;
+
+use crate::clock::{Clock, ClockBeat};
+use crate::ended::Ended;
+use crate::fault::ThreadFault;
+use crate::job::{Job, Report};
+use crate::network::Network;
+use crate::stops::{are_stops, stop_of};
+use adversary::RunFault;
+use locked_buffers::{Gate, Post, Relay, Seat};
+use policies::Policy;
+use round_check::Checked;
+use round_lang::NoMemory;
+use round_meaning::Setup;
+use schedule_text::{Pace, Stop};
+use slot_plans::Plan;
+use std::alloc::Global;
+use std::sync::Wait;
+use std::thread;
+use std::thread::Threads;
+use step_journal::Journal;
+
+/// What the threads gave back.
+#[derive(Drop)]
+struct Joined<P: Plan> {
+    relay: Relay,
+    reports: Vec<Report<P>>,
+}
+
+/// The jobs of all seats.
+fn jobs<'a, P: Plan>(
+    alloc: Global,
+    post: &'a Post<P>,
+    program: &Checked,
+    setup: &Setup,
+    plan: P,
+    stops: &[Stop],
+    seats: Vec<Seat>,
+) -> Result<Vec<Job<'a, P>>, ThreadFault>
+    requires run { post.now ≡ record {
+      plan = plan;
+      program = program.now;
+      setup = setup.now;
+    } }
+    requires lawful { IsLawful program.now.values setup.now }
+    requires nodes { P.nodes plan ≡ setup.now.nodes }
+{
+    let mut jobs = Vec::new(alloc);
+    for seat in seats {
+        let stop = stop_of(stops, seat.node() as usize);
+        let job = Job::new(alloc, post, program, setup, plan, stop, seat)?;
+        if jobs.push(job).is_err() {
+            return Err(ThreadFault::NoMemory);
+        }
+    }
+    Ok(jobs)
+}
+
+/// The lesser of a fault, if there is one, and another.
+fn worst(fault: Option<ThreadFault>, other: ThreadFault) -> Option<ThreadFault> {
+    match fault {
+        Some(fault) => Some(fault.or(other)),
+        None => Some(other),
+    }
+}
+
+/// Starts a thread for each job and one for the network, and joins them all.
+fn run_all<'x, R, P, Q, G>(
+    rt: &'x R,
+    alloc: Global,
+    clock: &'x Clock,
+    gate: &'x G,
+    jobs: Vec<Job<'x, P>>,
+    network: Network<'x, P>,
+    policy: Q,
+) -> Result<Joined<P>, ThreadFault>
+where
+    R: Threads + Wait + Sync,
+    P: Plan + Send + Sync,
+    Q: Policy + Send + Drop,
+    G: Gate + Sync,
+{
+    thread::scope(thread::scope_env(), rt, move |scope| {
+        let network = scope.spawn(move || network.run(rt, clock, policy));
+        let mut handles = Vec::new(alloc);
+        let mut reports = Vec::new(alloc);
+        let mut fault = None;
+        for job in jobs {
+            match scope.spawn(move || job.run(rt, gate, &ClockBeat { rt, clock })) {
+                Ok(handle) => {
+                    if handles.push(handle).is_err() {
+                        fault = worst(fault, ThreadFault::NoMemory);
+                    }
+                }
+                Err(_) => {
+                    clock.leave(rt);
+                    fault = worst(fault, ThreadFault::NoThread);
+                }
+            }
+        }
+        let relay = match network {
+            Ok(network) => {
+                let (relay, halt) = network.join(rt);
+                if let Some(halt) = halt {
+                    fault = worst(fault, ThreadFault::from(halt));
+                }
+                Some(relay)
+            }
+            Err(_) => {
+                clock.close(rt);
+                fault = worst(fault, ThreadFault::NoThread);
+                None
+            }
+        };
+        for handle in handles {
+            if reports.push(handle.join(rt)).is_err() {
+                fault = worst(fault, ThreadFault::NoMemory);
+            }
+        }
+        match (fault, relay) {
+            (Some(fault), _) => Err(fault),
+            (None, Some(relay)) => Ok(Joined { relay, reports }),
+            (None, None) => Err(ThreadFault::NoThread),
+        }
+    })
+}
+
+/// The seats, and how the thread of each ended.
+fn seats_of<P: Plan>(
+    alloc: Global,
+    plan: P,
+    rounds: u32,
+    stops: &[Stop],
+    reports: Vec<Report<P>>,
+) -> Result<(Vec<Seat>, Vec<Ended>), ThreadFault>
+    ensures { IfOk result (λ o. SeatsEnded (P.start plan) rounds stops.now o.0.items o.1.items) }
+{
+    let mut seats = Vec::new(alloc);
+    let mut ends = Vec::new(alloc);
+    for report in reports {
+        let stop = stop_of(stops, seats.len());
+        let Some((seat, ended)) = report.into_parts(plan, rounds, stop) else {
+            return Err(ThreadFault::Unmatched);
+        };
+        add_both(&mut seats, &mut ends, seat, ended)?;
+    }
+    Ok((seats, ends))
+}
+
+fn add_both(
+    seats: &mut Vec<Seat>,
+    ends: &mut Vec<Ended>,
+    seat: Seat,
+    ended: Ended,
+) -> Result<(), NoMemory>
+    ensures seats { OnOk result (seats.new.items ≡ seats.old.items ++ seat ∷ []) }
+    ensures ends { OnOk result (ends.new.items ≡ ends.old.items ++ ended ∷ []) }
+{
+    seats.push(seat)?;
+    ends.push(ended)?;
+    Ok(())
+}
+
+/// The journal of joined threads, and how each node's thread ended.
+fn journal_of<P: Plan>(
+    alloc: Global,
+    post: Post<P>,
+    plan: P,
+    rounds: u32,
+    stops: &[Stop],
+    joined: Joined<P>,
+) -> Result<(Journal<P>, Vec<Ended>), ThreadFault>
+    requires plan { post.plan ≡ plan }
+    requires rounds { post.setup.rounds ≡ rounds }
+    ensures run { IfOk result (λ o. IsBookOfRun post o.0) }
+    ensures ends { IfOk result (λ o. HaveEnded (P.start post.plan) o.0.log stops.now o.1.items) }
+    ensures agrees { IfOk result (λ o. JournalAgrees (P.start o.0.plan) o.0.log
+        (mark_in (P.start o.0.plan) o.0.log) (waiting_in (P.start o.0.plan) o.0.log)) }
+{
+    let Joined { relay, reports } = joined;
+    let (seats, ends) = seats_of(alloc, plan, rounds, stops, reports)?;
+    match post.into_journal(seats, relay) {
+        Ok(journal) => {
+            journal.agrees();
+            Ok((journal, ends))
+        }
+        Err(_) => Err(ThreadFault::Unmatched),
+    }
+}
+
+/// A run by threads of a setup that is fit for them.
+fn run_fit<R, P, Q, G>(
+    rt: &R,
+    alloc: Global,
+    program: &Checked,
+    setup: &Setup,
+    plan: P,
+    pace: Pace,
+    stops: &[Stop],
+    policy: Q,
+    gate: &G,
+) -> Result<(Journal<P>, Vec<Ended>), ThreadFault>
+where
+    R: Threads + Wait + Sync,
+    P: Plan + Send + Sync,
+    Q: Policy + Send + Drop,
+    G: Gate + Sync,
+    requires lawful { IsLawful program.now.values setup.now }
+    requires nodes { P.nodes plan ≡ setup.now.nodes }
+    ensures run { IfOk result (λ o. IsBookOfRun (record {
+      plan = plan;
+      program = program.now;
+      setup = setup.now;
+    }) o.0) }
+    ensures ends { IfOk result (λ o. HaveEnded (P.start plan) o.0.log stops.now o.1.items) }
+    ensures agrees { IfOk result (λ o. JournalAgrees (P.start o.0.plan) o.0.log
+        (mark_in (P.start o.0.plan) o.0.log) (waiting_in (P.start o.0.plan) o.0.log)) }
+{
+    let (post, seats, relay) = Post::open(alloc, program, setup, plan)?;
+    let jobs = jobs(alloc, &post, program, setup, plan, stops, seats)?;
+    let clock = Clock::new(pace, setup.nodes);
+    let network = Network::new(alloc, &post, setup, plan, relay);
+    let joined = run_all(rt, alloc, &clock, gate, jobs, network, policy)?;
+    journal_of(alloc, post, plan, setup.rounds, stops, joined)
+}
+
+/// The journal of a run in which a thread for each node takes its steps and another one is the
+/// network, and how the thread of each node ended.
+///
+/// The network asks its policy at the beginning, and then in each tick, or under the free pace
+/// whenever an event was recorded or a node ended, until the policy chooses nothing. `now` is the
+/// tick, or under the free pace the number of recorded events, as far as the network knows them.
+/// `stops` names for a node the number of steps after which its thread ends; the last entry for a
+/// node counts. A gate sees the threads pass their points.
+///
+/// An unlawful setup, and a stop of a node that isn't one of the setup's, are refused as
+/// `BadSetup`, before any memory is taken. `NoMemory`: there was no memory before the threads
+/// started or after they ended, or for the network. `NoThread`: a thread couldn't be started.
+/// `Unmatched`: what the threads were told isn't what is recorded. Of several causes the first of
+/// these is answered, after all threads ended.
+///
+/// It waits for its threads, and needn't return: a policy may choose for ever, and a gate may hold
+/// a thread.
+pub fn run_threads<R, P, Q, G>(
+    rt: &R,
+    alloc: Global,
+    program: &Checked,
+    setup: &Setup,
+    plan: P,
+    pace: Pace,
+    stops: &[Stop],
+    policy: Q,
+    gate: &G,
+) -> Result<(Journal<P>, Vec<Ended>), RunFault>
+where
+    R: Threads + Wait + Sync,
+    P: Plan + Send + Sync,
+    Q: Policy + Send + Drop,
+    G: Gate + Sync,
+    requires { IsLawful program.now.values setup.now → P.nodes plan ≡ setup.now.nodes }
+    ensures bad_setup { (result ≡ Err RunFault.BadSetup)
+        ↔ (IsFitForThreads program.now.values setup.now stops.now → ⊥) }
+    ensures cause { IfErr result (λ fault. (fault ≡ RunFault.BadSetup)
+        ⊎ IsOfThreads fault) }
+    ensures program { IfOk result (λ o. o.0.log.program ≡ program.now) }
+    ensures setup { IfOk result (λ o. o.0.log.setup ≡ setup.now) }
+    ensures plan { IfOk result (λ o. o.0.plan ≡ plan) }
+    ensures ends { IfOk result (λ o. HaveEnded (P.start plan) o.0.log stops.now o.1.items) }
+    ensures closed { IfOk result (λ o. All (λ e. e ≢ ended.NoMemory) o.1.items
+        → ClosedAreDue (P.start plan) o.0.log) }
+    ensures agreement { IfOk result (λ o. RunsAlgorithm1 program.now setup.now
+        → HasOneDecision o.0.log) }
+{
+    if !setup.is_lawful(program) || !are_stops(setup.nodes, stops) {
+        return Err(RunFault::BadSetup);
+    }
+    match run_fit(rt, alloc, program, setup, plan, pace, stops, policy, gate) {
+        Ok(ended) => Ok(ended),
+        Err(fault) => Err(RunFault::from(fault)),
+    }
+}
