@@ -4,15 +4,15 @@ use Rattle.std.proofs.Common.{Some, None, Result, Ok, Err, length, take, refl, s
 use Rattle.std.proofs.Common.{arith}
 use Rattle.std.specs.Prelude.{◌↔◌, IfErr, IfSome, IsErrAnd, true}
 use Rattle.std.specs.Str.{IsUtf8}
-use Rattle.adversary.specs.Driving.{IsUnknownAt, RunCause}
+use Rattle.adversary.specs.Driving.{RunCause}
 use Rattle.adversary.specs.declared.fault.RunFault.{RunFault}
 use Rattle.adversary.specs.declared.fault.RunFault.TheVariants as run
-use Rattle.command_runs.specs.Refused.{IsBadSchedule, IsNoProgram, IsNoSchedule, IsNoSource}
+use Rattle.command_runs.specs.Refused.{IsBadText, IsMissing, IsNoProgram, IsNoSource}
 use Rattle.command_runs.specs.Refused.{IsNotRun, IsPlan, IsRunnable, of_check, of_run, of_schedule}
 use Rattle.command_runs.specs.Refused.{of_source}
-use Rattle.command_runs.specs.Served.{IsCheckedSource, IsSchedule}
-use Rattle.command_runs.specs.Stages.{IsNoProgramIn, IsNoProgramOf, IsNoScheduleIn, IsNoScheduleOf}
-use Rattle.command_runs.specs.Stages.{IsNotRunAs, IsProgramIn, IsScheduleIn}
+use Rattle.command_runs.specs.Served.{IsCheckedSource, IsOfKind}
+use Rattle.command_runs.specs.Stages.{IsNoProgramIn, IsNoProgramOf, IsNoReadIn, IsNoReadOf}
+use Rattle.command_runs.specs.Stages.{IsNotRunAs, IsProgramIn, IsReadIn}
 use Rattle.command_runs.specs.Texts.{BeginsUtf8, IsLongText, IsNoText, IsText, IsTextOf}
 use Rattle.command_runs.specs.declared.refusal.Refusal.{Refusal}
 use Rattle.command_runs.specs.declared.refusal.Refusal.TheVariants as refusal
@@ -29,12 +29,12 @@ use Rattle.round_lang.specs.declared.fault.LangFault.{LangFault}
 use Rattle.round_lang.specs.declared.fault.LangFault.TheVariants as lang
 use Rattle.round_meaning.specs.Setups.{IsLawful}
 use Rattle.round_meaning.specs.declared.setup.Setup.{Setup}
-use Rattle.schedule_text.specs.Outcome.{IsRead}
-use Rattle.schedule_text.specs.Readings.{IsReading}
-use Rattle.schedule_text.specs.Texts.{Says, max_text as max_schedule}
+use Rattle.schedule_text.specs.Outcome.{IsReadOf}
+use Rattle.schedule_text.specs.Readings.{IsReadingOf, ReadOf}
+use Rattle.schedule_text.specs.Texts.{SaysOf, Tail, max_text as max_schedule}
+use Rattle.schedule_text.specs.declared.kind.Kind.{Kind}
 use Rattle.schedule_text.specs.declared.fault.ScheduleFault.{ScheduleFault}
 use Rattle.schedule_text.specs.declared.fault.ScheduleFault.TheVariants as schedule
-use Rattle.schedule_text.specs.declared.reading.Schedule.{Schedule}
 use Rattle.slot_plans.specs.Plan.{IsDelta, IsNodeCount}
 use Rattle.slot_plans.specs.declared.kind.PlanKind.{PlanKind}
 use Rattle.slot_plans.specs.declared.kind.PlanKind.TheVariants.{Growing, Known}
@@ -95,6 +95,7 @@ no_file_program file (text.Whole bytes) (refusal.Library fault) is none = absurd
 no_file_program file (text.Whole bytes) refusal.NoSuchProgram is none = absurd none.1
 no_file_program file (text.Whole bytes) (refusal.Run fault) is none = absurd none.1
 no_file_program file (text.Whole bytes) refusal.Write is none = absurd none.1
+no_file_program file (text.Whole bytes) refusal.NodeNoMemory is none = absurd none.1
 no_file_program file (text.Whole bytes) refusal.NoMemory is none = tt
 no_file_program None (text.Whole bytes) refusal.File is none = tt
 no_file_program (Some held) (text.Whole bytes) refusal.File is none = no_whole_text max_text held bytes.items is.0 is.1 none
@@ -143,51 +144,54 @@ pub no_check : (A : Type 0) (held : List ℕ) (p : ProgramTree) (f : CheckFault)
     → (is_typed p ≡ true → f ≡ check.NoMemory) → IsNoProgramOf held (of_check f)
 no_check A held p f is same typed = untyped held p f is (check_fault A p f (fault_of p) refl same typed)
 
--- the schedule of what was read is the file's
-pub file_schedule : (file : Option (List ℕ)) (t : Text) (s : Schedule) → IfSome file (IsTextOf max_schedule t) → IsScheduleIn t s
-    → IfSome file (λ held. IsSchedule held s.setup s.plan s.events.items)
-file_schedule None t s is has = tt
-file_schedule (Some held) (text.Whole bytes) s is has = record {
+-- what was read as a text of a kind is what its file says
+pub file_text : (kind : Kind) (file : Option (List ℕ)) (t : Text) (s : Setup) (k : PlanKind) (tail : Tail kind) → IfSome file (IsTextOf max_schedule t) → IsReadIn kind t s k tail
+    → IfSome file (λ held. IsOfKind kind held s k tail)
+file_text kind None t s k tail is has = tt
+file_text kind (Some held) (text.Whole bytes) s k tail is has = record {
   fits = whole_text max_schedule held bytes.items is.0 is.1 has.0;
-  says = subst (λ h. Says h s.setup s.plan s.events.items) is.1 has.1;
+  says = subst (λ h. SaysOf kind h s k tail) is.1 has.1;
 }
-file_schedule (Some held) (text.Longer bytes) s is has = absurd has
+file_text kind (Some held) (text.Longer bytes) s k tail is has = absurd has
 
-schedule_read : (bytes held : List ℕ) (f : ScheduleFault) → length held ≤ max_schedule → bytes ≡ held → IsUtf8 bytes → IsNoScheduleOf bytes (refusal.Schedule f) → IsBadSchedule held f
-schedule_read bytes held (schedule.BadLine n) short same utf8 none =
-    (whole_text max_schedule held bytes short same utf8, subst (λ h. IsReading h (Err (schedule.BadLine n))) same none)
-schedule_read bytes held (schedule.NumberTooLarge n) short same utf8 none =
-    (whole_text max_schedule held bytes short same utf8, subst (λ h. IsReading h (Err (schedule.NumberTooLarge n))) same none)
-schedule_read bytes held schedule.TooLong short same utf8 none =
+text_read : (kind : Kind) (bytes held : List ℕ) (f : ScheduleFault) → length held ≤ max_schedule → bytes ≡ held → IsUtf8 bytes → IsNoReadOf kind bytes (refusal.Schedule f)
+    → IsBadText kind held f
+text_read kind bytes held (schedule.BadLine n) short same utf8 none =
+    (whole_text max_schedule held bytes short same utf8, subst (λ h. IsReadingOf kind h (Err (schedule.BadLine n))) same none)
+text_read kind bytes held (schedule.NumberTooLarge n) short same utf8 none =
+    (whole_text max_schedule held bytes short same utf8, subst (λ h. IsReadingOf kind h (Err (schedule.NumberTooLarge n))) same none)
+text_read kind bytes held schedule.TooLong short same utf8 none =
     let long : max_schedule < length held = subst (λ h. max_schedule < length h) same none in absurd (omega arith)
-schedule_read bytes held schedule.NoMemory short same utf8 none = absurd none
+text_read kind bytes held schedule.NoMemory short same utf8 none = absurd none
 
--- why a file has no schedule, from why there is none in what was read of it
-pub no_file_schedule : (file : Option (List ℕ)) (t : Text) (r : Refusal) → IfSome file (IsTextOf max_schedule t) → IsNoScheduleIn t r → IsNoSchedule file r
-no_file_schedule file (text.Whole bytes) (refusal.Words fault) is none = absurd none.1
-no_file_schedule file (text.Whole bytes) (refusal.Source fault) is none = absurd none.1
-no_file_schedule file (text.Whole bytes) (refusal.Check fault) is none = absurd none.1
-no_file_schedule file (text.Whole bytes) (refusal.Library fault) is none = absurd none.1
-no_file_schedule file (text.Whole bytes) refusal.NoSuchProgram is none = absurd none.1
-no_file_schedule file (text.Whole bytes) (refusal.Run fault) is none = absurd none.1
-no_file_schedule file (text.Whole bytes) refusal.Write is none = absurd none.1
-no_file_schedule file (text.Whole bytes) refusal.NoMemory is none = tt
-no_file_schedule None (text.Whole bytes) refusal.File is none = tt
-no_file_schedule (Some held) (text.Whole bytes) refusal.File is none = no_whole_text max_schedule held bytes.items is.0 is.1 none
-no_file_schedule None (text.Whole bytes) (refusal.Schedule fault) is none = tt
-no_file_schedule (Some held) (text.Whole bytes) (refusal.Schedule fault) is none = schedule_read bytes.items held fault is.0 is.1 none.0 none.1
-no_file_schedule None (text.Longer bytes) refusal.File is none = tt
-no_file_schedule (Some held) (text.Longer bytes) refusal.File is none = no_long_text max_schedule held bytes.items is.0 is.1 none
-no_file_schedule None (text.Longer bytes) (refusal.Schedule schedule.TooLong) is none = tt
-no_file_schedule (Some held) (text.Longer bytes) (refusal.Schedule schedule.TooLong) is none = long_text max_schedule held bytes.items is.0 is.1 none
-no_file_schedule file (text.Longer bytes) r is none = absurd none
+-- why a file has no text of a kind, from why there is none in what was read of it
+pub no_file_text : (kind : Kind) (file : Option (List ℕ)) (t : Text) (r : Refusal) → IfSome file (IsTextOf max_schedule t) → IsNoReadIn kind t r → IsMissing kind file r
+no_file_text kind file (text.Whole bytes) (refusal.Words fault) is none = absurd none.1
+no_file_text kind file (text.Whole bytes) (refusal.Source fault) is none = absurd none.1
+no_file_text kind file (text.Whole bytes) (refusal.Check fault) is none = absurd none.1
+no_file_text kind file (text.Whole bytes) (refusal.Library fault) is none = absurd none.1
+no_file_text kind file (text.Whole bytes) refusal.NoSuchProgram is none = absurd none.1
+no_file_text kind file (text.Whole bytes) (refusal.Run fault) is none = absurd none.1
+no_file_text kind file (text.Whole bytes) refusal.Write is none = absurd none.1
+no_file_text kind file (text.Whole bytes) refusal.NodeNoMemory is none = absurd none.1
+no_file_text kind file (text.Whole bytes) refusal.NoMemory is none = tt
+no_file_text kind None (text.Whole bytes) refusal.File is none = tt
+no_file_text kind (Some held) (text.Whole bytes) refusal.File is none = no_whole_text max_schedule held bytes.items is.0 is.1 none
+no_file_text kind None (text.Whole bytes) (refusal.Schedule fault) is none = tt
+no_file_text kind (Some held) (text.Whole bytes) (refusal.Schedule fault) is none = text_read kind bytes.items held fault is.0 is.1 none.0 none.1
+no_file_text kind None (text.Longer bytes) refusal.File is none = tt
+no_file_text kind (Some held) (text.Longer bytes) refusal.File is none = no_long_text max_schedule held bytes.items is.0 is.1 none
+no_file_text kind None (text.Longer bytes) (refusal.Schedule schedule.TooLong) is none = tt
+no_file_text kind (Some held) (text.Longer bytes) (refusal.Schedule schedule.TooLong) is none = long_text max_schedule held bytes.items is.0 is.1 none
+no_file_text kind file (text.Longer bytes) r is none = absurd none
 
--- what `read_schedule` refuses
-pub no_schedule : (held : List ℕ) (f : ScheduleFault) → IsRead held (Err f) → (f ≡ schedule.TooLong → max_schedule < length held) → IsNoScheduleOf held (of_schedule f)
-no_schedule held (schedule.BadLine n) said long = said
-no_schedule held (schedule.NumberTooLarge n) said long = said
-no_schedule held schedule.TooLong said long = long refl
-no_schedule held schedule.NoMemory said long = tt
+-- what a reader refuses, whichever kind of text it reads
+pub no_read : {A : Type 0} (kind : Kind) (show : A → ReadOf kind) (held : List ℕ) (f : ScheduleFault) → IsReadOf kind show held (Err f) → (f ≡ schedule.TooLong → max_schedule < length held)
+    → IsNoReadOf kind held (of_schedule f)
+no_read kind show held (schedule.BadLine n) said long = said
+no_read kind show held (schedule.NumberTooLarge n) said long = said
+no_read kind show held schedule.TooLong said long = long refl
+no_read kind show held schedule.NoMemory said long = tt
 
 -- what a run refuses, where P says that its numbers are within their limits
 pub no_run : (A : Type 0) (P : Type 0) (p : ProgramTree) (s : Setup) (events : List Event) (correct : List ℕ) (f : RunFault)
@@ -221,6 +225,7 @@ not_run p s k events correct (refusal.Schedule fault) plan none = absurd none
 not_run p s k events correct (refusal.Library fault) plan none = absurd none
 not_run p s k events correct refusal.NoSuchProgram plan none = absurd none
 not_run p s k events correct refusal.Write plan none = absurd none
+not_run p s k events correct refusal.NodeNoMemory plan none = absurd none
 
 -- where there is no plan, the setup is bad
 pub no_known_plan : (p : ProgramTree) (s : Setup) (delta : ℕ) (correct : List ℕ) → ¬ (IsNodeCount s.nodes × IsDelta delta) → ¬ (IsRunnable p s (Known delta) correct)

@@ -68,6 +68,11 @@ appends_kept (Some xs) None c text w k = absurd w
 appends_kept (Some xs) (Some ys) None text w k = absurd k
 appends_kept (Some xs) (Some ys) (Some zs) text w k = k ∙ w
 
+-- what was written whole
+pub written_whole : {B F : Type 0} (done : Result B F) (a b c : Option (List ℕ)) (text : List ℕ) → IsOk done → OnOk done (Appends a b text) → Keeps b c → Appends a c text
+written_whole (Ok y) a b c text done wrote kept = appends_kept a b c text wrote kept
+written_whole (Err y) a b c text done wrote kept = absurd (cc done)
+
 -- what follows where all was written to its end
 pub printed : {A B E F : Type 0} {Q : Type 0} (r : Result A E) (done : Result B F) (a b c : Option (List ℕ)) (text : List ℕ) → OnOk r (IsOk done) → OnOk done (Appends a b text) → OnOk r (Keeps b c) → (Appends a c text → Q) → OnOk r Q
 printed (Ok x) (Ok y) a b c text done wrote kept f = f (appends_kept a b c text wrote kept)

@@ -1,18 +1,17 @@
 -- From what the parts of a command answer to what the command does.
-use Rattle.std.proofs.Common.{Bool, Bor, ◌++◌, ◌≡◌, ◌⊎◌, inl, inr, ℕ, List, [], Option, Some, None}
-use Rattle.std.proofs.Common.{Result, Ok, Err, refl, sym, ap, ◌∙◌, subst}
-use Rattle.std.specs.Prelude.{IfErr, IfOk, IfSome, IsOk, OnOk, codes}
+use Rattle.std.proofs.Common.{Bool, Bor, ◌++◌, ◌≡◌, inl, inr, ℕ, List, [], Option, Some, None}
+use Rattle.std.proofs.Common.{Result, Ok, Err, refl, sym, subst}
+use Rattle.std.specs.Prelude.{IfErr, IfSome, codes}
 use Rattle.std.specs.Global.{Vec}
-use Rattle.std.specs.Io.KnownBytes.{Appends, Keeps}
-use Rattle.command_runs.specs.Refused.{IsNotOpened, IsNotOffered, IsOpened, IsRefusedCommand}
-use Rattle.command_runs.specs.Refused.{IsSilent, IsUnanswered, IsUnchecked}
-use Rattle.command_runs.specs.Served.{AnswersRun, IsCheckedSource, IsProgramOf, JudgesRun, Opens}
-use Rattle.command_runs.specs.Served.{Serves, answer_text, file_name, summary_text, told_text}
-use Rattle.command_runs.specs.Stages.{IsHeldBack, IsRefusedAnswer, TellsAnswer, listed_by}
+use Rattle.std.specs.Io.KnownBytes.{Keeps}
+use Rattle.command_runs.specs.Refused.{IsMissing, IsNoOffer, IsNoProgram, IsNotOffered, IsNotRun}
+use Rattle.command_runs.specs.Refused.{IsOpened, IsRefusedCommand, IsRefusedInTurn, IsSilent, IsUnanswered}
+use Rattle.command_runs.specs.Refused.{Later}
+use Rattle.command_runs.specs.Served.{IsCheckedSource, JudgesRun, Opens}
+use Rattle.command_runs.specs.Served.{file_name, told_text}
+use Rattle.command_runs.specs.Stages.{IsHeldBack, IsRefusedAnswer}
 use Rattle.command_runs.specs.Texts.{Files}
-use Rattle.command_runs.specs.declared.asking.Answer.{Answer}
 use Rattle.command_runs.specs.declared.asking.Answer.TheVariants as answer
-use Rattle.command_runs.specs.declared.asking.Question.{Question}
 use Rattle.command_runs.specs.declared.asking.Question.TheVariants as question
 use Rattle.command_runs.specs.declared.refusal.Refusal.{Refusal}
 use Rattle.command_runs.specs.declared.refusal.Refusal.TheVariants as refusal
@@ -20,10 +19,14 @@ use Rattle.command_runs.specs.declared.sources.Opened.{Opened}
 use Rattle.command_runs.specs.declared.sources.Opened.TheVariants as opened
 use Rattle.command_words.specs.declared.values.Source.{Source}
 use Rattle.command_words.specs.declared.values.Source.TheVariants as source
-use Rattle.command_words.specs.declared.words.Words.{Words}
 use Rattle.command_words.specs.declared.words.Words.TheVariants as words
 use Rattle.omission_explainer.specs.Verdict.{verdict_text}
 use Rattle.round_lang.specs.Syntax.{ProgramTree}
+use Rattle.round_meaning.specs.declared.setup.Setup.{Setup}
+use Rattle.schedule_text.specs.Texts.{Tail}
+use Rattle.schedule_text.specs.declared.kind.Kind.{Kind}
+use Rattle.schedule_text.specs.declared.kind.Kind.TheVariants as kinds
+use Rattle.slot_plans.specs.declared.kind.PlanKind.{PlanKind}
 
 keeps_same : (x : Option (List ℕ)) → Keeps x x
 keeps_same None = tt
@@ -32,6 +35,7 @@ keeps_same (Some xs) = refl
 -- nothing was written
 pub silent_same : (x : Option (List ℕ)) (r : Refusal) → IsSilent x x r
 silent_same x refusal.Write = tt
+silent_same x refusal.NodeNoMemory = tt
 silent_same x (refusal.Words fault) = keeps_same x
 silent_same x refusal.File = keeps_same x
 silent_same x (refusal.Source fault) = keeps_same x
@@ -67,10 +71,35 @@ held_back (source.Library name values) files (opened.Library m k) n t r h none =
 held_back (source.File name) files (opened.Library m k) n t r h none = absurd h
 held_back (source.Library name values) files (opened.File p) n t r h none = absurd h
 
+-- what isn't told of a file, of the library or of a text
+pub record IsLast (r : Refusal) : Type 0 where
+  pub program : (file : Option (List ℕ)) → IsNoProgram file r → ⊥
+  pub offer : (name : List ℕ) (values n t : ℕ) → IsNoOffer name values n t r → ⊥
+  pub text : (kind : Kind) (file : Option (List ℕ)) → IsMissing kind file r → ⊥
+
+pub last_nodes : IsLast refusal.NodeNoMemory
+last_nodes = record {
+  program = λ file h. h;
+  offer = λ name values n t h. h;
+  text = λ kind file h. h;
+}
+
+-- nor is it what refuses a run, before anything is written
+pub not_in_turn : (kind : Kind) (NotRun : Later kind) (s : Source) (files : Files) (file : Option (List ℕ)) (r : Refusal) → IsLast r → ((p : ProgramTree) (u : Setup) (k : PlanKind) (t : Tail kind) → NotRun p u k t r → ⊥)
+    → IsRefusedInTurn kind NotRun s files file r → ⊥
+not_in_turn kind NotRun (source.File name) files file r last never (inl h) = last.program (files (file_name name.now)) h
+not_in_turn kind NotRun (source.Library name values) files file r last never (inl h) = h
+not_in_turn kind NotRun s files file r last never (inr (inl h)) = last.text kind file h.1
+not_in_turn kind NotRun (source.File name) files file r last never (inr (inr (opened, (u, k, t, read, inl none)))) = none
+not_in_turn kind NotRun (source.Library name values) files file r last never (inr (inr (opened, (u, k, t, read, inl none)))) =
+    last.offer name.now values u.nodes u.faults none
+not_in_turn kind NotRun s files file r last never (inr (inr (opened, (u, k, t, read, inr (p, is, none))))) = never p u k t none
+
 -- a refused answer, of `run` and of `judge`
 pub run_refused : (source : Source) (files : Files) (schedule : Bor (List ℕ)) (told : Bool) (r : Refusal) → IsRefusedAnswer source files (files schedule.now) (question.Report told) r
     → IsRefusedCommand (words.Run source schedule told) files r
-run_refused source files schedule told refusal.Write (answer.Report report shown, h) = (told_text report told, (report, h.1, refl))
+run_refused source files schedule told refusal.Write (answer.Report report shown, h) =
+    (files, told_text report told, (report, h.1, refl))
 run_refused source files schedule told refusal.Write (answer.Verdict verdict, h) = absurd h
 run_refused source files schedule told (refusal.Words fault) h = h
 run_refused source files schedule told refusal.File h = h
@@ -81,6 +110,8 @@ run_refused source files schedule told (refusal.Library fault) h = h
 run_refused source files schedule told refusal.NoSuchProgram h = h
 run_refused source files schedule told (refusal.Run fault) h = h
 run_refused source files schedule told refusal.NoMemory h = h
+run_refused source files schedule told refusal.NodeNoMemory h =
+    absurd (not_in_turn kinds.Schedule (λ p s k events r. IsNotRun p s k events [] r) source files (files schedule.now) refusal.NodeNoMemory last_nodes (λ p s k events none. none) h)
 
 module _ (source : Source) (files : Files) (schedule : Bor (List ℕ)) (correct : Vec ℕ) (delta gst : ℕ) (list : Bor (List ℕ)) (same : list.now ≡ correct.items) where
   unanswered : (r : Refusal) → IsUnanswered source files (files schedule.now) list.now r → IsUnanswered source files (files schedule.now) correct.items r
@@ -90,6 +121,7 @@ module _ (source : Source) (files : Files) (schedule : Bor (List ℕ)) (correct 
       → IsRefusedCommand (words.Judge source schedule correct delta gst) files r
   judge_refused refusal.Write (answer.Report report shown, h) = absurd h
   judge_refused refusal.Write (answer.Verdict verdict, h) = (
+    files,
     verdict_text verdict ++ codes "\n",
     (verdict, subst (λ ns. JudgesRun source files (files schedule.now) ns delta gst verdict) same h, refl),
   )
@@ -102,3 +134,5 @@ module _ (source : Source) (files : Files) (schedule : Bor (List ℕ)) (correct 
   judge_refused refusal.NoSuchProgram h = unanswered refusal.NoSuchProgram h
   judge_refused (refusal.Run fault) h = unanswered (refusal.Run fault) h
   judge_refused refusal.NoMemory h = unanswered refusal.NoMemory h
+  judge_refused refusal.NodeNoMemory h =
+      absurd (not_in_turn kinds.Schedule (λ p s k events r. IsNotRun p s k events list.now r) source files (files schedule.now) refusal.NodeNoMemory last_nodes (λ p s k events none. none) h)

@@ -9,7 +9,7 @@ use Rattle.command_runs.specs.declared.refusal.Refusal.{Refusal}
 use Rattle.command_runs.specs.declared.refusal.Refusal.TheVariants.{Words, File, Source, Check}
 use Rattle.command_runs.specs.declared.refusal.Refusal.TheVariants.{Schedule, Library}
 use Rattle.command_runs.specs.declared.refusal.Refusal.TheVariants.{NoSuchProgram, Run, Write}
-use Rattle.command_runs.specs.declared.refusal.Refusal.TheVariants.{NoMemory}
+use Rattle.command_runs.specs.declared.refusal.Refusal.TheVariants.{NoMemory, NodeNoMemory}
 use Rattle.command_words.specs.declared.words.WordsFault.{WordsFault}
 use Rattle.command_words.specs.declared.words.WordsFault.TheVariants as words
 use Rattle.round_check.specs.declared.fault.CheckFault.{CheckFault}
@@ -94,9 +94,11 @@ line_of NoSuchProgram = Some (codes "refused library 3\n")
 line_of (Run fault) = Some (run_line fault)
 line_of Write = Some (codes "refused write\n")
 line_of NoMemory = Some memory_line
+line_of NodeNoMemory = Some memory_line
 
 -- 1 refused input, 2 a bad command line, 3 no memory
 abbrev pub status_of : Refusal → ℕ
 status_of (Words fault) = 2
 status_of NoMemory = 3
+status_of NodeNoMemory = 3
 status_of _ = 1

@@ -9,8 +9,8 @@ use Rattle.algorithm_library.specs.declared.fault.LibraryFault.{LibraryFault}
 use Rattle.algorithm_library.specs.declared.fault.LibraryFault.TheVariants as library
 use Rattle.command_runs.specs.InLockstep.{AreTerms}
 use Rattle.command_runs.specs.Lines.{status_of}
-use Rattle.command_runs.specs.Served.{AsksForHelp, IsCheckedSource, IsHeader, IsProgramOf}
-use Rattle.command_runs.specs.Served.{IsSchedule, Prints, file_name}
+use Rattle.command_runs.specs.Served.{AsksForHelp, IsCheckedSource, IsOfKind, IsProgramOf}
+use Rattle.command_runs.specs.Served.{IsThreadSetup, Prints, file_name}
 use Rattle.command_runs.specs.Texts.{Files, IsLongText, IsNoText, IsText}
 use Rattle.command_runs.specs.declared.desk.DeskFault.{DeskFault}
 use Rattle.command_runs.specs.declared.desk.DeskFault.TheVariants as desk
@@ -21,6 +21,8 @@ use Rattle.command_words.specs.declared.values.Source.{Source}
 use Rattle.command_words.specs.declared.values.Source.TheVariants.{File, Library}
 use Rattle.command_words.specs.declared.words.Words.{Words}
 use Rattle.command_words.specs.declared.words.Words.TheVariants.{Check, Judge, Lockstep, Run}
+use Rattle.command_words.specs.declared.words.Words.TheVariants.{Threads}
+use Rattle.node_threads.specs.Ends.{IsFitForThreads}
 use Rattle.command_words.specs.declared.words.WordsFault.{WordsFault}
 use Rattle.command_words.specs.declared.words.WordsFault.TheVariants as words
 use Rattle.round_check.specs.Causes.{fault_of}
@@ -34,9 +36,12 @@ use Rattle.round_lang.specs.declared.fault.LangFault.TheVariants as lang
 use Rattle.round_meaning.specs.Setups.{IsLawful}
 use Rattle.round_meaning.specs.declared.setup.Setup.{Setup}
 use Rattle.policies.specs.declared.bounded.Bounded.{Bounded}
-use Rattle.schedule_text.specs.Readings.{IsReading, IsReadingOf}
-use Rattle.schedule_text.specs.declared.kind.Kind.TheVariants.{Header}
-use Rattle.schedule_text.specs.Texts.{max_text as max_schedule}
+use Rattle.schedule_text.specs.Readings.{IsReadingOf}
+use Rattle.schedule_text.specs.Texts.{Tail, max_text as max_schedule}
+use Rattle.schedule_text.specs.declared.kind.Kind.{Kind}
+use Rattle.schedule_text.specs.declared.kind.Kind.TheVariants as kinds
+use Rattle.schedule_text.specs.declared.pace.Pace.{Pace}
+use Rattle.schedule_text.specs.declared.pace.Stop.{Stop}
 use Rattle.schedule_text.specs.declared.fault.ScheduleFault.{ScheduleFault}
 use Rattle.schedule_text.specs.declared.fault.ScheduleFault.TheVariants as schedule
 use Rattle.slot_plans.specs.Plan.{IsDelta}
@@ -104,31 +109,18 @@ IsOpened (File name) files =
     IfSome (files (file_name name.now)) (λ held. (p : ProgramTree) × IsCheckedSource held p)
 IsOpened (Library name values) files = ⊤
 
--- a text is too long to be a schedule, or this is the first line at fault
-abbrev pub IsBadSchedule : List ℕ → ScheduleFault → Type 0
-IsBadSchedule held schedule.TooLong = IsLongText max_schedule held
-IsBadSchedule held schedule.NoMemory = ⊥
-IsBadSchedule held fault = IsText max_schedule held × IsReading held (Err fault)
+-- a text is too long to be one of this kind, or this is the first line at fault
+abbrev pub IsBadText : Kind → List ℕ → ScheduleFault → Type 0
+IsBadText kind held schedule.TooLong = IsLongText max_schedule held
+IsBadText kind held schedule.NoMemory = ⊥
+IsBadText kind held fault = IsText max_schedule held × IsReadingOf kind held (Err fault)
 
--- why there is no schedule in a file
-abbrev pub IsNoSchedule : Option (List ℕ) → Refusal → Type 0
-IsNoSchedule file refusal.File = IfSome file (IsNoText max_schedule)
-IsNoSchedule file (refusal.Schedule fault) = IfSome file (λ held. IsBadSchedule held fault)
-IsNoSchedule file refusal.NoMemory = ⊤
-IsNoSchedule file _ = ⊥
-
--- a text is too long to be a header, or this is the first line at fault
-abbrev pub IsBadHeader : List ℕ → ScheduleFault → Type 0
-IsBadHeader held schedule.TooLong = IsLongText max_schedule held
-IsBadHeader held schedule.NoMemory = ⊥
-IsBadHeader held fault = IsText max_schedule held × IsReadingOf Header held (Err fault)
-
--- why there is no header in a file
-abbrev pub IsNoHeader : Option (List ℕ) → Refusal → Type 0
-IsNoHeader file refusal.File = IfSome file (IsNoText max_schedule)
-IsNoHeader file (refusal.Schedule fault) = IfSome file (λ held. IsBadHeader held fault)
-IsNoHeader file refusal.NoMemory = ⊤
-IsNoHeader file _ = ⊥
+-- why there is no text of this kind in a file
+abbrev pub IsMissing : Kind → Option (List ℕ) → Refusal → Type 0
+IsMissing kind file refusal.File = IfSome file (IsNoText max_schedule)
+IsMissing kind file (refusal.Schedule fault) = IfSome file (λ held. IsBadText kind held fault)
+IsMissing kind file refusal.NoMemory = ⊤
+IsMissing kind file _ = ⊥
 
 -- a program of the library that needs no more than values, or Algorithm 1
 abbrev pub IsPlain : List ℕ → Type 0
@@ -174,26 +166,17 @@ IsNotRun p s k events correct (refusal.Run fault) =
 IsNotRun p s k events correct refusal.NoMemory = ⊤
 IsNotRun p s k events correct _ = ⊥
 
--- a schedule and a program for it are there, and the program isn't run by it
-abbrev pub IsRefusedRun : Source → Files → Setup → PlanKind → List Event → List ℕ → Refusal → Type 0
-IsRefusedRun source files s k events correct r =
-    (p : ProgramTree) × IsProgramOf source files s.nodes s.faults p
-    × IsNotRun p s k events correct r
+-- why there is no run by threads: a number is past its limits, or else a thread couldn't be started
+-- or was told what isn't recorded, of which nothing more is said
+abbrev pub IsBadForThreads : ProgramTree → Setup → PlanKind → List Stop → Type 0
+IsBadForThreads p s k stops = ¬ (IsFitForThreads p.values s stops × IsPlan k)
 
--- a schedule is there, and there is no program for it, or it isn't run
-abbrev pub IsRefusedFor : Source → Files → Option (List ℕ) → List ℕ → Refusal → Type 0
-IsRefusedFor source files file correct r =
-    (s : Setup) × (k : PlanKind) × (events : List Event)
-    × IfSome file (λ held. IsSchedule held s k events)
-    × (IsNotOffered source s.nodes s.faults r ⊎ IsRefusedRun source files s k events correct r)
-
--- why a source isn't run by the schedule in a file: first the source's file, then the schedule's,
--- then the library, then the run
-abbrev pub IsUnanswered : Source → Files → Option (List ℕ) → List ℕ → Refusal → Type 0
-IsUnanswered source files file correct r =
-    IsNotOpened source files r
-    ⊎ ((IsOpened source files × IsNoSchedule file r)
-    ⊎ (IsOpened source files × IsRefusedFor source files file correct r))
+abbrev pub IsNotThreaded : ProgramTree → Setup → PlanKind → List Stop → Refusal → Type 0
+IsNotThreaded p s k stops (refusal.Run run.BadSetup) = IsBadForThreads p s k stops
+IsNotThreaded p s k stops (refusal.Run run.NoThread) = ¬ (IsBadForThreads p s k stops)
+IsNotThreaded p s k stops (refusal.Run run.Unmatched) = ¬ (IsBadForThreads p s k stops)
+IsNotThreaded p s k stops refusal.NoMemory = ⊤
+IsNotThreaded p s k stops _ = ⊥
 
 -- why there is no run in lockstep: a number or a table is past its limits
 abbrev pub IsNotMade : ProgramTree → Setup → PlanKind → List ℕ → Bounded → Refusal → Type 0
@@ -201,24 +184,55 @@ IsNotMade p s k list b (refusal.Run run.BadSetup) = ¬ (AreTerms p s list b × I
 IsNotMade p s k list b refusal.NoMemory = ⊤
 IsNotMade p s k list b _ = ⊥
 
--- a header and a program for it are there, and no run is made of them
-abbrev pub IsRefusedPacing : Source → Files → Setup → PlanKind → List ℕ → Bounded → Refusal → Type 0
-IsRefusedPacing source files s k list b r =
-    (p : ProgramTree) × IsProgramOf source files s.nodes s.faults p × IsNotMade p s k list b r
+-- why a program isn't run under a text of a kind
+abbrev pub Later : Kind → Type 1
+Later kind = ProgramTree → Setup → PlanKind → Tail kind → Refusal → Type 0
 
--- a header is there, and there is no program for it, or no run is made
-abbrev pub IsRefusedBy : Source → Files → Option (List ℕ) → List ℕ → Bounded → Refusal → Type 0
-IsRefusedBy source files file list b r =
-    (s : Setup) × (k : PlanKind) × IfSome file (λ held. IsHeader held s k)
-    × (IsNotOffered source s.nodes s.faults r ⊎ IsRefusedPacing source files s k list b r)
+-- a text and a program for it are there, and the program isn't run under it
+abbrev pub IsRefusedUnder :
+    (kind : Kind) → Later kind → Source → Files → Setup → PlanKind → Tail kind → Refusal → Type 0
+IsRefusedUnder kind NotRun source files s k t r =
+    (p : ProgramTree) × IsProgramOf source files s.nodes s.faults p × NotRun p s k t r
 
--- why no schedule of a run in lockstep is made: first the source's file, then the header's, then
+-- a text is there, and there is no program for it, or the program isn't run
+abbrev pub IsRefusedFor :
+    (kind : Kind) → Later kind → Source → Files → Option (List ℕ) → Refusal → Type 0
+IsRefusedFor kind NotRun source files file r =
+    (s : Setup) × (k : PlanKind) × (t : Tail kind)
+    × IfSome file (λ held. IsOfKind kind held s k t)
+    × (IsNotOffered source s.nodes s.faults r ⊎ IsRefusedUnder kind NotRun source files s k t r)
+
+-- why a source isn't run under the text in a file: first the source's file, then the text's, then
 -- the library, then the run
+abbrev pub IsRefusedInTurn :
+    (kind : Kind) → Later kind → Source → Files → Option (List ℕ) → Refusal → Type 0
+IsRefusedInTurn kind NotRun source files file r =
+    IsNotOpened source files r
+    ⊎ ((IsOpened source files × IsMissing kind file r)
+    ⊎ (IsOpened source files × IsRefusedFor kind NotRun source files file r))
+
+-- why a source isn't run by the schedule in a file
+abbrev pub IsUnanswered : Source → Files → Option (List ℕ) → List ℕ → Refusal → Type 0
+IsUnanswered source files file correct r =
+    IsRefusedInTurn kinds.Schedule (λ p s k events r. IsNotRun p s k events correct r)
+    source files file r
+
+-- why no schedule of a run in lockstep is made under the header in a file
 abbrev pub IsUnmade : Source → Files → Option (List ℕ) → List ℕ → Bounded → Refusal → Type 0
 IsUnmade source files file list b r =
-    IsNotOpened source files r
-    ⊎ ((IsOpened source files × IsNoHeader file r)
-    ⊎ (IsOpened source files × IsRefusedBy source files file list b r))
+    IsRefusedInTurn kinds.Header (λ p s k _ r. IsNotMade p s k list b r) source files file r
+
+-- why a source isn't run by threads under the setup in a file
+abbrev pub IsUnthreaded : Source → Files → Option (List ℕ) → Refusal → Type 0
+IsUnthreaded source files file r =
+    IsRefusedInTurn kinds.Threads (λ p s k t r. IsNotThreaded p s k t.1 r) source files file r
+
+-- a source is run by threads under the setup in a file
+abbrev pub StartsThreads : Source → Files → Option (List ℕ) → Type 0
+StartsThreads source files file =
+    IsOpened source files × ((s : Setup) × (k : PlanKind) × (pace : Pace) × (stops : List Stop)
+    × (p : ProgramTree) × IfSome file (λ held. IsThreadSetup held s k pace stops)
+    × IsProgramOf source files s.nodes s.faults p × (¬ (IsBadForThreads p s k stops)))
 
 -- why a source isn't checked
 abbrev pub IsUnchecked : Source → Files → Refusal → Type 0
@@ -228,15 +242,28 @@ IsUnchecked source files r = IsNotOpened source files r ⊎ IsNotOffered source 
 abbrev pub IsUnserved : Words → Files → Refusal → Type 0
 IsUnserved (Check source) files r = IsUnchecked source files r
 IsUnserved (Run source schedule told) files r = IsUnanswered source files (files schedule.now) [] r
+IsUnserved (Threads source setup trace told) files r =
+    IsUnthreaded source files (files setup.now) r
 IsUnserved (Judge source schedule correct delta gst) files r =
     IsUnanswered source files (files schedule.now) correct.items r
 IsUnserved (Lockstep source header correct delta gst delays orders ticks) files r =
     IsUnmade source files (files header.now) correct.items
     (record { delta = delta; gst = gst; delays = delays.items; orders = orders.items }) r
 
--- and last, that `out` doesn't take what the command prints
+-- the words are `threads`, and their run is one
+abbrev pub IsThreaded : Words → Files → Type 0
+IsThreaded (Threads source setup trace told) files = StartsThreads source files (files setup.now)
+IsThreaded _ files = ⊥
+
+-- `out` doesn't take what the command prints, or the desk not the trace of `threads`
+abbrev pub IsUnwritten : Words → Files → Type 0
+IsUnwritten (Threads source setup trace told) files = StartsThreads source files (files setup.now)
+IsUnwritten w files = (after : Files) × (text : List ℕ) × Prints w files after text
+
+-- and last, that something isn't written, or that the thread of a node had no memory
 abbrev pub IsRefusedCommand : Words → Files → Refusal → Type 0
-IsRefusedCommand w files refusal.Write = (text : List ℕ) × Prints w files text
+IsRefusedCommand w files refusal.Write = IsUnwritten w files
+IsRefusedCommand w files refusal.NodeNoMemory = IsThreaded w files
 IsRefusedCommand w files r = IsUnserved w files r
 
 -- the cause of a refusal: the words are no command, or the command that they mean is refused; `out`
@@ -248,12 +275,15 @@ IsCause ws files refusal.Write =
     AsksForHelp ws ⊎ ((w : Words) × Means ws w × IsRefusedCommand w files refusal.Write)
 IsCause ws files r = (w : Words) × Means ws w × IsRefusedCommand w files r
 
--- known bytes of `out` stay as they were, unless it takes no more
+-- known bytes of `out` stay as they were, unless it takes no more, or the thread of a node had no
+-- memory
 abbrev pub IsSilent : Option (List ℕ) → Option (List ℕ) → Refusal → Type 0
 IsSilent old new refusal.Write = ⊤
+IsSilent old new refusal.NodeNoMemory = ⊤
 IsSilent old new r = Keeps old new
 
--- a command was refused for a cause that stands, and `out` gained nothing, unless it takes no more
+-- a command was refused for a cause that stands, and `out` gained nothing, unless it takes no more,
+-- or the thread of a node had no memory
 pub record IsRefused (ws : List (List ℕ)) (files : Files) (status : ℕ)
     (old new : Option (List ℕ)) : Type 0 where
   pub refusal : Refusal

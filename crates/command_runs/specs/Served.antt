@@ -5,8 +5,11 @@ use Rattle.std.specs.Fmt.{decimal}
 use Rattle.std.specs.Io.KnownBytes.{Appends}
 use Rattle.std.specs.Str.{bytes_eq}
 use Rattle.policies.specs.declared.bounded.Bounded.{Bounded}
-use Rattle.schedule_text.specs.Texts.{Says, SaysOf, max_text as max_schedule}
-use Rattle.schedule_text.specs.declared.kind.Kind.TheVariants.{Header}
+use Rattle.schedule_text.specs.Texts.{SaysOf, Tail, max_text as max_schedule}
+use Rattle.schedule_text.specs.declared.kind.Kind.{Kind}
+use Rattle.schedule_text.specs.declared.kind.Kind.TheVariants as kinds
+use Rattle.schedule_text.specs.declared.pace.Pace.{Pace}
+use Rattle.schedule_text.specs.declared.pace.Stop.{Stop}
 use Rattle.schedule_text.specs.declared.reading.Schedule.{Schedule}
 use Rattle.command_runs.specs.declared.asking.Answer.{Answer}
 use Rattle.command_runs.specs.declared.asking.Answer.TheVariants as answer
@@ -14,8 +17,9 @@ use Rattle.command_runs.specs.declared.asking.Question.{Question}
 use Rattle.command_runs.specs.declared.asking.Question.TheVariants as question
 use Rattle.command_runs.specs.declared.sources.Opened.{Opened}
 use Rattle.command_runs.specs.declared.sources.Opened.TheVariants as opened
+use Rattle.command_runs.specs.ByThreads.{IsThreadRun}
 use Rattle.command_runs.specs.Explained.{IsReportOf, IsVerdictOf}
-use Rattle.command_runs.specs.InLockstep.{IsLockstepText}
+use Rattle.command_runs.specs.InLockstep.{IsLockstepText, IsWritten}
 use Rattle.command_runs.specs.Library.{Offers}
 use Rattle.command_runs.specs.Texts.{Files, IsText}
 use Rattle.clap.specs.Words.{IsAmong, fault_of}
@@ -26,6 +30,7 @@ use Rattle.command_words.specs.declared.values.Source.{Source}
 use Rattle.command_words.specs.declared.values.Source.TheVariants.{File, Library}
 use Rattle.command_words.specs.declared.words.Words.{Words}
 use Rattle.command_words.specs.declared.words.Words.TheVariants.{Check, Judge, Lockstep, Run}
+use Rattle.command_words.specs.declared.words.Words.TheVariants.{Threads}
 use Rattle.omission_explainer.specs.Decided.{decided_line, summary_of}
 use Rattle.omission_explainer.specs.Report.{report_text}
 use Rattle.omission_explainer.specs.Verdict.{verdict_text}
@@ -80,16 +85,23 @@ abbrev pub receives_of : PlanKind → ℕ → ℕ
 receives_of (Known delta) r = delta
 receives_of Growing r = r
 
--- the text is this schedule
-pub record IsSchedule (text : List ℕ) (s : Setup) (k : PlanKind)
-    (events : List Event) : Type 0 where
+-- the text is of this kind, with this setup and plan in its header, and this behind it
+pub record IsOfKind (kind : Kind) (text : List ℕ) (s : Setup) (k : PlanKind) (t : Tail kind) :
+    Type 0 where
   pub fits : IsText max_schedule text
-  pub says : Says text s k events
+  pub says : SaysOf kind text s k t
+
+-- the text is this schedule
+abbrev pub IsSchedule : List ℕ → Setup → PlanKind → List Event → Type 0
+IsSchedule text s k events = IsOfKind kinds.Schedule text s k events
 
 -- the text is a header, with nothing behind it, of this setup and plan
-pub record IsHeader (text : List ℕ) (s : Setup) (k : PlanKind) : Type 0 where
-  pub fits : IsText max_schedule text
-  pub says : SaysOf Header text s k tt
+abbrev pub IsHeader : List ℕ → Setup → PlanKind → Type 0
+IsHeader text s k = IsOfKind kinds.Header text s k tt
+
+-- the text is this thread setup
+abbrev pub IsThreadSetup : List ℕ → Setup → PlanKind → Pace → List Stop → Type 0
+IsThreadSetup text s k pace stops = IsOfKind kinds.Threads text s k (pace, stops)
 
 -- `ok values K period P variables M`
 abbrev pub summary_text : ProgramTree → List ℕ
@@ -119,6 +131,16 @@ MakesLockstep source files file list b asked made =
     × IsProgramOf source files s.nodes s.faults p
     × IsLockstepText (start_of k s.nodes) p s k list b asked made)
 
+-- the report of the source's run by threads under the setup in a file, and the other file is the
+-- trace of that run as a schedule
+abbrev pub ReportsThreads : Source → Files → (file after : Option (List ℕ)) → Report → Type 0
+ReportsThreads source files file after report =
+    IfSome file (λ text. (s : Setup) × (k : PlanKind) × (pace : Pace) × (stops : List Stop)
+    × (events : List Event) × (p : ProgramTree) × IsThreadSetup text s k pace stops
+    × IsProgramOf source files s.nodes s.faults p
+    × IsThreadRun (start_of k s.nodes) p s stops events report
+    × IfSome after (λ held. IsWritten s k events held))
+
 -- the answer to a question on a run
 abbrev pub AnswersRun : Source → Files → Option (List ℕ) → Question → Answer → Type 0
 AnswersRun source files file (question.Report told) (answer.Report report shown) =
@@ -144,28 +166,35 @@ abbrev pub answer_text : Answer → List ℕ
 answer_text (answer.Report report told) = told_text report told
 answer_text (answer.Verdict verdict) = verdict_text verdict ++ codes "\n"
 
--- what a command prints; a program is checked as for one node without faults
-abbrev pub Prints : Words → Files → List ℕ → Type 0
-Prints (Check source) files text =
+-- what a command prints, where these are the files before it and after it; a program is checked as
+-- for one node without faults
+abbrev pub Prints : Words → (files after : Files) → List ℕ → Type 0
+Prints (Check source) files after text =
     (p : ProgramTree) × IsProgramOf source files 1 0 p × (text ≡ summary_text p)
-Prints (Run source schedule told) files text =
+Prints (Run source schedule told) files after text =
     (report : Report) × ReportsRun source files (files schedule.now) report
     × (text ≡ told_text report told)
-Prints (Judge source schedule correct delta gst) files text =
+Prints (Threads source setup trace told) files after text =
+    (report : Report)
+    × ReportsThreads source files (files setup.now) (after trace.now) report
+    × (text ≡ told_text report told)
+Prints (Judge source schedule correct delta gst) files after text =
     (verdict : Verdict)
     × JudgesRun source files (files schedule.now) correct.items delta gst verdict
     × (text ≡ verdict_text verdict ++ codes "\n")
-Prints (Lockstep source header correct delta gst delays orders ticks) files text =
+Prints (Lockstep source header correct delta gst delays orders ticks) files after text =
     MakesLockstep source files (files header.now) correct.items
     (record { delta = delta; gst = gst; delays = delays.items; orders = orders.items }) ticks text
 
 -- `out` gained what the command prints
-abbrev pub Serves : Words → Files → Option (List ℕ) → Option (List ℕ) → Type 0
-Serves w files old new = (text : List ℕ) × Prints w files text × Appends old new text
+abbrev pub Serves : Words → (files after : Files) → (old new : Option (List ℕ)) → Type 0
+Serves w files after old new = (text : List ℕ) × Prints w files after text × Appends old new text
 
 -- the words mean a command, and it was served
-abbrev pub IsServed : List (List ℕ) → Files → Option (List ℕ) → Option (List ℕ) → Type 0
-IsServed words files old new = (w : Words) × Means words w × Serves w files old new
+abbrev pub IsServed :
+    List (List ℕ) → (files after : Files) → (old new : Option (List ℕ)) → Type 0
+IsServed words files after old new =
+    (w : Words) × Means words w × Serves w files after old new
 
 -- `clap` finds in the words a call for help or for the version
 abbrev pub AsksForHelp : List (List ℕ) → Type 0

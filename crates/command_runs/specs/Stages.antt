@@ -1,12 +1,15 @@
 -- What the parts of a command answer, which proofs pass through.
-use Rattle.std.specs.Prelude.{◌≡◌, ◌<◌, ⊤, ℕ, All, Err, List, [], Option, Some, length, true}
+use Rattle.std.specs.Prelude.{◌≡◌, ◌<◌, ⊤, ℕ, All, Bool, Err, List, [], Option, Some, length}
+use Rattle.std.specs.Prelude.{true}
 use Rattle.std.specs.Io.KnownBytes.{Appends}
 use Rattle.std.specs.Str.{IsUtf8}
 use Rattle.adversary.specs.Driving.{IsUnknownAt}
 use Rattle.adversary.specs.declared.fault.RunFault.TheVariants as run
 use Rattle.command_runs.specs.InLockstep.{AreTerms}
-use Rattle.command_runs.specs.Refused.{IsNoOffer, IsUnanswered, IsUnmade}
-use Rattle.command_runs.specs.Served.{AnswersRun, MakesLockstep, answer_text}
+use Rattle.command_runs.specs.Refused.{IsNoOffer, IsUnanswered, IsUnmade, IsUnthreaded}
+use Rattle.command_runs.specs.Refused.{StartsThreads}
+use Rattle.command_runs.specs.Served.{AnswersRun, MakesLockstep, ReportsThreads, answer_text}
+use Rattle.command_runs.specs.Served.{told_text}
 use Rattle.command_runs.specs.Texts.{BeginsUtf8, Files}
 use Rattle.command_runs.specs.declared.asking.Answer.{Answer}
 use Rattle.command_runs.specs.declared.asking.Question.{Question}
@@ -18,7 +21,9 @@ use Rattle.command_runs.specs.declared.sources.Opened.TheVariants as opened
 use Rattle.command_runs.specs.declared.texts.Text.{Text}
 use Rattle.command_runs.specs.declared.texts.Text.TheVariants as text
 use Rattle.command_words.specs.declared.values.Source.{Source}
+use Rattle.node_threads.specs.Ends.{IsFitForThreads}
 use Rattle.policies.specs.declared.bounded.Bounded.{Bounded}
+use Rattle.omission_explainer.specs.declared.report.Report.{Report}
 use Rattle.round_check.specs.Causes.{fault_of, is_typed}
 use Rattle.round_lang.specs.Limits.{max_text}
 use Rattle.round_lang.specs.Source.{IsSource}
@@ -26,12 +31,15 @@ use Rattle.round_lang.specs.Syntax.{ProgramTree}
 use Rattle.round_lang.specs.declared.fault.LangFault.TheVariants as lang
 use Rattle.round_meaning.specs.Setups.{IsLawful}
 use Rattle.round_meaning.specs.declared.setup.Setup.{Setup}
-use Rattle.schedule_text.specs.Readings.{IsReading, IsReadingOf}
-use Rattle.schedule_text.specs.Texts.{Says, SaysOf, max_text as max_schedule}
-use Rattle.schedule_text.specs.declared.kind.Kind.TheVariants.{Header}
+use Rattle.schedule_text.specs.Readings.{IsReadingOf}
+use Rattle.schedule_text.specs.Texts.{SaysOf, Tail, max_text as max_schedule}
+use Rattle.schedule_text.specs.declared.kind.Kind.{Kind}
+use Rattle.schedule_text.specs.declared.kind.Kind.TheVariants as kinds
 use Rattle.slot_plans.specs.declared.kind.PlanKind.{PlanKind}
 use Rattle.schedule_text.specs.declared.fault.ScheduleFault.TheVariants as schedule
+use Rattle.schedule_text.specs.declared.pace.Stop.{Stop}
 use Rattle.schedule_text.specs.declared.reading.Schedule.{Schedule}
+use Rattle.schedule_text.specs.declared.reading.ThreadSetup.{ThreadSetup}
 use Rattle.step_machine.specs.declared.event.Event.{Event}
 
 -- why a text in UTF-8 has no program
@@ -56,46 +64,35 @@ IsNoProgramIn (text.Longer bytes) refusal.File = ¬ (BeginsUtf8 bytes.items)
 IsNoProgramIn (text.Longer bytes) (refusal.Source lang.TooLong) = BeginsUtf8 bytes.items
 IsNoProgramIn (text.Longer bytes) _ = ⊥
 
--- why a text in UTF-8 is no schedule
-abbrev pub IsNoScheduleOf : List ℕ → Refusal → Type 0
-IsNoScheduleOf held (refusal.Schedule schedule.TooLong) = max_schedule < length held
-IsNoScheduleOf held (refusal.Schedule schedule.NoMemory) = ⊥
-IsNoScheduleOf held (refusal.Schedule fault) = IsReading held (Err fault)
-IsNoScheduleOf held refusal.NoMemory = ⊤
-IsNoScheduleOf held _ = ⊥
+-- why a text in UTF-8 is none of this kind
+abbrev pub IsNoReadOf : Kind → List ℕ → Refusal → Type 0
+IsNoReadOf kind held (refusal.Schedule schedule.TooLong) = max_schedule < length held
+IsNoReadOf kind held (refusal.Schedule schedule.NoMemory) = ⊥
+IsNoReadOf kind held (refusal.Schedule fault) = IsReadingOf kind held (Err fault)
+IsNoReadOf kind held refusal.NoMemory = ⊤
+IsNoReadOf kind held _ = ⊥
 
--- the schedule of what was read, and why there is none
+-- what was read says this as a text of this kind, and why it says nothing
+abbrev pub IsReadIn : (kind : Kind) → Text → Setup → PlanKind → Tail kind → Type 0
+IsReadIn kind (text.Whole bytes) s k t = IsUtf8 bytes.items × SaysOf kind bytes.items s k t
+IsReadIn kind (text.Longer bytes) s k t = ⊥
+
+abbrev pub IsNoReadIn : Kind → Text → Refusal → Type 0
+IsNoReadIn kind (text.Whole bytes) refusal.File = ¬ (IsUtf8 bytes.items)
+IsNoReadIn kind (text.Whole bytes) r = IsUtf8 bytes.items × IsNoReadOf kind bytes.items r
+IsNoReadIn kind (text.Longer bytes) refusal.File = ¬ (BeginsUtf8 bytes.items)
+IsNoReadIn kind (text.Longer bytes) (refusal.Schedule schedule.TooLong) = BeginsUtf8 bytes.items
+IsNoReadIn kind (text.Longer bytes) _ = ⊥
+
+-- the schedule, the header and the thread setup of what was read
 abbrev pub IsScheduleIn : Text → Schedule → Type 0
-IsScheduleIn (text.Whole bytes) s =
-    IsUtf8 bytes.items × Says bytes.items s.setup s.plan s.events.items
-IsScheduleIn (text.Longer bytes) s = ⊥
+IsScheduleIn text s = IsReadIn kinds.Schedule text s.setup s.plan s.events.items
 
-abbrev pub IsNoScheduleIn : Text → Refusal → Type 0
-IsNoScheduleIn (text.Whole bytes) refusal.File = ¬ (IsUtf8 bytes.items)
-IsNoScheduleIn (text.Whole bytes) r = IsUtf8 bytes.items × IsNoScheduleOf bytes.items r
-IsNoScheduleIn (text.Longer bytes) refusal.File = ¬ (BeginsUtf8 bytes.items)
-IsNoScheduleIn (text.Longer bytes) (refusal.Schedule schedule.TooLong) = BeginsUtf8 bytes.items
-IsNoScheduleIn (text.Longer bytes) _ = ⊥
-
--- why a text in UTF-8 is no header
-abbrev pub IsNoHeaderOf : List ℕ → Refusal → Type 0
-IsNoHeaderOf held (refusal.Schedule schedule.TooLong) = max_schedule < length held
-IsNoHeaderOf held (refusal.Schedule schedule.NoMemory) = ⊥
-IsNoHeaderOf held (refusal.Schedule fault) = IsReadingOf Header held (Err fault)
-IsNoHeaderOf held refusal.NoMemory = ⊤
-IsNoHeaderOf held _ = ⊥
-
--- the header of what was read, and why there is none
 abbrev pub IsHeaderIn : Text → Setup × PlanKind → Type 0
-IsHeaderIn (text.Whole bytes) h = IsUtf8 bytes.items × SaysOf Header bytes.items h.0 h.1 tt
-IsHeaderIn (text.Longer bytes) h = ⊥
+IsHeaderIn text h = IsReadIn kinds.Header text h.0 h.1 tt
 
-abbrev pub IsNoHeaderIn : Text → Refusal → Type 0
-IsNoHeaderIn (text.Whole bytes) refusal.File = ¬ (IsUtf8 bytes.items)
-IsNoHeaderIn (text.Whole bytes) r = IsUtf8 bytes.items × IsNoHeaderOf bytes.items r
-IsNoHeaderIn (text.Longer bytes) refusal.File = ¬ (BeginsUtf8 bytes.items)
-IsNoHeaderIn (text.Longer bytes) (refusal.Schedule schedule.TooLong) = BeginsUtf8 bytes.items
-IsNoHeaderIn (text.Longer bytes) _ = ⊥
+abbrev pub IsThreadSetupIn : Text → ThreadSetup → Type 0
+IsThreadSetupIn text t = IsReadIn kinds.Threads text t.setup t.plan (t.pace, t.stops.items)
 
 -- why an opened source has no program
 abbrev pub IsHeldBack : Opened → (nodes faults : ℕ) → Refusal → Type 0
@@ -145,3 +142,24 @@ IsNotMadeAs p s list b _ = ⊥
 abbrev pub IsRefusedAnswer : Source → Files → Option (List ℕ) → Question → Refusal → Type 0
 IsRefusedAnswer source files file q refusal.Write = (a : Answer) × AnswersRun source files file q a
 IsRefusedAnswer source files file q r = IsUnanswered source files file (listed_by q) r
+
+-- why there is no run by threads under a plan
+abbrev pub IsNotThreadedAs : ProgramTree → Setup → List Stop → Refusal → Type 0
+IsNotThreadedAs p s stops (refusal.Run run.BadSetup) = ¬ (IsFitForThreads p.values s stops)
+IsNotThreadedAs p s stops (refusal.Run run.NoThread) = ¬ ¬ (IsFitForThreads p.values s stops)
+IsNotThreadedAs p s stops (refusal.Run run.Unmatched) = ¬ ¬ (IsFitForThreads p.values s stops)
+IsNotThreadedAs p s stops refusal.NoMemory = ⊤
+IsNotThreadedAs p s stops _ = ⊥
+
+-- `out` gained the report of a run by threads, and the other file has its trace
+abbrev pub TellsThreads : Source → Files → (file after : Option (List ℕ)) → Bool
+    → (old new : Option (List ℕ)) → Type 0
+TellsThreads source files file after told old new =
+    (report : Report) × ReportsThreads source files file after report
+    × Appends old new (told_text report told)
+
+-- why it isn't told
+abbrev pub IsRefusedThreads : Source → Files → Option (List ℕ) → Refusal → Type 0
+IsRefusedThreads source files file refusal.Write = StartsThreads source files file
+IsRefusedThreads source files file refusal.NodeNoMemory = StartsThreads source files file
+IsRefusedThreads source files file r = IsUnthreaded source files file r

@@ -1,9 +1,10 @@
 //! What is asked of the run of a schedule.
 ghost use Rattle.std.specs.Prelude.{◌≡◌, IfErr, IfOk, IfSome};
-ghost use Rattle.command_runs.specs.Refused.{IsNoSchedule, IsNotRun, IsUnanswered};
+ghost use Rattle.command_runs.specs.Refused.{IsMissing, IsNotRun, IsUnanswered};
 ghost use Rattle.command_runs.specs.Served.{Answered, AnswersRun, IsSchedule, receives_of};
 ghost use Rattle.command_runs.specs.Served.{start_of};
-ghost use Rattle.command_runs.specs.Stages.{IsNoScheduleIn, IsNotRunAs, IsScheduleIn, listed_by};
+ghost use Rattle.command_runs.specs.Stages.{IsNoReadIn, IsNotRunAs, IsScheduleIn, listed_by};
+ghost use Rattle.schedule_text.specs.declared.kind.Kind.TheVariants as kinds;
 
 use crate::desk::Desk;
 use crate::explained::{Terms, explained_run, judged_run};
@@ -66,7 +67,7 @@ impl<'a> Run<'a> {
 fn schedule_in<D: Desk>(alloc: Global, name: &str, desk: &mut D) -> Result<Schedule, Refusal>
     ensures schedule { IfOk result (λ schedule. IfSome (D.files desk.old name.now)
         (λ text. IsSchedule text schedule.setup schedule.plan schedule.events.items)) }
-    ensures refused { IfErr result (IsNoSchedule (D.files desk.old name.now)) }
+    ensures refused { IfErr result (IsMissing kinds.Schedule (D.files desk.old name.now)) }
     ensures written { D.written desk.new ≡ D.written desk.old }
 {
     let text = Text::read(alloc, name, MAX_TEXT, desk)?;
@@ -76,7 +77,7 @@ fn schedule_in<D: Desk>(alloc: Global, name: &str, desk: &mut D) -> Result<Sched
 /// The schedule that a text is.
 fn schedule_of(alloc: Global, text: Text) -> Result<Schedule, Refusal>
     ensures schedule { IfOk result (IsScheduleIn text) }
-    ensures refused { IfErr result (IsNoScheduleIn text) }
+    ensures refused { IfErr result (IsNoReadIn kinds.Schedule text) }
 {
     match text {
         Text::Whole(bytes) => match str::from_utf8(&bytes) {

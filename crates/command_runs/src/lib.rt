@@ -11,6 +11,7 @@ mod refusal;
 mod run;
 mod sources;
 mod texts;
+mod threads;
 mod written;
 
 pub use desk::{Desk, DeskFault};
@@ -20,4 +21,5 @@ pub use lockstep::{Pacing, lockstep_text};
 pub use memory_desk::MemoryDesk;
 pub use refusal::Refusal;
 pub use run::run_words;
+pub use threads::{ThreadRun, explained_threads};
 pub use written::Written;

@@ -1,10 +1,11 @@
 //! The schedule of a run in lockstep.
 ghost use Rattle.std.specs.Prelude.{◌≡◌, ◌≤◌, ◌⊎◌, ◌↔◌, Err, IfErr, IfOk, IfSome, string_bytes};
 ghost use Rattle.command_runs.specs.InLockstep.{AreTerms, IsLockstepText, ticks_of};
-ghost use Rattle.command_runs.specs.Refused.{IsNoHeader, IsNotMade, IsUnmade};
+ghost use Rattle.command_runs.specs.Refused.{IsMissing, IsNotMade, IsUnmade};
 ghost use Rattle.command_runs.specs.Served.{IsHeader, MakesLockstep, start_of};
-ghost use Rattle.command_runs.specs.Stages.{IsHeaderIn, IsNoHeaderIn, IsNotMadeAs};
+ghost use Rattle.command_runs.specs.Stages.{IsHeaderIn, IsNoReadIn, IsNotMadeAs};
 ghost use Rattle.round_meaning.specs.Setups.{max_rounds};
+ghost use Rattle.schedule_text.specs.declared.kind.Kind.TheVariants as kinds;
 
 use crate::desk::Desk;
 use crate::explained::nodes_in;
@@ -65,7 +66,7 @@ impl<'a> Paced<'a> {
 fn header_in<D: Desk>(alloc: Global, name: &str, desk: &mut D) -> Result<(Setup, PlanKind), Refusal>
     ensures header { IfOk result (λ h. IfSome (D.files desk.old name.now)
         (λ text. IsHeader text h.0 h.1)) }
-    ensures refused { IfErr result (IsNoHeader (D.files desk.old name.now)) }
+    ensures refused { IfErr result (IsMissing kinds.Header (D.files desk.old name.now)) }
     ensures written { D.written desk.new ≡ D.written desk.old }
 {
     let text = Text::read(alloc, name, MAX_TEXT, desk)?;
@@ -75,7 +76,7 @@ fn header_in<D: Desk>(alloc: Global, name: &str, desk: &mut D) -> Result<(Setup,
 /// The header that a text is.
 fn header_of(alloc: Global, text: Text) -> Result<(Setup, PlanKind), Refusal>
     ensures header { IfOk result (IsHeaderIn text) }
-    ensures refused { IfErr result (IsNoHeaderIn text) }
+    ensures refused { IfErr result (IsNoReadIn kinds.Header text) }
 {
     match text {
         Text::Whole(bytes) => match str::from_utf8(&bytes) {

@@ -33,6 +33,8 @@ pub enum Refusal {
     /// Standard output takes no more.
     Write,
     NoMemory,
+    /// The thread of a node ended for want of memory, so that its run isn't whole.
+    NodeNoMemory,
 }
 
 impl Refusal {
@@ -42,7 +44,7 @@ impl Refusal {
     {
         match self {
             Refusal::Words(_) => 2,
-            Refusal::NoMemory => 3,
+            Refusal::NoMemory | Refusal::NodeNoMemory => 3,
             _ => 1,
         }
     }
@@ -70,7 +72,7 @@ impl fmt::Display for Refusal {
             Refusal::NoSuchProgram => writeln!(f, "refused library 3"),
             Refusal::Run(fault) => write_run(*fault, f),
             Refusal::Write => writeln!(f, "refused write"),
-            Refusal::NoMemory => write_no_memory(f),
+            Refusal::NoMemory | Refusal::NodeNoMemory => write_no_memory(f),
         }
     }
 }

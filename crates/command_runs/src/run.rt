@@ -1,18 +1,21 @@
 //! Running a command.
-ghost use Rattle.std.specs.Prelude.{◌≡◌, ◌<◌, ◌≤◌, ◌⊎◌, IfErr, IsOk, OnOk, map};
+ghost use Rattle.std.specs.Prelude.{◌≡◌, ◌<◌, ◌≤◌, ◌⊎◌, ◌++◌, ◌∷◌, [], IfErr, IfSome, IsOk};
+ghost use Rattle.std.specs.Prelude.{OnOk, map};
 ghost use Rattle.std.specs.Io.KnownBytes.{Appends, Keeps};
+ghost use Rattle.command_runs.specs.Desks.{MayWrite, Writes, WroteAll, WroteAtMost, WroteFor};
 ghost use Rattle.command_runs.specs.Refused.{IsCause, IsRefused, IsRefusedCommand, IsSilent};
 ghost use Rattle.command_runs.specs.Served.{AsksForHelp, IsServed, Serves, answer_text};
 ghost use Rattle.command_runs.specs.Served.{summary_text};
-ghost use Rattle.command_runs.specs.Stages.{IsRefusedAnswer, IsRefusedLockstep, TellsAnswer};
-ghost use Rattle.command_runs.specs.Stages.{TellsLockstep};
+ghost use Rattle.command_runs.specs.Stages.{IsRefusedAnswer, IsRefusedLockstep, IsRefusedThreads};
+ghost use Rattle.command_runs.specs.Stages.{TellsAnswer, TellsLockstep, TellsThreads};
 
 use crate::asking::{Answer, Question, Run};
-use crate::desk::Desk;
+use crate::desk::{Desk, DeskFault};
 use crate::explained::Terms;
 use crate::lockstep::{Paced, Pacing};
 use crate::refusal::Refusal;
 use crate::sources::Opened;
+use crate::threads::{ThreadRun, Threaded};
 use command_words::{Source, Words, WordsFault, read_words};
 use omission_explainer::{decided, write_report};
 use policies::{Bounded, Table};
@@ -20,12 +23,18 @@ use round_check::Checked;
 use std::alloc::Global;
 use std::io;
 use std::io::Write;
+use std::sync::Wait;
+use std::thread::Threads;
 
 /// Runs the command that the words name, and answers the exit status: 0 done, 1 refused input, 2 a
 /// bad command line, 3 no memory. With a refusal nothing is written to `out`, and one line to
-/// `err`; only where `out` fails it may have a part. Where the words ask for help or the version,
-/// `out` gets that text.
-pub fn run_words<'a, D: Desk, O: Write, E: Write>(
+/// `err`; only where `out` fails it may have a part, and where the thread of a node had no memory
+/// it has the report of what was recorded. Where the words ask for help or the version, `out` gets
+/// that text.
+///
+/// With `threads` it waits for its threads, and needn't return.
+pub fn run_words<'a, R: Threads + Wait + Sync, D: Desk, O: Write, E: Write>(
+    rt: &R,
     alloc: Global,
     words: &'a [&'a str],
     desk: &mut D,
@@ -33,19 +42,27 @@ pub fn run_words<'a, D: Desk, O: Write, E: Write>(
     err: &mut E,
 ) -> u8
     ensures status { result ≤ 3 }
-    // Status 0: what `out` gained is what the words' command prints of the desk's files, or the
-    // words ask for help or the version, of whose text nothing is said.
+    // Status 0: what `out` gained is what the words' command prints of the desk's files, as they
+    // were and as they are then, or the words ask for help or the version, of whose text nothing is
+    // said.
     ensures served { result ≡ 0 → IsServed (map (λ s. s.now) words.entry.now) (D.files desk.old)
-        (O.contents out.old) (O.contents out.new) ⊎ AsksForHelp (map (λ s. s.now) words.entry.now) }
-    // Another status: a cause stands, and none that is told before it, and `out` gained nothing.
+        (D.files desk.new) (O.contents out.old) (O.contents out.new)
+        ⊎ AsksForHelp (map (λ s. s.now) words.entry.now) }
+    // Another status: a cause stands, and none that is told before it, and `out` gained nothing,
+    // but where the thread of a node had no memory.
     ensures refused { 0 < result → IsRefused (map (λ s. s.now) words.entry.now)
         (D.files desk.old) result (O.contents out.old) (O.contents out.new) }
-    // No command writes a file.
-    ensures written { D.written desk.new ≡ D.written desk.old }
+    // No command writes a file, but for `threads` that of its trace.
+    ensures written { WroteFor (map (λ s. s.now) words.entry.now)
+        (D.written desk.old) (D.written desk.new) }
+    // With status 0 that file was written, once.
+    ensures traced { result ≡ 0 → WroteAll (map (λ s. s.now) words.entry.now)
+        (D.written desk.old) (D.written desk.new)
+        ⊎ AsksForHelp (map (λ s. s.now) words.entry.now) }
     // With status 0 nothing was written to `err`.
     ensures quiet { result ≡ 0 → Keeps (E.contents err.old) (E.contents err.new) }
 {
-    match serve(alloc, words, desk, out) {
+    match serve(rt, alloc, words, desk, out) {
         Ok(()) => 0,
         Err(refusal) => {
             // Where `err` fails too there is nobody left to tell.
@@ -55,21 +72,26 @@ pub fn run_words<'a, D: Desk, O: Write, E: Write>(
     }
 }
 
-fn serve<'a, D: Desk, O: Write>(
+fn serve<'a, R: Threads + Wait + Sync, D: Desk, O: Write>(
+    rt: &R,
     alloc: Global,
     words: &'a [&'a str],
     desk: &mut D,
     out: &mut O,
 ) -> Result<(), Refusal>
     ensures served { OnOk result (IsServed (map (λ s. s.now) words.entry.now) (D.files desk.old)
-        (O.contents out.old) (O.contents out.new)
+        (D.files desk.new) (O.contents out.old) (O.contents out.new)
         ⊎ AsksForHelp (map (λ s. s.now) words.entry.now)) }
     ensures refused { IfErr result (IsCause (map (λ s. s.now) words.entry.now) (D.files desk.old)) }
     ensures silent { IfErr result (IsSilent (O.contents out.old) (O.contents out.new)) }
-    ensures written { D.written desk.new ≡ D.written desk.old }
+    ensures written { WroteFor (map (λ s. s.now) words.entry.now)
+        (D.written desk.old) (D.written desk.new) }
+    ensures traced { OnOk result (WroteAll (map (λ s. s.now) words.entry.now)
+        (D.written desk.old) (D.written desk.new)
+        ⊎ AsksForHelp (map (λ s. s.now) words.entry.now)) }
 {
     match read_words(alloc, words) {
-        Ok(command) => carry_out(alloc, command, desk, out),
+        Ok(command) => carry_out(rt, alloc, command, desk, out),
         // Help and the version are no mistakes.
         Err(WordsFault::Refused(error)) if !error.use_stderr() => {
             written(write!(out, "{error}"), out)
@@ -78,17 +100,20 @@ fn serve<'a, D: Desk, O: Write>(
     }
 }
 
-fn carry_out<'a, D: Desk, O: Write>(
+fn carry_out<'a, R: Threads + Wait + Sync, D: Desk, O: Write>(
+    rt: &R,
     alloc: Global,
     command: Words<'a>,
     desk: &mut D,
     out: &mut O,
 ) -> Result<(), Refusal>
-    ensures served { OnOk result (Serves command.entry (D.files desk.old)
+    ensures served { OnOk result (Serves command.entry (D.files desk.old) (D.files desk.new)
         (O.contents out.old) (O.contents out.new)) }
     ensures refused { IfErr result (IsRefusedCommand command.entry (D.files desk.old)) }
     ensures silent { IfErr result (IsSilent (O.contents out.old) (O.contents out.new)) }
-    ensures written { D.written desk.new ≡ D.written desk.old }
+    ensures written { MayWrite command.entry (D.written desk.old) (D.written desk.new) }
+    ensures traced { OnOk result
+        (Writes command.entry (D.written desk.old) (D.written desk.new)) }
 {
     match command {
         Words::Check { source } => check_source(alloc, source, desk, out),
@@ -99,6 +124,19 @@ fn carry_out<'a, D: Desk, O: Write>(
         } => {
             let run = Run { source, schedule };
             answer(alloc, run, Question::Report { decided }, desk, out)
+        }
+        Words::Threads {
+            source,
+            setup,
+            trace,
+            decided,
+        } => {
+            let threaded = Threaded {
+                source,
+                setup,
+                trace,
+            };
+            thread(rt, alloc, threaded, decided, desk, out)
         }
         Words::Judge {
             source,
@@ -150,7 +188,7 @@ fn check_source<'a, D: Desk, O: Write>(
     out: &mut O,
 ) -> Result<(), Refusal>
     ensures served { OnOk result (Serves (Words.Check source.entry) (D.files desk.old)
-        (O.contents out.old) (O.contents out.new)) }
+        (D.files desk.new) (O.contents out.old) (O.contents out.new)) }
     ensures refused { IfErr result
         (IsRefusedCommand (Words.Check source.entry) (D.files desk.old)) }
     ensures silent { IfErr result (IsSilent (O.contents out.old) (O.contents out.new)) }
@@ -180,6 +218,56 @@ fn answer<'a, D: Desk, O: Write>(
 {
     let answer = run.answer(alloc, question, desk)?;
     written(write_answer(&answer, out), out)
+}
+
+/// Runs a source by threads, and writes the trace and then the report.
+#[tactic(auto, using(crate::proofs::Telling::silent_same))]
+fn thread<'a, R: Threads + Wait + Sync, D: Desk, O: Write>(
+    rt: &R,
+    alloc: Global,
+    threaded: Threaded<'a>,
+    decided: bool,
+    desk: &mut D,
+    out: &mut O,
+) -> Result<(), Refusal>
+    ensures served { OnOk result (TellsThreads threaded.entry.source (D.files desk.old)
+        (D.files desk.old threaded.entry.setup.now) (D.files desk.new threaded.entry.trace.now)
+        decided (O.contents out.old) (O.contents out.new)) }
+    ensures refused { IfErr result (IsRefusedThreads threaded.entry.source (D.files desk.old)
+        (D.files desk.old threaded.entry.setup.now)) }
+    ensures silent { IfErr result (IsSilent (O.contents out.old) (O.contents out.new)) }
+    ensures written { WroteAtMost (D.written desk.old) (D.written desk.new)
+        threaded.entry.trace.now }
+    ensures traced { OnOk result
+        (D.written desk.new ≡ D.written desk.old ++ threaded.entry.trace.now ∷ []) }
+{
+    let ThreadRun {
+        report,
+        trace,
+        whole,
+    } = threaded.run(rt, alloc, desk)?;
+    write_trace(threaded.trace, trace.as_str(), desk)?;
+    let answer = Answer::Report { report, decided };
+    written(write_answer(&answer, out), out)?;
+    if whole {
+        Ok(())
+    } else {
+        Err(Refusal::NodeNoMemory)
+    }
+}
+
+/// Makes the text the whole file of the trace.
+fn write_trace<D: Desk>(name: &str, text: &str, desk: &mut D) -> Result<(), Refusal>
+    ensures held { OnOk result (IfSome (D.files desk.new name.now) (λ held. held ≡ text.now)) }
+    ensures refused { IfErr result (λ r. (r ≡ Refusal.Write) ⊎ (r ≡ Refusal.NoMemory)) }
+    ensures written { WroteAtMost (D.written desk.old) (D.written desk.new) name.now }
+    ensures traced { OnOk result (D.written desk.new ≡ D.written desk.old ++ name.now ∷ []) }
+{
+    match desk.write(name, text.as_bytes()) {
+        Ok(()) => Ok(()),
+        Err(DeskFault::Failed) => Err(Refusal::Write),
+        Err(DeskFault::NoMemory) => Err(Refusal::NoMemory),
+    }
 }
 
 /// Writes the schedule of a run in lockstep.

@@ -18,6 +18,8 @@ use std::alloc::Global;
 use std::env;
 use std::io::{Read, Write};
 use std::process::ExitCode;
+use std::sync::Wait;
+use std::thread::Threads;
 use writers::{Full, Stuck};
 
 /// The words after the program's own name.
@@ -39,38 +41,48 @@ fn desk(rt: &HostRuntime, alloc: Global) -> Result<MemoryDesk, Fault> {
 }
 
 /// Runs the words with a writer that takes all, and prints what it took.
-fn run_whole(rt: &HostRuntime, alloc: Global, words: &[&str]) -> Result<u8, Fault> {
+fn run_whole<R: Threads + Wait + Sync>(
+    rt: &HostRuntime,
+    starter: &R,
+    alloc: Global,
+    words: &[&str],
+) -> Result<u8, Fault> {
     let mut desk = desk(rt, alloc)?;
     let mut out = Vec::new(alloc);
-    let status = run_words(alloc, words, &mut desk, &mut out, &mut rt.stderr());
+    let status = run_words(starter, alloc, words, &mut desk, &mut out, &mut rt.stderr());
     rt.stdout().write_all(out.as_slice())?;
     Ok(status)
 }
 
 /// Runs the words with another writer.
-fn run_into<O: Write>(
+fn run_into<R: Threads + Wait + Sync, O: Write>(
     rt: &HostRuntime,
+    starter: &R,
     alloc: Global,
     words: &[&str],
     out: &mut O,
 ) -> Result<u8, Fault> {
     let mut desk = desk(rt, alloc)?;
-    Ok(run_words(alloc, words, &mut desk, out, &mut rt.stderr()))
+    Ok(run_words(starter, alloc, words, &mut desk, out, &mut rt.stderr()))
 }
 
-fn run(rt: &HostRuntime, alloc: Global) -> Result<u8, Fault> {
+fn run<R: Threads + Wait + Sync>(
+    rt: &HostRuntime,
+    starter: &R,
+    alloc: Global,
+) -> Result<u8, Fault> {
     let words = env::args(rt)?.collect::<Vec<String>>(alloc)?;
     let words = texts(alloc, words.as_slice())?;
     match words.as_slice() {
-        ["whole", words @ ..] => run_whole(rt, alloc, words),
-        ["full", words @ ..] => run_into(rt, alloc, words, &mut Full),
-        ["stuck", words @ ..] => run_into(rt, alloc, words, &mut Stuck),
+        ["whole", words @ ..] => run_whole(rt, starter, alloc, words),
+        ["full", words @ ..] => run_into(rt, starter, alloc, words, &mut Full),
+        ["stuck", words @ ..] => run_into(rt, starter, alloc, words, &mut Stuck),
         _ => Err(Fault::Unreadable),
     }
 }
 
 fn main(rt: HostRuntime) -> ExitCode {
-    match run(&rt, rt.alloc()) {
+    match run(&rt, &rt, rt.alloc()) {
         Ok(status) => ExitCode::from(status),
         Err(fault) => {
             // Where standard error fails too there is nobody left to tell.

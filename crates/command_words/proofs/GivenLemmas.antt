@@ -86,25 +86,28 @@ lack_explained words name rows (fault.Refused e) none is lack = absurd (elim lac
   | inr more ↦ elim more [
     | inl run ↦ elim run.1 [ inl source ↦ source | inr file ↦ file ]
     | inr more ↦ elim more [
-      | inl judge ↦ elim judge.1 [
-        | inl run ↦ elim run [ inl source ↦ source | inr file ↦ file ]
-        | inr terms ↦ elim terms [ inl list ↦ list | inr value ↦ elim value [ inl delta ↦ delta | inr gst ↦ gst ] ]
-      ]
+      | inl threads ↦ elim threads.1 [ inl source ↦ source | inr file ↦ elim file [ inl setup ↦ setup | inr trace ↦ trace ] ]
       | inr more ↦ elim more [
-        | inl lockstep ↦ elim lockstep.1 [
-          | inl source ↦ source
-          | inr more ↦ elim more [
-            | inl file ↦ file
+        | inl judge ↦ elim judge.1 [
+          | inl run ↦ elim run [ inl source ↦ source | inr file ↦ file ]
+          | inr terms ↦ elim terms [ inl list ↦ list | inr value ↦ elim value [ inl delta ↦ delta | inr gst ↦ gst ] ]
+        ]
+        | inr more ↦ elim more [
+          | inl lockstep ↦ elim lockstep.1 [
+            | inl source ↦ source
             | inr more ↦ elim more [
-              | inl terms ↦ elim terms [ inl list ↦ list | inr value ↦ elim value [ inl delta ↦ delta | inr gst ↦ gst ] ]
+              | inl file ↦ file
               | inr more ↦ elim more [
-                | inl delays ↦ delays
-                | inr more ↦ elim more [ inl orders ↦ orders | inr ticks ↦ ticks ]
+                | inl terms ↦ elim terms [ inl list ↦ list | inr value ↦ elim value [ inl delta ↦ delta | inr gst ↦ gst ] ]
+                | inr more ↦ elim more [
+                  | inl delays ↦ delays
+                  | inr more ↦ elim more [ inl orders ↦ orders | inr ticks ↦ ticks ]
+                ]
               ]
             ]
           ]
+          | inr other ↦ cc (other.1)
         ]
-        | inr other ↦ cc (other.1)
       ]
     ]
   ]

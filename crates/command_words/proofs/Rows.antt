@@ -24,6 +24,29 @@ missing_refused : fault_of roundc_app (codes "run" ∷ codes "@gather:2" ∷ [])
 unfolding clap_on_literals
 missing_refused = refl
 
+abbrev threads_row : List Text
+threads_row = codes "threads" ∷ codes "a" ∷ codes "--trace" ∷ codes "b" ∷ codes "--decided" ∷ codes "--setup" ∷ codes "-" ∷ []
+
+threads_taken : takes roundc_app threads_row ≡ true
+unfolding clap_on_literals
+threads_taken = refl
+
+threads_setup : option_map (λ p. first_of (codes "setup") p.1) (subcommand_of roundc_app threads_row) ≡ Some (Some (codes "-"))
+unfolding clap_on_literals
+threads_setup = refl
+
+threads_trace : option_map (λ p. first_of (codes "trace") p.1) (subcommand_of roundc_app threads_row) ≡ Some (Some (codes "b"))
+unfolding clap_on_literals
+threads_trace = refl
+
+threads_decided : option_map (λ p. first_of (codes "decided") p.1) (subcommand_of roundc_app threads_row) ≡ Some (Some (codes "true"))
+unfolding clap_on_literals
+threads_decided = refl
+
+no_trace_refused : fault_of roundc_app (codes "threads" ∷ codes "a" ∷ codes "--setup" ∷ codes "b" ∷ []) ≡ kind.MissingRequiredArgument ∷ []
+unfolding clap_on_literals
+no_trace_refused = refl
+
 abbrev judge_row : List Text
 judge_row =
     codes "judge" ∷ codes "a" ∷ codes "--gst" ∷ codes "7" ∷ codes "--schedule" ∷ codes "b" ∷ codes "--delta" ∷ codes "1"

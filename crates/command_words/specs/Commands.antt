@@ -25,6 +25,12 @@ run_app =
     with_rule (with_rule (with_rule (new_app (codes "run")) source_rule)
     (text_rule (codes "schedule"))) decided_rule
 
+-- `threads SOURCE --setup FILE --trace FILE [--decided]`
+abbrev pub threads_app : App
+threads_app =
+    with_rule (with_rule (with_rule (with_rule (new_app (codes "threads")) source_rule)
+    (text_rule (codes "setup"))) (text_rule (codes "trace"))) decided_rule
+
 -- `check SOURCE`
 abbrev pub check_app : App
 check_app = with_rule (new_app (codes "check")) source_rule
@@ -65,9 +71,9 @@ bare_app = let new = new_app (codes "roundc") in record new {
 
 -- the whole command line
 abbrev pub roundc_app : App
-roundc_app = with_subcommand (with_subcommand
-    (with_subcommand (with_subcommand bare_app check_app.top) run_app.top) judge_app.top)
-    lockstep_app.top
+roundc_app = with_subcommand (with_subcommand (with_subcommand
+    (with_subcommand (with_subcommand bare_app check_app.top) run_app.top) threads_app.top)
+    judge_app.top) lockstep_app.top
 
 -- what a parse reads of the command is this, and none of its arguments is global
 abbrev pub IsCommandOf : App → Command → Type 0

@@ -11,6 +11,7 @@ use Rattle.command_words.specs.Values.{max_delta}
 use Rattle.command_words.specs.declared.values.Source.{Source}
 use Rattle.command_words.specs.declared.words.Words.{Words}
 use Rattle.command_words.specs.declared.words.Words.TheVariants.{Check, Judge, Lockstep, Run}
+use Rattle.command_words.specs.declared.words.Words.TheVariants.{Threads}
 use Rattle.command_words.specs.declared.words.WordsFault.{WordsFault}
 use Rattle.command_words.specs.declared.words.WordsFault.TheVariants.{Refused, Missing, NoMemory}
 use Rattle.command_words.specs.declared.words.WordsFault.TheVariants as fault
@@ -58,6 +59,9 @@ abbrev pub Gives : Text → List Row → Words → Type 0
 Gives name rows (Check source) = (name ≡ codes "check") × GivesSource rows source
 Gives name rows (Run source schedule decided) = (name ≡ codes "run") × GivesSource rows source
     × (first_of (codes "schedule") rows ≡ Some schedule.now) × (IsTrue decided ↔ HasFlag rows)
+Gives name rows (Threads source setup trace decided) = (name ≡ codes "threads")
+    × GivesSource rows source × (first_of (codes "setup") rows ≡ Some setup.now)
+    × (first_of (codes "trace") rows ≡ Some trace.now) × (IsTrue decided ↔ HasFlag rows)
 Gives name rows (Judge source schedule correct delta gst) = (name ≡ codes "judge")
     × GivesSource rows source × (first_of (codes "schedule") rows ≡ Some schedule.now)
     × GivesTerms rows correct.items delta gst
@@ -125,6 +129,11 @@ FailsByGst rows _ = ⊥
 abbrev pub FailsByRun : List Row → WordsFault → Type 0
 FailsByRun rows fault = FailsBySource rows fault ⊎ FailsByFile (codes "schedule") rows fault
 
+-- the fault of a value of `threads`
+abbrev pub FailsByThreads : List Row → WordsFault → Type 0
+FailsByThreads rows fault = FailsBySource rows fault
+    ⊎ (FailsByFile (codes "setup") rows fault ⊎ FailsByFile (codes "trace") rows fault)
+
 -- the fault of LIST, D or G
 abbrev pub FailsByTerms : List Row → WordsFault → Type 0
 FailsByTerms rows fault =
@@ -148,10 +157,11 @@ abbrev pub FailsByValue : Text → List Row → WordsFault → Type 0
 FailsByValue name rows fault =
     ((name ≡ codes "check") × FailsBySource rows fault)
     ⊎ (((name ≡ codes "run") × FailsByRun rows fault)
+    ⊎ (((name ≡ codes "threads") × FailsByThreads rows fault)
     ⊎ (((name ≡ codes "judge") × FailsByJudge rows fault)
     ⊎ (((name ≡ codes "lockstep") × FailsByLockstep rows fault)
-    ⊎ (((name ≢ codes "check") × (name ≢ codes "run") × (name ≢ codes "judge")
-    × (name ≢ codes "lockstep")) × (fault ≡ Missing)))))
+    ⊎ (((name ≢ codes "check") × (name ≢ codes "run") × (name ≢ codes "threads")
+    × (name ≢ codes "judge") × (name ≢ codes "lockstep")) × (fault ≡ Missing))))))
 
 -- `clap` finds no mistake in the words, and a value of the command that they name has the fault
 abbrev pub HasBadValue : List Text → WordsFault → Type 0

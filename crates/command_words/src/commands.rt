@@ -1,9 +1,10 @@
 //! The commands, made by `clap`'s builders: one function for each argument and each command.
 ghost use Rattle.std.specs.Prelude.{◌≡◌, IfOk, codes, false};
 ghost use Rattle.clap.specs.Words.{rule_of};
-ghost use Rattle.command_words.specs.Commands.{IsCommandOf, check_app, decided_rule, judge_app};
-ghost use Rattle.command_words.specs.Commands.{lockstep_app, optional_rule, required_lockstep_app};
-ghost use Rattle.command_words.specs.Commands.{roundc_app, run_app, source_rule, text_rule};
+ghost use Rattle.command_words.specs.Commands.{IsCommandOf, bare_app, check_app, decided_rule};
+ghost use Rattle.command_words.specs.Commands.{judge_app, lockstep_app, optional_rule};
+ghost use Rattle.command_words.specs.Commands.{required_lockstep_app, roundc_app, run_app};
+ghost use Rattle.command_words.specs.Commands.{source_rule, text_rule, threads_app};
 
 use clap::{Arg, ArgAction, Command};
 use std::alloc::{AllocError, Global};
@@ -174,18 +175,66 @@ fn run_command<'a>(alloc: Global) -> Result<Command<'a>, AllocError>
         .arg(decided_arg(alloc))
 }
 
+/// `--setup FILE`.
+fn setup_arg<'a>(alloc: Global) -> Arg<'a>
+    ensures rule { rule_of result ≡ text_rule (codes "setup") }
+    ensures local { result.global ≡ false }
+{
+    value_arg(
+        alloc,
+        "setup",
+        "FILE",
+        "The thread setup's file, or - for standard input",
+    )
+}
+
+/// `--trace FILE`.
+fn trace_arg<'a>(alloc: Global) -> Arg<'a>
+    ensures rule { rule_of result ≡ text_rule (codes "trace") }
+    ensures local { result.global ≡ false }
+{
+    value_arg(
+        alloc,
+        "trace",
+        "FILE",
+        "The file that the run's schedule is written to",
+    )
+}
+
+/// `threads SOURCE --setup FILE --trace FILE [--decided]`.
+fn threads_command<'a>(alloc: Global) -> Result<Command<'a>, AllocError>
+    ensures { IfOk result (IsCommandOf threads_app) }
+{
+    Command::new(alloc, "threads")
+        .about("Runs a program by a thread for each node, and explains the run")
+        .arg(source_arg(alloc))?
+        .arg(setup_arg(alloc))?
+        .arg(trace_arg(alloc))?
+        .arg(decided_arg(alloc))
+}
+
+/// The command line with no command in it yet.
+fn bare_command<'a>(alloc: Global) -> Result<Command<'a>, AllocError>
+    ensures { IfOk result (IsCommandOf bare_app) }
+{
+    Ok(
+        Command::new(alloc, "roundc")
+            .bin_name("roundc")?
+            .version("0.1.0")
+            .about("Runs algorithms written in rounds, step by step")
+            .no_binary_name(true)
+            .subcommand_required(true),
+    )
+}
+
 /// The whole command line, after the program's own name.
 pub(crate) fn roundc_command<'a>(alloc: Global) -> Result<Command<'a>, AllocError>
     ensures { IfOk result (IsCommandOf roundc_app) }
 {
-    Command::new(alloc, "roundc")
-        .bin_name("roundc")?
-        .version("0.1.0")
-        .about("Runs algorithms written in rounds, step by step")
-        .no_binary_name(true)
-        .subcommand_required(true)
+    bare_command(alloc)?
         .subcommand(check_command(alloc)?)?
         .subcommand(run_command(alloc)?)?
+        .subcommand(threads_command(alloc)?)?
         .subcommand(judge_command(alloc)?)?
         .subcommand(lockstep_command(alloc)?)
 }

@@ -2,7 +2,8 @@
 //!
 //! ```text
 //! roundc check SOURCE
-//! roundc run SOURCE --schedule FILE
+//! roundc run SOURCE --schedule FILE [--decided]
+//! roundc threads SOURCE --setup FILE --trace FILE [--decided]
 //! roundc judge SOURCE --schedule FILE --correct LIST --delta D --gst G
 //! roundc lockstep SOURCE --header FILE --correct LIST --delta D --gst G [--delays LIST]
 //!     [--orders LIST] [--ticks T]

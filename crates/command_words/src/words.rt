@@ -5,9 +5,10 @@ ghost use Rattle.clap.specs.Words.{fault_of, first_of, found_of, kind_of, rows_o
 ghost use Rattle.command_words.specs.Commands.{roundc_app};
 ghost use Rattle.command_words.specs.Given.{Explains, FailsByDelta, FailsByGst, FailsByJudge};
 ghost use Rattle.command_words.specs.Given.{FailsByList, FailsByLockstep, FailsBySource};
-ghost use Rattle.command_words.specs.Given.{FailsByTable, FailsByTicks, FailsByValue, Gives};
-ghost use Rattle.command_words.specs.Given.{GivesDelta, GivesGst, GivesList, GivesSource};
-ghost use Rattle.command_words.specs.Given.{GivesTable, GivesTicks, HasFlag, IsMistake, Means};
+ghost use Rattle.command_words.specs.Given.{FailsByTable, FailsByThreads, FailsByTicks};
+ghost use Rattle.command_words.specs.Given.{FailsByValue, Gives, GivesDelta, GivesGst, GivesList};
+ghost use Rattle.command_words.specs.Given.{GivesSource, GivesTable, GivesTicks, HasFlag};
+ghost use Rattle.command_words.specs.Given.{IsMistake, Means};
 ghost use Rattle.command_words.specs.Given.{begins_negative, has_negative, has_negative_list};
 ghost use Rattle.command_words.specs.Values.{is_negative};
 ghost use Rattle.command_words.specs.declared.words.WordsFault.TheVariants.{NoMemory};
@@ -30,6 +31,14 @@ pub enum Words<'a> {
     Run {
         source: Source<'a>,
         schedule: &'a str,
+        decided: bool,
+    },
+    /// `threads SOURCE --setup FILE --trace FILE [--decided]`; `setup` and `trace` are each FILE as
+    /// it was written, `-` included.
+    Threads {
+        source: Source<'a>,
+        setup: &'a str,
+        trace: &'a str,
         decided: bool,
     },
     /// `judge SOURCE --schedule FILE --correct LIST --delta D --gst G`; `correct` has the numbers
@@ -242,6 +251,19 @@ fn gst_of(matches: &ArgMatches<'_>) -> Result<u32, WordsFault>
     read_number(text).ok_or(WordsFault::Gst)
 }
 
+/// The values of the command `threads`.
+fn threads_of<'a>(matches: &ArgMatches<'a>) -> Result<Words<'a>, WordsFault>
+    ensures ok { IfOk result (Gives (codes "threads") (rows_of (found_of matches.now))) }
+    ensures err { IfErr result (FailsByThreads (rows_of (found_of matches.now))) }
+{
+    Ok(Words::Threads {
+        source: source_of(matches)?,
+        setup: text_of(matches, "setup")?,
+        trace: text_of(matches, "trace")?,
+        decided: is_decided(matches),
+    })
+}
+
 /// The values of the command `judge`.
 fn judge_of<'a>(alloc: Global, matches: &ArgMatches<'a>) -> Result<Words<'a>, WordsFault>
     ensures ok { IfOk result (Gives (codes "judge") (rows_of (found_of matches.now))) }
@@ -291,6 +313,7 @@ fn command_of<'a>(
             schedule: text_of(matches, "schedule")?,
             decided: is_decided(matches),
         }),
+        "threads" => threads_of(matches),
         "judge" => judge_of(alloc, matches),
         "lockstep" => lockstep_of(alloc, matches),
         _ => Err(WordsFault::Missing),

@@ -10,6 +10,8 @@ use std::alloc::{AllocError, Global};
 use std::env;
 use std::io::{BufWriter, Write};
 use std::process::ExitCode;
+use std::sync::Wait;
+use std::thread::Threads;
 use unread::Unread;
 
 /// The words after the program's own name.
@@ -22,18 +24,23 @@ fn texts<'a>(alloc: Global, words: &'a [String]) -> Result<Vec<&'a str>, AllocEr
 }
 
 /// Runs the command that the words name, and answers the exit status.
-fn run(rt: &HostRuntime, alloc: Global) -> Result<u8, Unread> {
+fn run<R: Threads + Wait + Sync>(
+    rt: &HostRuntime,
+    starter: &R,
+    alloc: Global,
+) -> Result<u8, Unread> {
     let words = env::args(rt)?.collect::<Vec<String>>(alloc)?;
     let words = texts(alloc, words.as_slice())?;
     let mut desk = HostDesk::new(rt, alloc);
     let mut out = BufWriter::new(alloc, rt.stdout())?;
     let mut err = rt.stderr();
-    let status = run_words(alloc, words.as_slice(), &mut desk, &mut out, &mut err);
+    let words = words.as_slice();
+    let status = run_words(starter, alloc, words, &mut desk, &mut out, &mut err);
     Ok(status)
 }
 
 fn main(rt: HostRuntime) -> ExitCode {
-    match run(&rt, rt.alloc()) {
+    match run(&rt, &rt, rt.alloc()) {
         Ok(status) => ExitCode::from(status),
         Err(unread) => {
             // Where standard error fails too there is nobody left to tell.

@@ -1,4 +1,4 @@
-use Rattle.std.proofs.Common.{◌≡◌, ◌<◌, ℕ, All, List, [], subst, sym}
+use Rattle.std.proofs.Common.{◌≡◌, ◌<◌, All, List, [], subst, sym}
 use Rattle.command_runs.proofs.Refusing.{err_then, no_run, report_from, report_to}
 use Rattle.command_runs.proofs.asking.answer_of.Goals as goal
 use Rattle.command_runs.specs.Refused.{of_run}

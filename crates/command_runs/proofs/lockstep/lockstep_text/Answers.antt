@@ -1,4 +1,4 @@
-use Rattle.std.proofs.Common.{◌≡◌, ◌∙◌, ap, refl, subst, sym, ℕ, ◌<◌, length, arith}
+use Rattle.std.proofs.Common.{◌∙◌, ap, refl, subst, ◌<◌, length, arith}
 use Rattle.std.specs.Prelude.{string_bytes}
 use Rattle.adversary.specs.Driving.{ClosedAreDue}
 use Rattle.lockstep_runs.specs.Lockstep.{IsLockstepRun}

@@ -5,7 +5,6 @@ use Rattle.command_runs.proofs.Serving.{printed, program_of}
 use Rattle.command_runs.proofs.run.check_source.Goals as goal
 use Rattle.command_runs.specs.Refused.{IsRefusedCommand}
 use Rattle.command_runs.specs.Served.{summary_text}
-use Rattle.command_runs.specs.declared.refusal.Refusal.{Refusal}
 use Rattle.command_runs.specs.declared.refusal.Refusal.TheVariants.{Write}
 
 pub returns-clause-served : goal.returns-clause-served
@@ -22,4 +21,4 @@ returns-clause-refused g c =
     let files = g.D.Desk.files c.args.desk.now in
     let is = program_of c.args.source files c.in_ok-opened.opened 1 0 p c.in_ok-opened.ensures.opened c.in_ok-program.ensures.program in
     IfErr-weaker c.written.result (λ r. r ≡ Write) (IsRefusedCommand (Check c.args.source) files)
-    (λ r e. subst (IsRefusedCommand (Check c.args.source) files) (sym e) (summary_text p, (p, is, refl))) c.written.ensures.refused
+    (λ r e. subst (IsRefusedCommand (Check c.args.source) files) (sym e) (files, summary_text p, (p, is, refl))) c.written.ensures.refused

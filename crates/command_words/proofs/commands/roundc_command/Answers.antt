@@ -1,12 +1,11 @@
-use Rattle.std.proofs.Common.{rules}
 use Rattle.std.proofs.lemmas.Result.{IfOk-weaker}
-use Rattle.command_words.specs.Commands.{bare_app}
 use Rattle.command_words.proofs.CommandLemmas.{subcommand_added}
 use Rattle.command_words.proofs.commands.roundc_command.Goals as goal
 
 pub returns : goal.returns
 returns c =
-    let first = subcommand_added _ _ _ bare_app _ c.in_ok-subcommand.ensures (search rules) c.in_ok-check_command.ensures in
+    let first = subcommand_added _ _ _ _ _ c.in_ok-subcommand.ensures c.in_ok-bare_command.ensures c.in_ok-check_command.ensures in
     let second = subcommand_added _ _ _ _ _ c.in_ok-subcommand-2.ensures first c.in_ok-run_command.ensures in
-    let third = subcommand_added _ _ _ _ _ c.in_ok-subcommand-3.ensures second c.in_ok-judge_command.ensures in
-    IfOk-weaker c.subcommand-4.result _ _ (λ r h. subcommand_added _ _ _ _ _ h third c.in_ok-lockstep_command.ensures) c.subcommand-4.ensures
+    let third = subcommand_added _ _ _ _ _ c.in_ok-subcommand-3.ensures second c.in_ok-threads_command.ensures in
+    let fourth = subcommand_added _ _ _ _ _ c.in_ok-subcommand-4.ensures third c.in_ok-judge_command.ensures in
+    IfOk-weaker c.subcommand-5.result _ _ (λ r h. subcommand_added _ _ _ _ _ h fourth c.in_ok-lockstep_command.ensures) c.subcommand-5.ensures

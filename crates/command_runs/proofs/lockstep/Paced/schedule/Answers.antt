@@ -1,4 +1,4 @@
-use Rattle.std.proofs.Common.{◌≡◌, inl, inr, refl, subst, sym}
+use Rattle.std.proofs.Common.{◌≡◌, inl, inr, subst, sym}
 use Rattle.std.specs.Prelude.{IfSome, string_bytes}
 use Rattle.std.proofs.lemmas.Result.{IfErr-weaker, IfOk-weaker}
 use Rattle.command_runs.specs.Refused.{IsUnmade}
@@ -33,7 +33,7 @@ returns-clause-refused g c =
     let is = program_of paced.source files c.in_ok-opened.opened s.nodes s.faults p c.in_ok-opened.ensures.opened c.in_ok-program.ensures.program in
     let opened = opened_is paced.source files c.in_ok-opened.opened c.in_ok-opened.ensures.opened in
     IfErr-weaker c.text_by.result _ _
-    (λ r none. inr (inr (opened, (s, k, read, inr (p, is, none))))) c.text_by.ensures.refused
+    (λ r none. inr (inr (opened, (s, k, tt, read, inr (p, is, none))))) c.text_by.ensures.refused
 
 pub returns-in_err-program-clause-refused : goal.returns-in_err-program-clause-refused
 returns-in_err-program-clause-refused g c =
@@ -48,4 +48,4 @@ returns-in_err-program-clause-refused g c =
     let held = held_back paced.source files c.in_ok-opened.opened s.nodes s.faults fault c.in_ok-opened.ensures.opened c.in_err-program.ensures.refused in
     let cause = IsUnmade paced.source files (files paced.header.now) pacing.correct.now pacing.bounded.now in
     err_then c.from_residual-in_err-program.result (λ r. r ≡ fault) cause c.from_residual-in_err-program.ensures.1
-    (λ r is. subst cause (sym is) (inr (inr (opened, (s, k, read, inl held)))))
+    (λ r is. subst cause (sym is) (inr (inr (opened, (s, k, tt, read, inl held)))))

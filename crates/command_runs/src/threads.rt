@@ -1,0 +1,202 @@
+//! Runs by threads.
+ghost use Rattle.std.specs.Prelude.{◌≡◌, ◌≢◌, ◌⊎◌, ◌↔◌, All, Err, IfErr, IfOk, IfSome, IsTrue};
+ghost use Rattle.std.specs.Prelude.{Some, string_bytes};
+ghost use Rattle.command_runs.specs.ByThreads.{IsRunOf};
+ghost use Rattle.command_runs.specs.Refused.{IsBadForThreads, IsMissing, IsNotThreaded};
+ghost use Rattle.command_runs.specs.Refused.{IsUnthreaded, StartsThreads};
+ghost use Rattle.command_runs.specs.Served.{IsThreadSetup, ReportsThreads, start_of};
+ghost use Rattle.command_runs.specs.Stages.{IsNoReadIn, IsNotThreadedAs, IsThreadSetupIn};
+ghost use Rattle.node_threads.specs.Ends.{IsFitForThreads};
+ghost use Rattle.node_threads.specs.Faults.{IsOfThreads};
+ghost use Rattle.omission_explainer.specs.Decided.{AreAgreed, AreInputs};
+ghost use Rattle.round_meaning.specs.Agreement.{RunsAlgorithm1};
+ghost use Rattle.schedule_text.specs.declared.kind.Kind.TheVariants as kinds;
+
+use crate::desk::Desk;
+use crate::refusal::Refusal;
+use crate::sources::Opened;
+use crate::texts::{Text, begin_utf8};
+use adversary::{MAX_TEXT, RunFault, ScheduleFault, ThreadSetup, read_threads, write_schedule};
+use command_words::Source;
+use locked_buffers::OpenGate;
+use node_threads::{Ended, run_threads};
+use omission_explainer::{Report, explain};
+use policies::Prompt;
+use round_check::Checked;
+use round_lang::NoMemory;
+use slot_plans::{Growing, Known, Plan, PlanKind};
+use std::alloc::Global;
+use std::str;
+use std::sync::Wait;
+use std::thread::Threads;
+
+/// A source, the file of a thread setup, and the file that gets the trace.
+#[derive(Clone, Copy)]
+pub struct Threaded<'a> {
+    pub source: Source<'a>,
+    pub setup: &'a str,
+    pub trace: &'a str,
+}
+
+/// What a run by threads gave.
+#[derive(Drop)]
+pub struct ThreadRun {
+    pub report: Report,
+    /// The trace, as the text of a schedule.
+    pub trace: String,
+    /// Whether the thread of each node had memory to its end. Where one hadn't, the report and the
+    /// trace are of what was recorded.
+    pub whole: bool,
+}
+
+impl<'a> Threaded<'a> {
+    /// Runs the source's program by threads, under the setup in its file.
+    pub fn run<R: Threads + Wait + Sync, D: Desk>(
+        &self,
+        rt: &R,
+        alloc: Global,
+        desk: &mut D,
+    ) -> Result<ThreadRun, Refusal>
+        ensures told { IfOk result (λ run. IsTrue run.whole → ReportsThreads self.now.source
+            (D.files desk.old) (D.files desk.old self.now.setup.now) (Some (string_bytes run.trace))
+            run.report) }
+        ensures starts { IfOk result (λ _run. StartsThreads self.now.source (D.files desk.old)
+            (D.files desk.old self.now.setup.now)) }
+        ensures refused { IfErr result (IsUnthreaded self.now.source (D.files desk.old)
+            (D.files desk.old self.now.setup.now)) }
+        ensures written { D.written desk.new ≡ D.written desk.old }
+    {
+        let opened = Opened::open(alloc, self.source, desk)?;
+        let setup = setup_in(alloc, self.setup, desk)?;
+        let program = opened.program(alloc, setup.setup.nodes, setup.setup.faults)?;
+        run_by(rt, alloc, &program, &setup)
+    }
+}
+
+/// The thread setup in a file.
+fn setup_in<D: Desk>(alloc: Global, name: &str, desk: &mut D) -> Result<ThreadSetup, Refusal>
+    ensures setup { IfOk result (λ t. IfSome (D.files desk.old name.now)
+        (λ text. IsThreadSetup text t.setup t.plan t.pace t.stops.items)) }
+    ensures refused { IfErr result (IsMissing kinds.Threads (D.files desk.old name.now)) }
+    ensures written { D.written desk.new ≡ D.written desk.old }
+{
+    let text = Text::read(alloc, name, MAX_TEXT, desk)?;
+    setup_of(alloc, text)
+}
+
+/// The thread setup that a text is.
+fn setup_of(alloc: Global, text: Text) -> Result<ThreadSetup, Refusal>
+    ensures setup { IfOk result (IsThreadSetupIn text) }
+    ensures refused { IfErr result (IsNoReadIn kinds.Threads text) }
+{
+    match text {
+        Text::Whole(bytes) => match str::from_utf8(&bytes) {
+            Ok(text) => Ok(read_threads(alloc, text)?),
+            Err(_) => Err(Refusal::File),
+        },
+        Text::Longer(bytes) if begin_utf8(&bytes) => {
+            Err(Refusal::Schedule(ScheduleFault::TooLong))
+        }
+        Text::Longer(_) => Err(Refusal::File),
+    }
+}
+
+/// The run under the setup's plan.
+fn run_by<R: Threads + Wait + Sync>(
+    rt: &R,
+    alloc: Global,
+    program: &Checked,
+    setup: &ThreadSetup,
+) -> Result<ThreadRun, Refusal>
+    ensures told { let t = setup.now in
+        IfOk result (IsRunOf (start_of t.plan t.setup.nodes) program.now t) }
+    ensures fit { let t = setup.now in
+        IfOk result (λ _run. ¬ (IsBadForThreads program.now t.setup t.plan t.stops.items)) }
+    ensures refused { let t = setup.now in
+        IfErr result (IsNotThreaded program.now t.setup t.plan t.stops.items) }
+{
+    match setup.plan {
+        PlanKind::Known(delta) => match Known::new(setup.setup.nodes, delta) {
+            Some(plan) => run_of(rt, alloc, program, setup, plan),
+            None => Err(Refusal::Run(RunFault::BadSetup)),
+        },
+        PlanKind::Growing => match Growing::new(setup.setup.nodes) {
+            Some(plan) => run_of(rt, alloc, program, setup, plan),
+            None => Err(Refusal::Run(RunFault::BadSetup)),
+        },
+    }
+}
+
+fn run_of<R: Threads + Wait + Sync, P: Plan + Send + Sync>(
+    rt: &R,
+    alloc: Global,
+    program: &Checked,
+    setup: &ThreadSetup,
+    plan: P,
+) -> Result<ThreadRun, Refusal>
+    requires { P.nodes plan ≡ setup.now.setup.nodes }
+    ensures told { IfOk result (IsRunOf (P.start plan) program.now setup.now) }
+    ensures fit { IfOk result (λ _run.
+        ¬ ¬ (IsFitForThreads program.now.values setup.now.setup setup.now.stops.items)) }
+    ensures refused { IfErr result (IsNotThreadedAs program.now setup.now.setup
+        setup.now.stops.items) }
+{
+    Ok(explained_threads(rt, alloc, program, setup, plan)?)
+}
+
+/// The report and the trace of a run in which a thread for each node takes its steps, and another
+/// one is the network, which releases each message as soon as it can. Where the program is
+/// Algorithm 1, for a setup with fewer than half of the nodes faulty, all decisions in it are
+/// equal, and each is some node's input.
+///
+/// Refusals are those of `run_threads`. Like it, this needn't return.
+pub fn explained_threads<R: Threads + Wait + Sync, P: Plan + Send + Sync>(
+    rt: &R,
+    alloc: Global,
+    program: &Checked,
+    setup: &ThreadSetup,
+    plan: P,
+) -> Result<ThreadRun, RunFault>
+    requires { P.nodes plan ≡ setup.now.setup.nodes }
+    ensures bad_setup { (result ≡ Err RunFault.BadSetup)
+        ↔ (IsFitForThreads program.now.values setup.now.setup setup.now.stops.items → ⊥) }
+    ensures cause { IfErr result (λ fault. (fault ≡ RunFault.BadSetup)
+        ⊎ IsOfThreads fault) }
+    ensures explained { IfOk result (IsRunOf (P.start plan) program.now setup.now) }
+    ensures agreement { IfOk result
+        (λ run. RunsAlgorithm1 program.now setup.now.setup → AreAgreed run.report.rows) }
+    ensures validity { IfOk result (λ run. RunsAlgorithm1 program.now setup.now.setup
+        → AreInputs setup.now.setup run.report.rows) }
+{
+    let numbers = &setup.setup;
+    let stops = setup.stops.as_slice();
+    let (journal, ends) = run_threads(
+        rt, alloc, program, numbers, plan, setup.pace, stops, Prompt, &OpenGate,
+    )?;
+    journal.agrees();
+    let report = match explain(alloc, &journal) {
+        Ok(report) => report,
+        Err(NoMemory) => return Err(RunFault::NoMemory),
+    };
+    let trace = match write_schedule(alloc, numbers, setup.plan, journal.book().trace()) {
+        Ok(trace) => trace,
+        Err(NoMemory) => return Err(RunFault::NoMemory),
+    };
+    Ok(ThreadRun {
+        report,
+        trace,
+        whole: had_memory(&ends),
+    })
+}
+
+/// Whether no thread ended for want of memory.
+fn had_memory(ends: &[Ended]) -> bool
+    ensures { IsTrue result ↔ All (λ e. e ≢ Ended.NoMemory) ends.now }
+{
+    for end in ends {
+        if *end == Ended::NoMemory {
+            return false;
+        }
+    }
+    true
+}
