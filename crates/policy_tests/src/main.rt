@@ -7,10 +7,18 @@
 //! policy_tests faulty CHOICE ..
 //! policy_tests bounded DELTA GST DELAY ..
 //! policy_tests run VALUES INPUTS ROUNDS RECEIVES CORRECT TICKS POLICY ..
+//! policy_tests threads VALUES POLICY ..
+//! policy_tests tail VALUES POLICY ..
+//! policy_tests overlap
 //! ```
 //!
 //! With `run`, standard output has the schedule of a run of `gather` in which the policy is asked,
 //! or `refused`; INPUTS and CORRECT have commas, and `-` stands for none.
+//!
+//! With `threads`, standard input is the thread setup of a run of `gather` by threads. Standard
+//! output has how each thread ended, the report, and whether the run's trace has the same report
+//! as a schedule; or `refused` with the fault's number. With `tail` it has of the report the lines
+//! of the nodes alone. With `overlap` a gate holds some threads until others have passed.
 //!
 //! Else each line of standard input is a call: the tick, and then the messages in flight, each as
 //! its name, `sent_at` and `serial`, `0.1.1.0.5.7`. A line of standard output has the choice:
@@ -20,8 +28,10 @@
 
 mod chosen;
 mod fault;
+mod gate;
 mod reading;
 mod running;
+mod threads;
 
 use chosen::Chosen;
 use fault::Fault;
@@ -31,7 +41,10 @@ use running::schedule;
 use std::alloc::Global;
 use std::io::Write;
 use std::process::ExitCode;
+use std::sync::Wait;
+use std::thread::Threads;
 use std::{env, io};
+use threads::{Shown, overlap, threads};
 
 fn show(out: &mut String, choice: Option<Choice>) -> Result<(), Fault> {
     match choice {
@@ -56,31 +69,46 @@ fn call_all(alloc: Global, mut policy: Chosen, input: &str) -> Result<String, Fa
 }
 
 /// What the words ask for: a run, or what a policy chooses at each call.
-fn answer_all(alloc: Global, words: &[String], input: &str) -> Result<String, Fault> {
-    match words {
-        [kind, rest @ ..] if kind.as_str() == "run" => schedule(alloc, rest),
+fn answer_all<R: Threads + Wait + Sync>(
+    rt: &R,
+    alloc: Global,
+    words: &[String],
+    input: &str,
+) -> Result<String, Fault> {
+    let [kind, rest @ ..] = words else {
+        return Err(Fault::Unreadable);
+    };
+    match kind.as_str() {
+        "run" => schedule(alloc, rest),
+        "threads" => threads(rt, alloc, Shown::Whole, rest, input),
+        "tail" => threads(rt, alloc, Shown::Tail, rest, input),
+        "overlap" => overlap(rt, alloc, input),
         _ => call_all(alloc, Chosen::read(alloc, words)?, input),
     }
 }
 
 /// Does what the words say, and gives what is to be printed.
-fn answer(rt: &HostRuntime, alloc: Global) -> Result<String, Fault> {
+fn answer<R: Threads + Wait + Sync>(
+    rt: &HostRuntime,
+    starter: &R,
+    alloc: Global,
+) -> Result<String, Fault> {
     let words = env::args(rt)?.collect::<Vec<String>>(alloc)?;
     let [_, words @ ..] = words.as_slice() else {
         return Err(Fault::Unreadable);
     };
     let input = io::read_to_string(alloc, rt.reader())?;
-    answer_all(alloc, words, input.as_str())
+    answer_all(starter, alloc, words, input.as_str())
 }
 
-fn run(rt: &HostRuntime) -> Result<(), Fault> {
-    let out = answer(rt, rt.alloc())?;
+fn run<R: Threads + Wait + Sync>(rt: &HostRuntime, starter: &R) -> Result<(), Fault> {
+    let out = answer(rt, starter, rt.alloc())?;
     rt.stdout().write_all(out.as_bytes())?;
     Ok(())
 }
 
 fn main(rt: HostRuntime) -> ExitCode {
-    match run(&rt) {
+    match run(&rt, &rt) {
         Ok(()) => ExitCode::SUCCESS,
         Err(fault) => {
             // Where standard error fails too there is nobody left to tell.

@@ -10,7 +10,7 @@ use slot_plans::{Known, PlanKind};
 use std::alloc::Global;
 
 /// Each node sends what it has seen.
-fn gather(alloc: Global, values: &str) -> Result<Checked, Fault> {
+pub fn gather(alloc: Global, values: &str) -> Result<Checked, Fault> {
     let text = format!(in alloc;
         "values {values} period 1 input x state seen: set = single(x) decide seen
         at 1: message (s: set) send when true: (seen)

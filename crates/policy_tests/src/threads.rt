@@ -1,0 +1,183 @@
+//! Runs of `gather` by threads.
+ghost use Rattle.std.specs.Prelude.{◌≡◌};
+
+use crate::chosen::Chosen;
+use crate::fault::Fault;
+use crate::gate::Holder;
+use crate::running::gather;
+use adversary::{RunFault, run_schedule};
+use locked_buffers::{Gate, OpenGate};
+use node_threads::{Ended, run_threads};
+use omission_explainer::{explain, write_report};
+use round_check::Checked;
+use round_meaning::Setup;
+use schedule_text::{Pace, Stop, ThreadSetup, read_threads};
+use slot_plans::{Growing, Known, Plan, PlanKind};
+use std::alloc::Global;
+use std::io::Write;
+use std::sync::Wait;
+use std::thread::Threads;
+use step_journal::Journal;
+
+/// How much of a run is printed.
+#[derive(Clone, Copy, PartialEq, Eq)]
+pub enum Shown {
+    /// How each thread ended, and the report.
+    Whole,
+    /// Of the report the lines of the nodes alone.
+    Tail,
+}
+
+/// A run of threads: its program, its setup and what is asked of it.
+#[derive(Clone, Copy)]
+struct Asked<'a> {
+    program: &'a Checked,
+    setup: &'a Setup,
+    pace: Pace,
+    stops: &'a [Stop],
+    shown: Shown,
+}
+
+fn ended(end: Ended) -> &'static str {
+    match end {
+        Ended::Done => "done",
+        Ended::Stopped => "stopped",
+        Ended::NoMemory => "no memory",
+    }
+}
+
+fn report<P: Plan>(alloc: Global, journal: &Journal<P>) -> Result<String, Fault> {
+    let mut bytes = Vec::new(alloc);
+    write_report(&explain(alloc, journal)?, &mut bytes)?;
+    String::from_utf8(bytes).map_err(|_| Fault::Unreadable)
+}
+
+fn number_of(fault: RunFault) -> &'static str {
+    match fault {
+        RunFault::BadSetup => "refused 1\n",
+        RunFault::UnknownNode(_) => "refused 2\n",
+        RunFault::UnknownMessage(_) => "refused 3\n",
+        RunFault::NoMemory => "refused 4\n",
+        RunFault::NoThread => "refused 5\n",
+        RunFault::Unmatched => "refused 6\n",
+    }
+}
+
+impl<'a> Asked<'a> {
+    /// The answer on a run under a plan: the ends, the report, and whether the trace, run as a
+    /// schedule, has the same report.
+    fn answer<R: Threads + Wait + Sync, P: Plan + Send + Sync, G: Gate + Sync>(
+        &self,
+        rt: &R,
+        alloc: Global,
+        plan: P,
+        policy: Chosen,
+        gate: &G,
+    ) -> Result<String, Fault>
+        requires { P.nodes plan ≡ self.now.setup.now.nodes }
+    {
+        let run = run_threads(
+            rt,
+            alloc,
+            self.program,
+            self.setup,
+            plan,
+            self.pace,
+            self.stops,
+            policy,
+            gate,
+        );
+        let (journal, ends) = match run {
+            Ok(run) => run,
+            Err(fault) => return Ok(String::from_str(alloc, number_of(fault))?),
+        };
+        let mut out = String::new(alloc);
+        for end in &ends {
+            writeln!(out, "{}", ended(*end))?;
+        }
+        let text = report(alloc, &journal)?;
+        for line in text.lines() {
+            if self.shown == Shown::Whole || line.starts_with("node ") {
+                writeln!(out, "{line}")?;
+            }
+        }
+        let events = journal.book().trace();
+        match run_schedule(alloc, self.program, self.setup, plan, events) {
+            Ok(again) if report(alloc, &again)? == text => out.push_str("the same again\n")?,
+            Ok(_) => out.push_str("another report\n")?,
+            Err(RunFault::NoMemory) => return Err(Fault::NoMemory),
+            Err(_) => out.push_str("no schedule\n")?,
+        }
+        Ok(out)
+    }
+}
+
+/// The answer on the thread setup that a text is.
+pub fn threads<R: Threads + Wait + Sync>(
+    rt: &R,
+    alloc: Global,
+    shown: Shown,
+    words: &[String],
+    input: &str,
+) -> Result<String, Fault> {
+    let [values, policy @ ..] = words else {
+        return Err(Fault::Unreadable);
+    };
+    let program = gather(alloc, values.as_str())?;
+    let ThreadSetup {
+        setup,
+        plan,
+        pace,
+        stops,
+    } = read_threads(alloc, input).map_err(|_| Fault::Unreadable)?;
+    let policy = Chosen::read(alloc, policy)?;
+    let asked = Asked {
+        program: &program,
+        setup: &setup,
+        pace,
+        stops: &stops,
+        shown,
+    };
+    match plan {
+        PlanKind::Known(delta) => {
+            let plan = Known::new(setup.nodes, delta).ok_or(Fault::Unreadable)?;
+            asked.answer(rt, alloc, plan, policy, &OpenGate)
+        }
+        PlanKind::Growing => {
+            let plan = Growing::new(setup.nodes).ok_or(Fault::Unreadable)?;
+            asked.answer(rt, alloc, plan, policy, &OpenGate)
+        }
+    }
+}
+
+/// Four nodes under a gate that holds some of them until others have passed: how each ended, and
+/// whether no hold was given up.
+pub fn overlap<R: Threads + Wait + Sync>(
+    rt: &R,
+    alloc: Global,
+    input: &str,
+) -> Result<String, Fault> {
+    let program = gather(alloc, "4")?;
+    let ThreadSetup {
+        setup,
+        pace,
+        stops,
+        ..
+    } = read_threads(alloc, input).map_err(|_| Fault::Unreadable)?;
+    let plan = Known::new(setup.nodes, 1).ok_or(Fault::Unreadable)?;
+    let asked = Asked {
+        program: &program,
+        setup: &setup,
+        pace,
+        stops: &stops,
+        shown: Shown::Tail,
+    };
+    let gate = Holder::new();
+    let mut out = asked.answer(rt, alloc, plan, Chosen::Prompt(policies::Prompt), &gate)?;
+    out.push_str(if gate.gave_up() {
+        "a hold was given up\n"
+    } else {
+        "each hold ended\n"
+    })?;
+    Ok(out)
+}
