@@ -129,7 +129,7 @@ pub fn threads<R: Threads + Wait + Sync>(
         plan,
         pace,
         stops,
-    } = read_threads(alloc, input).map_err(|_| Fault::Unreadable)?;
+    } = read_threads(alloc, input)?;
     let policy = Chosen::read(alloc, policy)?;
     let asked = Asked {
         program: &program,
@@ -163,7 +163,7 @@ pub fn overlap<R: Threads + Wait + Sync>(
         pace,
         stops,
         ..
-    } = read_threads(alloc, input).map_err(|_| Fault::Unreadable)?;
+    } = read_threads(alloc, input)?;
     let plan = Known::new(setup.nodes, 1).ok_or(Fault::Unreadable)?;
     let asked = Asked {
         program: &program,
