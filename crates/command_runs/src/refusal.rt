@@ -33,7 +33,7 @@ pub enum Refusal {
     /// Standard output takes no more.
     Write,
     NoMemory,
-    /// The thread of a node ended for want of memory, so that its run isn't whole.
+    /// The thread of a node ended out of memory, so that its run isn't whole.
     NodeNoMemory,
 }
 

@@ -189,7 +189,7 @@ pub fn explained_threads<R: Threads + Wait + Sync, P: Plan + Send + Sync>(
     })
 }
 
-/// Whether no thread ended for want of memory.
+/// Whether no thread ended out of memory.
 fn had_memory(ends: &[Ended]) -> bool
     ensures { IsTrue result ↔ All (λ e. e ≢ Ended.NoMemory) ends.now }
 {
