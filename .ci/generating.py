@@ -345,6 +345,51 @@ class Generator:
             content = self.padded(content, 16777216, b"#")
         return content, nodes
 
+    def short_setup(self, values):
+        """Chooses the numbers of a run that ends soon."""
+        nodes, rounds = self.one([1, 2, 3, 3, 4, 5]), self.one([1, 1, 2, 3, 4, 5])
+        inputs = [self.random.randrange(values) for _ in range(nodes)]
+        return nodes, self.one([0, 0, 0, 1, 1, 2]), inputs, rounds, self.one([1, 1, 2, 3, None])
+
+    def spoiled(self, lines, head, others):
+        """Returns the bytes of a text's lines, now and then with a fault."""
+        kind = self.one(["line", "line", "number", "other", "bytes", "cut", "comments"])
+        kind = kind if self.often(0.35) else ""
+        if kind in ("line", "number"):
+            self.change_line(lines, min(head, len(lines)), kind)
+        elif kind == "other":
+            lines.insert(self.random.randrange(len(lines) + 1), self.one(others))
+        elif kind == "comments":
+            for _ in range(3):
+                at = self.random.randrange(len(lines) + 1)
+                lines.insert(at, self.one(["", "#", "# é", "#stop 0 0", "# a\0"]))
+        ending = self.one(["\n", "\n", "\n", "\r\n"])
+        content = (ending.join(lines) + self.one(["\n", "\n", "", "\r\n"])).encode()
+        if kind == "bytes":
+            content = self.put(content, self.one(ODD_BYTES + [it.encode() for it in ODD]))
+        elif kind == "cut":
+            content = content[: self.random.randrange(len(content) + 1)]
+        elif self.often(0.0002):
+            content = self.padded(content, 16777216, b"#")
+        return content
+
+    def short_header(self, values):
+        """Returns the bytes of a header and its count of nodes."""
+        setup = self.short_setup(values)
+        lines = self.header(*setup)
+        return self.spoiled(lines, len(lines), ["step 0", "pace free", "nodes 1"]), setup[0]
+
+    def thread_setup(self, values):
+        """Returns the bytes of a thread setup and its count of nodes."""
+        setup = self.short_setup(values)
+        nodes, lines = setup[0], self.header(*setup)
+        lines.append(self.one(["pace free", "pace free", "pace ticks"]))
+        for _ in range(self.one([0, 0, 1, 1, 2, 4])):
+            node = self.one([*range(nodes)] * 5 + [nodes])
+            lines.append(f"stop {node} {self.one([0, 1, 2, 3, 4, 5, 7, 11, 30, 4294967295])}")
+        others = ["step 0", "pace ticks", "pace slow", "stop 0", "stop 0 0 0", "stop 0 -1", "stop"]
+        return self.spoiled(lines, 6, others), nodes
+
     def change_line(self, lines, head, kind):
         at = self.random.randrange(head if self.often(0.5) else len(lines))
         numbers = [(it.start(), it.end()) for it in re.finditer("[0-9]+", lines[at])]
@@ -419,23 +464,56 @@ class Generator:
             source, files["s.rounds"] = "s.rounds", self.source()
             if self.often(0.01):
                 del files["s.rounds"]
-        command = self.one(["check", "run", "run", "run", "run", "judge", "judge"])
-        options = []
-        if command != "check":
-            content, nodes = self.schedule(self.values)
-            name = self.one(["a.schedule", "-", "-"])
-            files[name] = content
-            if self.often(0.01) and name != "-":
-                del files[name]
-            options.append(("--schedule", name))
-        if command == "run" and self.often(0.3):
-            options.append(("--decided",))
-        if command == "judge":
-            wrong = ["0", "1025", "", "x", "-1", "4294967296", "+1", "0001"]
-            options.append(("--correct", self.correct(nodes)))
-            options.append(("--delta", self.number([1, 1, 2, 2, 3, 5, 7, 1024], wrong)))
-            options.append(("--gst", self.number([0, 0, 0, 1, 5, 20, 4294967295], wrong[2:])))
+        kinds = ["check"] + ["run"] * 4 + ["judge"] * 2 + ["threads"] * 2 + ["lockstep"]
+        command = self.one(kinds)
+        options = getattr(self, f"{command}_options")(files)
         return Given([command, *self.ordered(source, options)], files)
+
+    def check_options(self, files):
+        return []
+
+    def run_options(self, files):
+        option, _ = self.file("schedule", *self.schedule(self.values), files)
+        return [option] + [("--decided",)] * self.often(0.3)
+
+    def judge_options(self, files):
+        option, nodes = self.file("schedule", *self.schedule(self.values), files)
+        return [option, *self.terms(nodes)]
+
+    def threads_options(self, files):
+        option, _ = self.file("setup", *self.thread_setup(self.values), files)
+        trace = "none/t.schedule" if self.often(0.02) else "t.schedule"
+        return [option, ("--trace", trace)] + [("--decided",)] * self.often(0.4)
+
+    def lockstep_options(self, files):
+        option, nodes = self.file("header", *self.short_header(self.values), files)
+        options = [option, *self.terms(nodes)]
+        for name in ("delays", "orders"):
+            if self.often(0.5):
+                numbers = [self.random.randrange(5) for _ in range(self.one([1, 2, 3, 7]))]
+                listed = ",".join(map(str, numbers))
+                options.append((f"--{name}", self.number([listed], WRONG_LISTS[2:])))
+        if self.often(0.5):
+            ticks = self.number(list(range(40)), ["", "x", "-1", "4294967296"])
+            options.append(("--ticks", ticks))
+        return options
+
+    def terms(self, nodes):
+        """Writes the options of what is asked of a run."""
+        wrong = ["0", "1025", "", "x", "-1", "4294967296", "+1", "0001"]
+        return [
+            ("--correct", self.correct(nodes)),
+            ("--delta", self.number([1, 1, 2, 2, 3, 5, 7, 1024], wrong)),
+            ("--gst", self.number([0, 0, 0, 1, 5, 20, 4294967295], wrong[2:])),
+        ]
+
+    def file(self, option, content, nodes, files):
+        """Gives the command a file, or standard input, now and then one that isn't there."""
+        name = self.one([f"a.{option}", "-", "-"])
+        files[name] = content
+        if self.often(0.01) and name != "-":
+            del files[name]
+        return (f"--{option}", name), nodes
 
     def ordered(self, source, options):
         """Puts the words behind a command in some order, now and then with a fault."""

@@ -15,6 +15,7 @@ from language import LARGEST, VALUES, Checked, Parser, Refused, value
 
 SOURCE_LIMIT, SCHEDULE_LIMIT = 65536, 16777216  # bytes
 NODES, FAULTS, ROUNDS, DELTA = 16, 15, 4096, 1024
+TABLE = 65536  # entries of a list of delays or orders
 EARLY = 3  # the rounds for which a message may come before its own
 
 LIBRARY = {
@@ -52,8 +53,10 @@ at 4: message (l: row, p: set) send when size({v : locks[v] > 0}) > 0: (locks, p
 }
 
 
-# delta is None where the plan is growing; err is None where the text is clap's own
+# delta is None where the plan is growing; err is None where the text is clap's own, and out where
+# threads make what is printed
 Setup = collections.namedtuple("Setup", "nodes faults inputs rounds delta")
+Threads = collections.namedtuple("Threads", "setup is_ticking stops")
 Row = collections.namedtuple("Row", "round node heard silent omitted state")
 Answer = collections.namedtuple("Answer", "status out err")
 
@@ -129,28 +132,52 @@ def lines(text):
     return [it[:-1] if it.endswith(b"\r") else it for it in whole] + ([last] if last else [])
 
 
-def read_schedule(text):
-    """Returns the setup and the events: ('step', node), or a kind with from, to, round, copy."""
-    header, events, number = [], [], 0
+PACE = re.compile(rb"pace (free|ticks)")
+STOP = re.compile(rb"(stop) ([0-9]+) ([0-9]+)")
+
+
+def read_text(text, more):
+    """Returns the setup and the lines behind it, each its first word and its numbers. `more` tells
+    the form that the line behind the header and so many others has, and how many there must be."""
+    header, behind, number = [], [], 0
     for number, line in enumerate(lines(text), 1):
         if not line or line.startswith(b"#"):
             continue
-        pattern = HEADER[len(header)] if len(header) < len(HEADER) else EVENT
-        found = re.fullmatch(pattern, line)
+        is_header = len(header) < len(HEADER)
+        pattern = HEADER[len(header)] if is_header else more(len(behind))
+        found = pattern and re.fullmatch(pattern, line)
         if not found:
             raise Refused(f"schedule 1 at {number}")
         numbers = [int(it) for it in re.findall(rb"[0-9]+", line)]
         if any(it > LARGEST for it in numbers):
             raise Refused(f"schedule 2 at {number}")
-        if len(header) < len(HEADER):
+        if is_header:
             header.append(numbers)
         else:
-            kind = line.split()[0].decode()
-            events.append((kind, *numbers, *[0] * (kind != "step" and len(numbers) == 3)))
-    if len(header) < len(HEADER):
+            behind.append((line.split()[0].decode(), line, *numbers))
+    if len(header) < len(HEADER) or (more is THREAD_LINES and not behind):
         raise Refused(f"schedule 1 at {number + 1}")
     (nodes,), (faults,), inputs, (rounds,), delta = header
-    return Setup(nodes, faults, inputs, rounds, delta[0] if delta else None), events
+    return Setup(nodes, faults, inputs, rounds, delta[0] if delta else None), behind
+
+
+EVENTS = lambda count: EVENT
+THREAD_LINES = lambda count: STOP if count else PACE
+NOTHING = lambda count: None
+
+
+def read_schedule(text):
+    """Returns the setup and the events: ('step', node), or a kind with from, to, round, copy."""
+    setup, behind = read_text(text, EVENTS)
+    events = []
+    for kind, _, *numbers in behind:
+        events.append((kind, *numbers, *[0] * (kind != "step" and len(numbers) == 3)))
+    return setup, events
+
+
+def read_threads(text):
+    setup, (pace, *stops) = read_text(text, THREAD_LINES)
+    return Threads(setup, pace[1] == b"pace ticks", [tuple(it[2:]) for it in stops])
 
 
 def check_run(checked, setup, events, correct=()):
@@ -358,12 +385,23 @@ def shown(given):
 # Commands
 
 
+NEEDED = {
+    "check": [],
+    "run": ["schedule"],
+    "judge": ["schedule", "correct", "delta", "gst"],
+    "threads": ["setup", "trace"],
+    "lockstep": ["header", "correct", "delta", "gst"],
+}
+ALLOWED = {"lockstep": ["delays", "orders", "ticks"]}
+
+
 def read_words(words):
     """Returns the command, the source and the options, by name, or refuses the command line."""
-    needed = {"check": [], "run": ["schedule"], "judge": ["schedule", "correct", "delta", "gst"]}
-    if not words or words[0] not in needed:
+    if not words or words[0] not in NEEDED:
         raise BadWords
     command, rest = words[0], collections.deque(words[1:])
+    needed = NEEDED[command]
+    allowed = needed + ALLOWED.get(command, [])
     sources, options, is_behind = [], {}, False
     while rest:
         word = rest.popleft()
@@ -372,33 +410,46 @@ def read_words(words):
             sources.append(word)
         elif word == "--":
             is_behind = True
-        elif word == "--decided" and command == "run" and "decided" not in options:
+        elif word == "--decided" and command in ("run", "threads") and "decided" not in options:
             options["decided"] = ""
-        elif word.startswith("--") and name in needed[command] and name not in options:
+        elif word.startswith("--") and name in allowed and name not in options:
             if not equals and (not rest or (rest[0].startswith("-") and rest[0] != "-")):
                 raise BadWords
             options[name] = given if equals else rest.popleft()
         else:
             raise BadWords
-    if len(sources) != 1 or any(it not in options for it in needed[command]):
+    if len(sources) != 1 or any(it not in options for it in needed):
         raise BadWords
     check_forms(sources[0], options)
     return command, sources[0], options
+
+
+NO_LIST = "error: LIST is numbers of 0 to 4294967295 with commas between them"
+
+
+def is_number(text):
+    return bool(re.fullmatch(r"[0-9]+", text)) and int(text) <= LARGEST
+
+
+def is_list(text):
+    return all(map(is_number, text.split(",")))
 
 
 def check_forms(source, options):
     """Refuses a value that hasn't its option's form, the source first."""
     if source.startswith("@") and not re.fullmatch(r"@[A-Za-z_][A-Za-z0-9_]*:[0-9]+", source):
         raise BadWords("error: SOURCE is a file, or `@`, a name, `:` and digits")
-    number = lambda text: bool(re.fullmatch(r"[0-9]+", text)) and int(text) <= LARGEST
-    if not all(map(number, options.get("correct", "0").split(","))):
-        text = "error: LIST is numbers of 0 to 4294967295 with commas between them"
-        raise BadWords(text)
+    if not is_list(options.get("correct", "0")):
+        raise BadWords(NO_LIST)
     delta = options.get("delta", "1")
-    if not number(delta) or not 1 <= int(delta) <= DELTA:
+    if not is_number(delta) or not 1 <= int(delta) <= DELTA:
         raise BadWords("error: D is a number of 1 to 1024")
-    if not number(options.get("gst", "0")):
+    if not is_number(options.get("gst", "0")):
         raise BadWords("error: G is a number of 0 to 4294967295")
+    if not is_list(options.get("delays", "0")) or not is_list(options.get("orders", "0")):
+        raise BadWords(NO_LIST)
+    if not is_number(options.get("ticks", "0")):
+        raise BadWords("error: T is a number of 0 to 4294967295")
 
 
 def text_of(content, limit, too_long):
@@ -428,33 +479,140 @@ def library_program(source, setup):
     return Checked(Parser(LIBRARY[name].replace("K", digits, 1).encode()).program())
 
 
-def carried_out(words, files):
-    """Returns what a command prints on standard output. `files` has no content for a name that
-    can't be read; the schedule `-` is standard input."""
-    command, source, options = read_words(words)
-    checked, setup, events = None, None, []
+def opened(options, files):
+    """Returns what the text says that a command reads beside its source: the setup, and what
+    follows the header."""
+    name, read = next((options[it], READERS[it]) for it in READERS if it in options)
+    return read(text_of(files.get(name), SCHEDULE_LIMIT, "schedule 3"))
+
+
+def threads_of(text):
+    threads = read_threads(text)
+    return threads.setup, threads
+
+
+READERS = {
+    "schedule": read_schedule,
+    "setup": threads_of,
+    "header": lambda text: read_text(text, NOTHING),
+}
+
+
+def program_and_run(command, source, options, files):
+    """Returns the program, and for another command than `check` the setup and what follows it."""
+    checked, setup, behind = None, None, []
     if not source.startswith("@"):
         text = text_of(files.get(source), SOURCE_LIMIT, "source 4")
         checked = Checked(Parser(text).program())
     if command != "check":
-        text = text_of(files.get(options["schedule"]), SCHEDULE_LIMIT, "schedule 3")
-        setup, events = read_schedule(text)
-    checked = checked or library_program(source, setup)
+        setup, behind = opened(options, files)
+    return checked or library_program(source, setup), setup, behind
+
+
+def carried_out(words, files):
+    """Returns what a command prints on standard output, or None where threads make it. `files` has
+    no content for a name that can't be read; `-` is standard input."""
+    command, source, options = read_words(words)
+    checked, setup, behind = program_and_run(command, source, options, files)
     if command == "check":
         count = len(checked.variables)
         return f"ok values {checked.values} period {checked.period} variables {count}\n"
     correct = sorted({int(it) for it in options.get("correct", "").split(",") if it})
-    check_run(checked, setup, events, correct)
-    run = Run(Algorithm(checked, setup), events)
+    if command == "threads":
+        check_run(checked, setup, [], [node for node, _ in behind.stops])
+        if "/" in options["trace"]:  # (there are no folders)
+            raise Refused("write")
+        return None
+    check_run(checked, setup, behind, correct)
+    if command == "lockstep":
+        return lockstep(Algorithm(checked, setup), correct, options)
+    run = Run(Algorithm(checked, setup), behind)
     if command == "judge":
-        return run.verdict(events, correct, int(options["delta"]), int(options["gst"]))
+        return run.verdict(behind, correct, int(options["delta"]), int(options["gst"]))
     return run.report() + (f"decided {run.decided()}\n" if "decided" in options else "")
+
+
+# Runs by threads
+
+
+def threads_complaint(words, files, out, trace):
+    """Returns what is wrong with a run by threads that has printed this and made this trace, or
+    nothing. The network lets each message go as soon as it can, so each is released by its trace's
+    end but those that were sent after its last turn."""
+    command, source, options = read_words(words)
+    checked, setup, threads = program_and_run(command, source, options, files)
+    try:
+        traced, events = read_schedule(trace)
+        check_run(checked, traced, events)
+    except Refused as why:
+        return f"the trace is refused: {why}"
+    run = Run(Algorithm(checked, setup), events)
+    wanted = run.report() + (f"decided {run.decided()}\n" if "decided" in options else "")
+    stops, every = dict(threads.stops), run.start(setup.rounds + 1)
+    steps = [min(every, stops.get(node, every)) for node in run.nodes]
+    stayed = [node for node in run.nodes if steps[node] == every]
+    if traced != setup:
+        return "the trace is of another setup"
+    if [len(it) for it in run.steps] != steps:
+        return "a node took other steps than its stop allows"
+    if out != wanted.encode():
+        return "the report isn't the trace's"
+    if any(kind in ("drop", "copy") for kind, *_ in events):
+        return "the network lost or copied a message"
+    if threads.is_ticking and not (run.is_lockstep(events, stayed) and run.is_bounded(stayed, 1, 0)):
+        return "the ticks weren't kept"
+    return ""
+
+
+# Runs in lockstep
+
+
+def lockstep(algorithm, correct, options):
+    """Returns the schedule of a run in lockstep, event by event in the order of their keys."""
+    setup, numbers = algorithm.setup, lambda name: [int(it) for it in options[name].split(",")]
+    delays = numbers("delays") if "delays" in options else []
+    orders = numbers("orders") if "orders" in options else []
+    delta, gst = int(options["delta"]), int(options["gst"])
+    run = Run(algorithm, [])
+    ticks = int(options.get("ticks", run.start(setup.rounds + 1)))
+    if len(delays) > TABLE or len(orders) > TABLE:
+        raise Refused("run 1")
+    events, keyed, serial = [], [], 0
+    for tick in range(ticks):
+        first = orders[tick % len(orders)] % setup.nodes if orders else 0
+        due = sorted(it for it in keyed if it[0] == tick)
+        keyed = [it for it in keyed if it[0] > tick]
+        events += [("release", *name) for _, _, name in due]
+        for node in sorted(correct, key=lambda it: (it + setup.nodes - first) % setup.nodes):
+            sent = slot_of(run, node, tick, events)
+            if sent:
+                delay = max(1, delays[serial % len(delays)]) if delays else 1
+                keyed.append((tick + (min(delay, delta) if tick >= gst else delay), serial, sent))
+                serial += 1
+            events.append(("step", node))
+    plan = "growing" if setup.delta is None else f"known {setup.delta}"
+    head = [f"nodes {setup.nodes}", f"faults {setup.faults}"]
+    head += ["inputs " + " ".join(map(str, setup.inputs)), f"rounds {setup.rounds}", f"plan {plan}"]
+    return "".join(f"{it}\n" for it in head + [" ".join(map(str, it)) for it in events])
+
+
+def slot_of(run, node, step, events):
+    """Returns the sender, receiver and round of the message that a node's step sends, or None where
+    it sends none."""
+    for number in range(1, run.setup.rounds + 1):
+        to = step - run.start(number)
+        if 0 <= to < run.setup.nodes:
+            so_far = Run(run.algorithm, [(*it, 0) if it[0] != "step" else it for it in events])
+            spoken = so_far.algorithm.send(so_far.states[node, number - 1], number, node, to)
+            return None if spoken is None else (node, to, number)
+    return None
 
 
 def answer(words, files):
     """Returns what the program answers to its words, with these files."""
     try:
-        return Answer(0, carried_out(words, files).encode(), b"")
+        out = carried_out(words, files)
+        return Answer(0, None if out is None else out.encode(), b"")
     except BadWords as why:
         return Answer(2, b"", f"{why}\n".encode() if str(why) else None)
     except Refused as why:

@@ -2,3 +2,4 @@ pub mod Faults
 pub mod Scans
 pub mod Headers
 pub mod Sources
+pub mod Agreed

@@ -1,3 +1,4 @@
+pub mod Agreeing
 pub mod Programs
 pub mod Texts
 pub mod Refusals

@@ -1,6 +1,7 @@
 //! The programs of the library.
 ghost use Rattle.std.specs.Prelude.{◌≡◌, ◌≢◌, ◌+◌, ◌*◌, ◌≤◌, ◌↔◌, Err, IfOk, IsTrue, OnOk};
 ghost use Rattle.algorithm_library.specs.declared.fault.LibraryFault.TheVariants as fault;
+ghost use Rattle.algorithm_library.specs.Agreeing.{KeepsAgreement, KeepsValidity};
 ghost use Rattle.algorithm_library.specs.Programs.{count_votes_tree, gather_tree};
 ghost use Rattle.algorithm_library.specs.Refusals.{IsCount, IsTooFew, IsWithin};
 ghost use Rattle.algorithm_library.specs.Texts.{count_votes_rest, dls1_rest, gather_rest, text_of};
@@ -46,7 +47,8 @@ pub fn count_votes(alloc: Global, values: u32) -> Result<Checked, LibraryFault>
 }
 
 /// Algorithm 1. There are 1 to 16 nodes of which up to `faults`, 0 to 15, may fail, and 1 to 64
-/// values; more than half of the nodes must be correct.
+/// values; more than half of the nodes must be correct. Then all decisions of a run are equal, and
+/// each is some node's input, whatever messages are omitted.
 pub fn dls1(alloc: Global, nodes: u32, faults: u32, values: u32) -> Result<Checked, LibraryFault>
     ensures bad { (result ≡ Err fault.BadValues) ↔ (¬ (IsWithin nodes faults values)) }
     ensures few { (result ≡ Err fault.TooFew)
@@ -54,6 +56,8 @@ pub fn dls1(alloc: Global, nodes: u32, faults: u32, values: u32) -> Result<Check
     ensures majority { OnOk result (2 * faults + 1 ≤ nodes) }
     ensures program { IfOk result (λ p. p ≡ dls1_tree values) }
     ensures text { IfOk result (λ p. IsSource (text_of dls1_rest values) p) }
+    ensures agreement { IfOk result (λ p. KeepsAgreement p nodes faults) }
+    ensures validity { IfOk result (λ p. KeepsValidity p nodes faults) }
 {
     if !is_within(nodes, faults, values) {
         return Err(LibraryFault::BadValues);

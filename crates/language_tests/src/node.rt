@@ -2,10 +2,12 @@
 use crate::acts::Answers;
 use crate::fault::Fault;
 use crate::reading::{cut, number, vars};
-use crate::showing::{show_number, show_vars};
+use crate::showing::{show_number, show_value, show_vars};
 use round_check::Checked;
-use round_lang::{Shape, Vars};
-use round_meaning::{Heard, Received, Setup, decision_of, end_of, initial_of, is_inbox, send_of};
+use round_lang::{Message, Shape, Value, Vars};
+use round_meaning::{
+    Env, Heard, Received, Scope, Setup, decision_of, end_of, eval, initial_of, is_inbox, send_of,
+};
 use std::alloc::Global;
 
 /// A node of a program with its state, and what it has heard in its round.
@@ -96,6 +98,36 @@ impl<'a> Node<'a> {
         }
     }
 
+    /// What the condition for sending to a node is in round 1.
+    fn condition(&self, alloc: Global, dest: u32, message: &Message) -> Result<Value, Fault> {
+        let program = self.program.program();
+        let Some(block) = program.blocks().first() else {
+            return Err(Fault::Unreadable);
+        };
+        let env = Env {
+            values: program.values(),
+            me: self.me,
+            nodes: self.setup.nodes,
+            faults: self.setup.faults,
+            round: 1,
+            phase: 1,
+            dest,
+            from: 0,
+            variables: program.variables(),
+            vars: &self.state,
+            fields: &[],
+            message,
+            bound: &Scope::Outermost,
+        };
+        Ok(eval(alloc, block.condition().expr(), &env)?)
+    }
+
+    fn show_condition(&self, alloc: Global, text: &str, out: &mut String) -> Result<(), Fault> {
+        let message = vars(alloc, "num 0", &Shape::empty())?;
+        let value = self.condition(alloc, number(text)?, &message)?;
+        Ok(show_value(out, &value)?)
+    }
+
     fn show_decision(&self, out: &mut String) -> Result<(), Fault> {
         Ok(show_number(out, decision_of(self.program, &self.state))?)
     }
@@ -107,6 +139,7 @@ impl<'a> Answers for Node<'a> {
         match word {
             "decide" => return self.show_decision(out),
             "send" => return self.show_sent(alloc, rest, out),
+            "when" => return self.show_condition(alloc, rest, out),
             "start" => self.start(alloc)?,
             "be" => self.state = vars(alloc, rest, &Shape::empty())?,
             "hear" => self.hear(alloc, rest)?,
