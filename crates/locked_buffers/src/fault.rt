@@ -5,21 +5,28 @@ ghost use Rattle.locked_buffers.specs.declared.fault.RelayFault.TheVariants as r
 
 use round_lang::NoMemory;
 use std::fmt;
+use thiserror::Error;
 
 /// Why a receive is refused. `Stranger`: what stands under the locks is of another run, or refuses
 /// for another cause than memory.
-#[derive(Clone, Copy, PartialEq, Eq, Debug)]
+#[derive(Clone, Copy, PartialEq, Eq, Debug, Error)]
 pub enum PostFault {
+    #[error("the node's next step isn't a receive")]
     NotItsSlot = 1,
+    #[error("a round before isn't closed")]
     NotClosed = 2,
+    #[error("what stands under the locks is of another run")]
     Stranger = 3,
+    #[error("out of memory")]
     NoMemory = 4,
 }
 
 /// Why an event of the network is refused.
-#[derive(Clone, Copy, PartialEq, Eq, Debug)]
+#[derive(Clone, Copy, PartialEq, Eq, Debug, Error)]
 pub enum RelayFault {
+    #[error("what stands under the locks is of another run")]
     Stranger = 3,
+    #[error("out of memory")]
     NoMemory = 4,
 }
 

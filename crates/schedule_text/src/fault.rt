@@ -1,17 +1,22 @@
 //! Why a text is no schedule.
 
 use std::alloc::AllocFailed;
+use thiserror::Error;
 
 /// Why a text is no schedule; lines count from 1.
-#[derive(Clone, Copy, PartialEq, Eq, Debug)]
+#[derive(Clone, Copy, PartialEq, Eq, Debug, Error)]
 pub enum ScheduleFault {
     /// The line may not stand where it does; at the end of a text that stops within the header it
     /// is the number of its last line and one more.
+    #[error("line {0} has no form that may stand there")]
     BadLine(u64),
     /// The line would do, but a number of it is above 4,294,967,295.
+    #[error("a number of line {0} is above 4,294,967,295")]
     NumberTooLarge(u64),
     /// The text has more than 16,777,216 bytes.
+    #[error("the text has more than 16,777,216 bytes")]
     TooLong,
+    #[error("out of memory")]
     NoMemory,
 }
 

@@ -6,13 +6,18 @@ ghost use Rattle.step_book.specs.declared.fault.IdleFault.TheVariants as idle;
 
 use round_lang::NoMemory;
 use step_machine::Prepared;
+use thiserror::Error;
 
 /// Why a send is refused.
-#[derive(Clone, Copy, PartialEq, Eq, Debug)]
+#[derive(Clone, Copy, PartialEq, Eq, Debug, Error)]
 pub enum SendFault {
+    #[error("the node's next step isn't this send")]
     NotItsSlot = 1,
+    #[error("a round before isn't closed")]
     NotClosed = 2,
+    #[error("the work is of another run or another state")]
     Stranger = 3,
+    #[error("out of memory")]
     NoMemory = 4,
 }
 
@@ -37,10 +42,13 @@ impl Refused {
 }
 
 /// Why a receive is refused.
-#[derive(Clone, Copy, PartialEq, Eq, Debug)]
+#[derive(Clone, Copy, PartialEq, Eq, Debug, Error)]
 pub enum ReceiveFault {
+    #[error("the node's next step isn't a receive")]
     NotItsSlot = 1,
+    #[error("a round before isn't closed")]
     NotClosed = 2,
+    #[error("out of memory")]
     NoMemory = 4,
 }
 
@@ -53,10 +61,13 @@ impl From<NoMemory> for ReceiveFault {
 }
 
 /// Why a round isn't closed.
-#[derive(Clone, Copy, PartialEq, Eq, Debug)]
+#[derive(Clone, Copy, PartialEq, Eq, Debug, Error)]
 pub enum CloseFault {
+    #[error("no round of the node is due to be closed")]
     NotDue = 1,
+    #[error("the round's end is of another run or another state")]
     Stranger = 2,
+    #[error("out of memory")]
     NoMemory = 3,
 }
 
@@ -69,9 +80,11 @@ impl From<NoMemory> for CloseFault {
 }
 
 /// Why an idle step is refused.
-#[derive(Clone, Copy, PartialEq, Eq, Debug)]
+#[derive(Clone, Copy, PartialEq, Eq, Debug, Error)]
 pub enum IdleFault {
+    #[error("the node isn't past its last round")]
     NotPast = 1,
+    #[error("out of memory")]
     NoMemory = 2,
 }
 
