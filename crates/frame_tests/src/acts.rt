@@ -28,7 +28,7 @@ pub fn bytes_of(alloc: Global, text: &str) -> Result<Vec<u8>, Fault> {
     for part in text.split(' ') {
         digits.push_str(part)?;
     }
-    hex::decode(alloc, digits.as_str()).map_err(|_| Fault::Unreadable)
+    Ok(hex::decode(alloc, digits.as_str())?)
 }
 
 impl Frames {

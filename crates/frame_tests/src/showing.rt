@@ -111,6 +111,7 @@ fn show_decoded(
 ) -> Result<(), Fault> {
     match decode(alloc, layout, bytes) {
         Ok(frame) => show_frame(&frame, out),
+        Err(FrameFault::NoMemory) => Err(Fault::NoMemory),
         Err(fault) => show_fault(fault, out),
     }
 }

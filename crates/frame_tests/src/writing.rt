@@ -4,7 +4,7 @@ ghost use Rattle.frame_format.specs.Spelling.{Spells};
 
 use crate::fault::Fault;
 use crate::placing::place_frame;
-use frame_format::{Frame, Layout, decode, encode};
+use frame_format::{Frame, FrameFault, Layout, decode, encode};
 use frame_views::write_frame;
 use std::alloc::Global;
 
@@ -54,6 +54,7 @@ pub fn show_written(
     }
     match decode(alloc, layout, bytes) {
         Ok(frame) => written(alloc, layout, &frame, copy),
+        Err(FrameFault::NoMemory) => Err(Fault::NoMemory),
         Err(_) => Err(Fault::Unreadable),
     }
 }

@@ -1,6 +1,7 @@
 //! What the threads of a run wait by.
 use crate::body::Beat;
 use schedule_text::Pace;
+use std::sync::atomic::{AtomicBool, Ordering};
 use std::sync::{Condvar, Mutex, Wait};
 
 /// What the threads know of one another.
@@ -12,8 +13,6 @@ struct Count {
     ticks: u64,
     /// The nodes that took their step of this tick.
     stepped: u32,
-    /// Whether a node took a step or ended since the network's last turn.
-    is_new: bool,
     /// Whether the network has ended.
     is_over: bool,
 }
@@ -21,12 +20,10 @@ struct Count {
 impl Count {
     fn note_step(&mut self) {
         self.stepped = self.stepped.saturating_add(1);
-        self.is_new = true;
     }
 
     fn note_end(&mut self) {
         self.running = self.running.saturating_sub(1);
-        self.is_new = true;
     }
 
     fn begin_tick(&mut self) {
@@ -40,6 +37,9 @@ impl Count {
 pub(crate) struct Clock {
     pace: Pace,
     count: Mutex<Count>,
+    /// Whether a node took a step or ended since the network's last turn. A node that finds it set
+    /// needs no lock: its event was recorded before, and the network clears this before it looks.
+    is_new: AtomicBool,
     /// A tick began, or the network ended.
     begun: Condvar,
     /// A node took a step or ended.
@@ -55,32 +55,48 @@ impl Clock {
                 running: nodes,
                 ticks: 0,
                 stepped: 0,
-                is_new: false,
                 is_over: false,
             }),
+            is_new: AtomicBool::new(false),
             begun: Condvar::new(),
             moved: Condvar::new(),
         }
     }
 
-    /// A node that took so many steps waits for its next.
+    /// A node that took so many steps waits for its next; under the free pace it goes on at once.
     fn next<R: Wait>(&self, rt: &R, steps: u64) {
+        match self.pace {
+            Pace::Free => self.tell(rt, steps),
+            Pace::Ticks => self.wait(rt, steps),
+        }
+    }
+
+    /// Tells the network of a step, where it isn't told of one already.
+    fn tell<R: Wait>(&self, rt: &R, steps: u64) {
+        if steps == 0 || self.is_new.swap(true, Ordering::SeqCst) {
+            return;
+        }
+        let _count = self.count.lock(rt);
+        self.moved.notify_all();
+    }
+
+    /// Counts a step, and waits for the next tick.
+    fn wait<R: Wait>(&self, rt: &R, steps: u64) {
         let mut count = self.count.lock(rt);
         if steps > 0 {
             count.note_step();
             self.moved.notify_all();
         }
-        if self.pace == Pace::Ticks {
-            let _count = self
-                .begun
-                .wait_while(rt, count, |it| it.ticks <= steps && !it.is_over);
-        }
+        let _count = self
+            .begun
+            .wait_while(rt, count, |it| it.ticks <= steps && !it.is_over);
     }
 
     /// A node ended.
     pub(crate) fn leave<R: Wait>(&self, rt: &R) {
         let mut count = self.count.lock(rt);
         count.note_end();
+        self.is_new.store(true, Ordering::SeqCst);
         self.moved.notify_all();
     }
 
@@ -98,10 +114,10 @@ impl Clock {
         if self.pace == Pace::Ticks {
             return count.running > 0;
         }
-        let mut count = self
-            .moved
-            .wait_while(rt, count, |it| !it.is_new && it.running > 0);
-        count.is_new = false;
+        let count = self.moved.wait_while(rt, count, |it| {
+            !self.is_new.load(Ordering::SeqCst) && it.running > 0
+        });
+        self.is_new.store(false, Ordering::SeqCst);
         count.running > 0
     }
 
