@@ -3,3 +3,4 @@ pub mod TypeLaws
 pub mod Starts
 pub mod OneMeanings
 pub mod Sites
+pub mod ToldApart

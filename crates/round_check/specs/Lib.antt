@@ -6,3 +6,4 @@ pub mod Types
 pub mod Causes
 pub mod Shapes
 pub mod OneMeaning
+pub mod Spelling

@@ -95,7 +95,7 @@ impl Checked {
     pub fn same(&self, other: &Checked) -> bool
         ensures { IsTrue result ↔ (self.now ≡ other.now) }
     {
-        self.program().same(other.program())
+        self.shaped.spelling == other.shaped.spelling
     }
 
     /// Nothing at run time: what every checked program keeps.

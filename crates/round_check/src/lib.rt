@@ -8,6 +8,7 @@ mod laws;
 mod names;
 mod rules;
 mod shapes;
+mod spelling;
 mod types;
 mod typing;
 

@@ -1,19 +1,23 @@
 //! The shapes of a program's states and messages.
 ghost use Rattle.std.specs.Prelude.{◌≡◌, IfOk};
 ghost use Rattle.round_check.specs.Shapes.{block_kinds, message_kinds, state_kinds};
+ghost use Rattle.round_check.specs.Spelling.{spelled};
 
+use crate::spelling::spell;
 use crate::types::kind_type;
 use round_lang::{Block, Kind, NoMemory, Program, Shape};
 use std::alloc::Global;
 
-/// A program with the shape of its states, and of each block's messages.
+/// A program with the shape of its states, of each block's messages, and its spelling.
 #[derive(Drop)]
 pub(crate) struct ShapedProgram {
     pub(crate) program: Program,
     pub(crate) state: Shape,
     pub(crate) messages: Vec<Shape>,
+    pub(crate) spelling: Vec<u32>,
     ghost state_is: { state ≡ state_kinds program },
     ghost messages_are: { messages.items ≡ message_kinds program },
+    ghost spelling_is: { spelling.items ≡ spelled program },
 }
 
 impl ShapedProgram {
@@ -22,10 +26,12 @@ impl ShapedProgram {
     {
         let state = state_shape(alloc, &program)?;
         let messages = message_shapes(alloc, &program)?;
+        let spelling = spell(alloc, &program)?;
         Ok(ShapedProgram {
             program,
             state,
             messages,
+            spelling,
         })
     }
 }
