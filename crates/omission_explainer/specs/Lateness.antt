@@ -36,7 +36,7 @@ abbrev pub marks_of : World → List Event → Name → ℕ → Mark
 marks_of w t n k = mark_of w t (record n { copy = k })
 
 -- the step number below which a receiver that has taken `count` steps lacked each copy of a
--- message; it lacks nothing of silence
+-- message; where no message was sent, it lacks nothing
 abbrev pub open_until : ℕ → (ℕ → Mark) → ℕ
 open_until count marks =
     if is_spoken (marks 0) then least_copy (λ k. copy_open_until count (marks k)) else 0
@@ -48,8 +48,8 @@ pub record HasReceive (w : World) (low high : ℕ) : Type 0 where
   pub before : step < high
   pub receive : is_receive w step ≡ true
 
--- where node j takes its next step after so many steps of each correct node, each of them has taken
--- as many
+-- node i takes its next step, and `counts` has how many each correct node took before: none of them
+-- took fewer than node i
 abbrev pub KeepsPace : ℕ → List ℕ → ℕ → Type 0
 KeepsPace correct counts i =
     (j : ℕ) → is_in correct j ≡ true → slice_index counts i ≤ slice_index counts j
@@ -67,8 +67,8 @@ pub record IsOwnSlot (w : World) (j count : ℕ) (n : Name) : Type 0 where
   pub copy : n.copy ≡ 0
   pub slot : count ≡ w.start n.round + n.to
 
--- where node j takes its next step after so many steps of each correct node, no message that it
--- sends there is too late for a receive
+-- node j takes its next step, and `counts` has how many each correct node took before: no message
+-- that it sends there is too late for a receive
 abbrev pub KeepsBound : World → List Event → ℕ → ℕ → ℕ → List ℕ → ℕ → Type 0
 KeepsBound w t correct delta gst counts j =
     (n : Name) → IsOwnSlot w j (slice_index counts j) n → is_in correct n.to ≡ true

@@ -16,7 +16,7 @@ abbrev pub prints_omitted : (carried sends stands : ℕ → Bool) → ℕ → Bo
 prints_omitted carried sends stands j =
     not (is_heard carried sends j) && not (is_silent sends stands j)
 
--- the sets of the nodes below n
+-- the heard senders below n, as a set
 abbrev pub heard_set : ℕ → (carried sends : ℕ → Bool) → ℕ
 heard_set n carried sends = set_of n (is_heard carried sends)
 

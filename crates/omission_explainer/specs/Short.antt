@@ -1,6 +1,6 @@
--- How long a text may be that is made in place.
+-- The length of a text that is made in place.
 use Rattle.std.specs.Prelude.{ℕ}
 
--- for how many bytes there is room
+-- how many bytes a text that takes no memory of its own has at most
 abbrev pub room : ℕ
 room = 192

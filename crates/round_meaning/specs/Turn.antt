@@ -16,15 +16,19 @@ use Rattle.round_lang.specs.Values.{flag, set}
 use Rattle.round_meaning.specs.declared.received.Received.{Received}
 use Rattle.round_meaning.specs.Meaning.{Env, bind, find_var, or_value, value}
 
+-- in an environment (`Env`), the state's values are these
 abbrev pub with_vars : List Value → Env → Env
 with_vars vs env = record env { vars = vs }
 
+-- there, these fields have the values of a message from node j
 abbrev pub with_message : ℕ → List Field → List Value → Env → Env
 with_message j fs m env = record env { from = j; fields = fs; message = m }
 
+-- there, node i is the one that is sent to
 abbrev pub with_dest : ℕ → Env → Env
 with_dest i env = record env { dest = i }
 
+-- puts a value at a place of a list, and leaves the list as it is where there is no place
 abbrev pub put : List Value → Option ℕ → Value → List Value
 put vs None v = vs
 put vs (Some i) v = slice_set vs i v
@@ -43,11 +47,12 @@ runs env (a ∷ rest) vs = runs env rest (assigned env a vs)
 abbrev pub phase_of : ProgramTree → ℕ → ℕ
 phase_of p r = (r - 1) / p.period + 1
 
--- the block of round r is the one at (r - 1) mod P
+-- the block of round r is the one at place (r - 1) mod P, from 0
 abbrev pub block_at : ProgramTree → ℕ → Option BlockTree
 block_at p r = slice_get p.blocks ((r - 1) % p.period)
 
--- what node i of n, with t faults, computes with in round r
+-- what node i of n, with t faults, computes with in round r, before its state, the receiver or a
+-- message is put in
 abbrev pub node_env : ProgramTree → ℕ → ℕ → ℕ → ℕ → Env
 node_env p n t r i = record {
   values = p.values;
@@ -65,13 +70,13 @@ node_env p n t r i = record {
   bound = [];
 }
 
--- the sent fields where the condition is true, else none
+-- what a block sends: the values of its fields where its condition is true, else nothing
 abbrev pub sent : Option BlockTree → Env → Option (List Value)
 sent None env = None
 sent (Some b) env =
     if flag (value b.condition env) then Some (map (λ (e : Tree). value e env) b.sent) else None
 
--- the senders rise, from one on
+-- the senders rise, each only once, and the first is `low` or above
 abbrev pub RiseFrom : ℕ → List Received → Type 0
 RiseFrom low [] = ⊤
 RiseFrom low (m ∷ ms) = (low ≤ m.from) × RiseFrom (m.from + 1) ms
@@ -91,7 +96,7 @@ abbrev pub ended : Option BlockTree → Env → List Received → List Value →
 ended None env inbox vs = vs
 ended (Some b) env inbox vs = runs env b.end (folded b env inbox vs)
 
--- the first of two names, where the variable is the input
+-- a variable's name x where it is the input, else the other
 abbrev pub name_by : VariableKind → List ℕ → Option (List ℕ) → Option (List ℕ)
 name_by Input x other = Some x
 name_by (State ty e) x other = other
@@ -101,7 +106,7 @@ abbrev pub input_name : List Variable → Option (List ℕ)
 input_name [] = None
 input_name (d ∷ ds) = name_by d.kind d.name (input_name ds)
 
--- the input's name stands for the input
+-- the input's name stands for the input x
 abbrev pub bind_input : Option (List ℕ) → ℕ → Env → Env
 bind_input None x env = env
 bind_input (Some name) x env = bind name env x
@@ -117,7 +122,7 @@ initial p n t x i =
     map (λ (d : Variable).
     begins (bind_input (input_name p.variables) x (node_env p n t 0 i)) x d.kind) p.variables
 
--- the set that the decided variable holds, empty where nothing is decided
+-- the set that the variable of the first `decide` line holds, empty where there is no such line
 abbrev pub decided : ProgramTree → List Value → List (List ℕ) → ℕ
 decided p vs [] = 0
 decided p vs (x ∷ xs) = set (or_value (find_var p.variables vs x) (Num 0))

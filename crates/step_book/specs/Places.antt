@@ -1,5 +1,7 @@
 -- Places in the trace of a run, its list of events, which has the oldest first. Places, nodes and
--- the steps of a node are numbered from 0, rounds from 1.
+-- the steps of a node are numbered from 0, rounds from 1. Round r of each node begins with its step
+-- number `start r`: a send to each node, from 0 on, and then receives. A `Name` names one copy of a
+-- message: `from`, `to`, `round` and `copy`.
 use Rattle.std.specs.Prelude.{◌≡◌, ℕ, ◌+◌, ◌<◌, ◌≤◌, ◌⊎◌, List, Some, count_by, slice_get, take}
 use Rattle.step_machine.specs.declared.event.Event.{Event}
 use Rattle.step_machine.specs.declared.event.Event.TheVariants.{Step, Release, Drop, Copy}
