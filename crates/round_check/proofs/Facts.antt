@@ -1,7 +1,7 @@
 -- What a checked program keeps.
 use Rattle.std.proofs.Common.{◌≡◌, ◌<◌, ℕ, zero, suc, Bool, true, false, List, [], ◌∷◌, length}
 use Rattle.std.proofs.Common.{Option, Some, None, refl, ap, subst, arith}
-use Rattle.std.specs.Prelude.{◌&&◌, ◌||◌, not, is_none, is_some, unwrap_or, slice_get, nat_lt, ◌==◌}
+use Rattle.std.specs.Prelude.{◌||◌, not, is_none, is_some, unwrap_or, slice_get, nat_lt, ◌==◌}
 use Rattle.std.specs.List.{list_any}
 use Rattle.std.proofs.lemmas.Bool.Decides.{nat_tests}
 use Rattle.round_lang.specs.declared.expr.Ty.{Ty}

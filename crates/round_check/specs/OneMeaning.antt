@@ -1,5 +1,5 @@
 -- Each name in a program is the name of one thing.
-use Rattle.std.specs.Prelude.{◌≡◌, ◌++◌, ◌∷◌, [], ℕ, List, All, length, filter, map, ⊤}
+use Rattle.std.specs.Prelude.{◌≡◌, ◌++◌, ◌∷◌, ℕ, List, All, length, filter, map, ⊤}
 use Rattle.std.specs.Str.{bytes_eq}
 use Rattle.round_lang.specs.declared.block.Assignment.{Assignment}
 use Rattle.round_lang.specs.declared.block.Field.{Field}

@@ -1,7 +1,7 @@
-use Rattle.std.proofs.Common.{◌≡◌, None, ap, sym, ◌∙◌}
+use Rattle.std.proofs.Common.{ap, sym, ◌∙◌}
 use Rattle.round_check.proofs.Facts.{none-typed, typed-none}
 use Rattle.round_check.proofs.checked.check.Goals as goal
-use Rattle.round_check.specs.Causes.{fault_of, is_typed}
+use Rattle.round_check.specs.Causes.{is_typed}
 
 pub returns-in-Ok-clause-typed : goal.returns-in-Ok-clause-typed
 returns-in-Ok-clause-typed c = typed-none c.args.program (sym c.in_default.ensures)

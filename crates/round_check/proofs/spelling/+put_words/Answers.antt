@@ -1,4 +1,4 @@
-use Rattle.std.proofs.Common.{◌≡◌, ◌∙◌, ◌∷◌, sym}
+use Rattle.std.proofs.Common.{◌∙◌, ◌∷◌, sym}
 use Rattle.std.proofs.lemmas.Result.{on_ok_weaker}
 use Rattle.round_lang.specs.TreeCode.{WBinary, WIf, WRowOf, WSetOf, WUnary, words_then}
 use Rattle.round_lang.specs.Tree.{tree_of}

@@ -1,4 +1,4 @@
-use Rattle.std.proofs.Common.{◌≡◌, ◌∙◌, [], sym}
+use Rattle.std.proofs.Common.{◌∙◌, [], sym}
 use Rattle.std.proofs.lemmas.Result.{on_ok_weaker}
 use Rattle.round_check.proofs.spelling.put_formula.Goals as goal
 

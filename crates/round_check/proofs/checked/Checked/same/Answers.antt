@@ -1,4 +1,4 @@
-use Rattle.std.proofs.Common.{◌≡◌, ap, sym, ◌∙◌}
+use Rattle.std.proofs.Common.{ap, sym, ◌∙◌}
 use Rattle.std.proofs.lemmas.Bool.Decides.{Decides-eqb}
 use Rattle.std.proofs.lemmas.Slice.Eq.{slice_eq-Decides}
 use Rattle.std.specs.Arc.{arc_value}
@@ -8,8 +8,9 @@ use Rattle.round_check.proofs.checked.Checked.same.Goals as goal
 
 pub returns : goal.returns
 returns c =
-    let one = c.deref.result.now in
-    let other = c.deref-2.result.now in
-    let alike = slice_eq-Decides Decides-eqb _ _ c.eq.result c.eq.ensures in
-    rw (sym c.deref.ensures, sym c.deref-2.ensures)
+    let one = arc_value c.self.inside.shaped in
+    let other = arc_value c.other.inside.shaped in
+    let alike = slice_eq-Decides Decides-eqb one.spelling.items other.spelling.items c.eq.result
+    (rw (c.deref.ensures, c.deref-2.ensures) at c.eq.ensures) in
+    rw (← c.self.view_is, ← c.other.view_is)
     (λ yes. told_apart one.program other.program (sym one.spelling_is ∙ alike.0 yes ∙ other.spelling_is), λ same. alike.1 (one.spelling_is ∙ ap spelled same ∙ sym other.spelling_is))
