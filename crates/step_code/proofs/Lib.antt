@@ -4,6 +4,8 @@ pub mod Holding
 pub mod Ops
 pub mod Changing
 pub mod Visiting
+pub mod Finding
+pub mod Asking
 pub mod Correct
 pub mod Patch
 pub mod Typing

@@ -12,6 +12,7 @@ mod pieces;
 mod program;
 mod room;
 mod run;
+mod seeking;
 mod single;
 mod step;
 mod turn;
