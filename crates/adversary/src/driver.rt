@@ -279,7 +279,7 @@ fn close<P: Plan>(journal: &mut Journal<P>, node: &mut Node) -> Result<(), NoMem
     ensures node { OnOk result
         (IsNodeOf (P.start journal.new.plan) journal.new.log node.old.me node.new) }
 {
-    let finished = node.finish()?;
+    let finished = node.finish();
     match journal.close(&finished) {
         Ok(()) => {
             node.settle();

@@ -7,7 +7,7 @@ use Rattle.step_book.specs.Stock.{AreSpelt, IsSameRun, Stock, flying_at, run_of}
 
 copied_spelt : (a : Algorithm) (k : ℕ) (o : Option Frame) → IfSome o (Spells a) → IfSome (option_map (copied_as k) o) (Spells a)
 copied_spelt a k None h = tt
-copied_spelt a k (Some f) h = record { says = h.says }
+copied_spelt a k (Some f) h = record { says = h.says; kinds = h.kinds }
 
 -- what was copied of a frame of a buffer may go to that buffer, whatever room was made in it
 pub spelt_made : (old new : Stock) (copy place : ℕ) (o : Option Frame) (frame : Frame) → AreSpelt (run_of old) old.flying old.waiting

@@ -125,7 +125,7 @@ fn close_round<P: Plan, M: Mail<P>, G: Gate>(
     let me = seat.node();
     let round = node.round();
     gate.pass(Point::Finish { node: me, round });
-    let finished = node.finish()?;
+    let finished = node.finish();
     match mail.close(seat, &finished) {
         Ok(()) => {}
         Err(CloseFault::NoMemory) => return Err(Halt::NoMemory),

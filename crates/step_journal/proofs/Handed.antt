@@ -97,6 +97,12 @@ module _ {P : Type 0} {s v : Recorded P} {bs : List Stock} (start : P → ℕ �
   genuine_there : (i : ℕ) (b : Stock) (frames : List Frame) → i < s.log.setup.nodes → b ≡ get_or bs i b → frames ≡ b.waiting → All (IsGenuine (algorithm_of s.log.program s.log.setup) s.log.rows) frames
   genuine_there i b frames l h d = All-same (IsGenuine (algorithm_of s.log.program s.log.setup) s.log.rows) frames _ (there i b frames l h d) (f.genuine i l)
 
+  -- name their senders' recorded states, and say what these send
+  pub waiting_genuine : (i : ℕ) (b : Stock) (frames : List Frame) → i < v.log.setup.nodes → b ≡ get_or bs i b → frames ≡ b.waiting → All (IsGenuine (algorithm_of v.log.program v.log.setup) v.log.rows) frames
+  waiting_genuine i b frames l h d =
+      let own : i < s.log.setup.nodes = subst (λ (z : Recorded P). i < z.log.setup.nodes) (sym e) l in
+      subst (λ (z : Recorded P). All (IsGenuine (algorithm_of z.log.program z.log.setup) z.log.rows) frames) e (genuine_there i b frames own h d)
+
   -- are what the run in rounds says
   pub waiting_said : (i : ℕ) (b : Stock) (frames : List Frame) → i < v.log.setup.nodes → b ≡ get_or bs i b → frames ≡ b.waiting → All (IsSaid (start v.plan) v.log) frames
   waiting_said i b frames l h d =

@@ -378,7 +378,7 @@ module _ {start : ℕ → ℕ} {v : Log} {bs : List Stock} (f : Fits start v bs)
       let made = frame_made p frame (sym is ∙ some) in
       let named : frame.name ≡ p.name = ap (λ (x : Frame). x.name) made.2 in
       let first = a.first in
-      let genuine : IsGenuine a0 v.rows frame = subst (λ (x : Frame). IsGenuine a0 v.rows x) (sym made.2) (record { spells = record { says = work.says ∙ made.1 }; copy = a.copy; first = a.first; past = omega arith; own = fit.2 }) in
+      let genuine : IsGenuine a0 v.rows frame = subst (λ (x : Frame). IsGenuine a0 v.rows x) (sym made.2) (record { spells = record { says = work.says ∙ made.1; kinds = work.kinds }; copy = a.copy; first = a.first; past = omega arith; own = fit.2 }) in
       let there : Puts None b2.flying b3.flying p.name.copy (place_among v.setup.nodes p.name) (Some frame) =
       subst (λ (x : Name). Puts None b2.flying b3.flying x.copy (place_among v.setup.nodes x) (Some frame)) en
       (subst (λ (z : ℕ). Puts None b2.flying b3.flying z (place_among v.setup.nodes n) (Some frame)) (sym c) (subst (λ (z : ℕ). Puts None b2.flying b3.flying 0 z (Some frame)) at puts)) in
@@ -421,7 +421,7 @@ module _ {start : ℕ → ℕ} {v : Log} {bs : List Stock} (f : Fits start v bs)
       let found = flight_read (original n) place b first (original_named v.setup.nodes v.setup.rounds n a) at h is in
       let g = found.1 in (
         ap (λ (x : Frame). x.name) made ∙ ap (λ (x : Name). record x { copy = n.copy }) found.0,
-        subst (λ (x : Frame). IsGenuine (algorithm_of v.program v.setup) v.rows x) (sym made) (record { spells = record { says = g.spells.says }; copy = a.copy; first = g.first; past = g.past; own = g.own }),
+        subst (λ (x : Frame). IsGenuine (algorithm_of v.program v.setup) v.rows x) (sym made) (record { spells = record { says = g.spells.says; kinds = g.spells.kinds }; copy = a.copy; first = g.first; past = g.past; own = g.own }),
       )
 
   -- a copy of what is in flight, from the room that was made

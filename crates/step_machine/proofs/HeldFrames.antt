@@ -4,17 +4,20 @@ use Rattle.std.proofs.Common.{length, length-append, length-set, get_or, set, Op
 use Rattle.std.proofs.Common.{option_map, refl, sym, ap, subst, ◌∙◌, arith, ◌⊎◌, inl, inr}
 use Rattle.std.specs.List.{filter_map, cons_option, range_with_len}
 use Rattle.std.specs.Option.{ForSome}
-use Rattle.std.specs.Prelude.{replicate}
+use Rattle.std.specs.Prelude.{IfSome, replicate}
 use Rattle.std.proofs.lemmas.Bool.{cases_eq, cases_lt}
-use Rattle.std.proofs.lemmas.List.{get_or-replicate, get_or-set_same, get_or-set_other}
+use Rattle.std.proofs.lemmas.List.{get_or_default, get_or-replicate, get_or-set_same}
+use Rattle.std.proofs.lemmas.List.{get_or-set_other}
 use Rattle.std.proofs.lemmas.List.{get_or_append_left, get_or_push, length-replicate}
 use Rattle.round_meaning.specs.declared.received.Received.{Received}
-use Rattle.std.proofs.lemmas.Option.{same_Some}
-use Rattle.round_meaning.proofs.Inboxes.{is_inbox}
-use Rattle.round_meaning.specs.Rounds.{Algorithm}
-use Rattle.round_meaning.specs.Turn.{IsInbox}
+use Rattle.round_lang.specs.declared.value.Value.{Value}
+use Rattle.round_lang.specs.Syntax.{ProgramTree}
+use Rattle.round_meaning.specs.declared.setup.Setup.{Setup}
+use Rattle.round_meaning.specs.Rounds.{Algorithm, algorithm_of}
+use Rattle.step_code.specs.Turns.{IsOfRound, IsOfState}
 use Rattle.step_machine.specs.Frames.{Frame, HeldRow, held_at}
 use Rattle.step_machine.specs.Nodes.{AreHeld, HasPlaces, IsFrom, IsHeld, ahead, inbox_of}
+use Rattle.step_machine.specs.Reading.{AreOfRound, MayBeOfRound, SendsHaveKinds, StartsHaveKinds}
 
 -- no frames are held well
 pub none_held : (a : Algorithm) (n i r : ℕ) → IsHeld a n i r (replicate n None)
@@ -171,10 +174,20 @@ inbox_held a n i r held size h =
     (λ j l f is. let m : j < n = omega arith in (h.each j m f is).from ∙ (let e : j ≡ 0 + j = omega arith in e))
     ∙ ap (λ m. filter_map (λ j. said j (held_at held j)) (range_with_len 0 m)) size
 
-said_from : (j : ℕ) (o : Option Frame) → ForSome (said j o) (λ m. m.from ≡ j)
-said_from j None m is = absurd cc
-said_from j (Some f) m is = let own : record { from = j; message = f.message } ≡ m = same_Some _ _ is in sym (ap (λ (x : Received). x.from) own)
+-- ---- what the code can read
 
--- what is held of a round is an inbox
-pub held_inbox : (a : Algorithm) (n i r : ℕ) (held : HeldRow) → length held ≡ n → IsHeld a n i r held → IsInbox (inbox_of held)
-held_inbox a n i r held size h = subst IsInbox (sym (inbox_held a n i r held size h)) (is_inbox (λ j. said j (held_at held j)) (λ j. said_from j (held_at held j)) n)
+module _ (p : ProgramTree) (s : Setup) (starts : StartsHaveKinds p) (sends : SendsHaveKinds p) where
+  of_round : (i j r : ℕ) (f : Frame) → IsFrom (algorithm_of p s) j i r f → IsOfRound p r f.message
+  of_round i j r f h =
+      let state : IsOfState p f.state = h.spells.kinds ∙ starts s 0 in
+      let said : IsOfRound p f.name.round f.message = subst (λ (o : Option (List Value)). IfSome o (IsOfRound p f.name.round)) h.spells.says (sends s f.name.round f.state f.name.from f.name.to state) in
+      subst (λ q. IsOfRound p q f.message) h.round said
+
+  may_be : (i j r : ℕ) (o : Option Frame) → ForSome o (IsFrom (algorithm_of p s) j i r) → MayBeOfRound p r o
+  may_be i j r None h = tt
+  may_be i j r (Some f) h = of_round i j r f (h f refl)
+
+  -- the messages of frames held of a round are of the kinds of its messages
+  pub are_of_round : (i r : ℕ) (held : HeldRow) → length held ≡ s.nodes → IsHeld (algorithm_of p s) s.nodes i r held → AreOfRound p r held
+  are_of_round i r held size h k d l =
+      subst (MayBeOfRound p r) (get_or_default held k None d l) (may_be i k r (held_at held k) (h.each k (omega (arith, l, size))))

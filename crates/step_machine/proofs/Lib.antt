@@ -1,1 +1,2 @@
 pub mod HeldFrames
+pub mod KindLaws

@@ -1,7 +1,9 @@
 -- Messages on their way, and what a node has ready for a send slot.
-use Rattle.std.specs.Prelude.{◌≡◌, ℕ, List, [], Option, Some, None, option_map, slice_index_or}
+use Rattle.std.specs.Prelude.{◌≡◌, ℕ, List, [], Option, Some, None, map, option_map}
+use Rattle.std.specs.Prelude.{slice_index_or}
 use Rattle.std.specs.Option.{unwrap_or}
 use Rattle.round_lang.specs.declared.value.Value.{Value}
+use Rattle.round_lang.specs.Words.{kind_of}
 use Rattle.round_meaning.specs.Rounds.{Algorithm}
 use Rattle.step_machine.specs.declared.event.Name.{Name}
 
@@ -46,13 +48,20 @@ frame_of p = option_map (λ m. record { name = p.name; state = p.state; message 
 abbrev pub sent_under : Algorithm → Name → List Value → Option (List Value)
 sent_under a n s = a.send n.round s n.from n.to
 
--- the frame says what the state that it names sends
+-- there are as many values as in a state of the algorithm, each of the kind that it has there, as
+-- what node 0 begins with shows
+abbrev pub HasStateKinds : Algorithm → List Value → Type 0
+HasStateKinds a vs = map kind_of vs ≡ map kind_of (a.init 0)
+
+-- the frame says what the state that it names sends, which has the kinds of the algorithm's states
 pub record Spells (a : Algorithm) (f : Frame) : Type 0 where
   pub says : sent_under a f.name f.state ≡ Some f.message
+  pub kinds : HasStateKinds a f.state
 
--- the message or silence is what the state sends
+-- the message or silence is what the state sends, which has the kinds of the algorithm's states
 pub record IsPrepared (a : Algorithm) (p : Ready) : Type 0 where
   pub says : sent_under a p.name p.state ≡ p.message
+  pub kinds : HasStateKinds a p.state
 
 -- the frames held of one round, by sender
 abbrev pub HeldRow : Type 0

@@ -1,27 +1,24 @@
 //! A program's code, and the room of words that a node runs it in.
-ghost use Rattle.std.specs.Prelude.{◌≡◌, ◌++◌, ◌↔◌, ℕ, List, All, IfOk, IsTrue, length};
+ghost use Rattle.std.specs.Prelude.{◌≡◌, ◌++◌, ℕ, List, IfOk, length};
 ghost use Rattle.round_lang.specs.declared.value.Value.{Value};
 ghost use Rattle.round_meaning.specs.declared.received.Received.{Received};
 ghost use Rattle.round_meaning.specs.declared.setup.Setup.{Setup as OneSetup};
 ghost use Rattle.round_meaning.specs.Rounds.{algorithm_of};
-ghost use Rattle.round_meaning.specs.Turn.{IsInbox};
 ghost use Rattle.step_code.specs.Layout.{room_of};
-ghost use Rattle.step_code.specs.Turns.{InTurn};
+ghost use Rattle.step_code.specs.Turns.{InTurn, IsOfState};
 ghost use Rattle.step_machine.specs.Nodes.{inbox_of};
-ghost use Rattle.step_machine.specs.Reading.{AreOfRound, MayBeOfRound};
+ghost use Rattle.step_machine.specs.Reading.{AreOfRound, SendsHaveKinds, StartsHaveKinds};
 
 use crate::sealed::Sealed;
 use round_check::Checked;
 use round_lang::{Message, NoMemory, Vars};
-use round_meaning::{Heard, Setup, end_of, send_of};
+use round_meaning::{Setup, types_are_kept};
 use std::alloc::Global;
 use std::marker::Model;
 use step_code::{Room, StepProgram, compile};
 
-/// A program's code with a room that it runs in, seen by contracts as the program.
-///
-/// Code reads words, of the kinds that the program's states and messages have. A state or a message
-/// that is of others, as a node of another program may send it, is left to the evaluator.
+/// A program's code with a room that it runs in, seen by contracts as the program. Code reads
+/// words, of the kinds that the program's states and messages have.
 #[derive(Drop)]
 pub(crate) struct Machine {
     code: StepProgram,
@@ -61,6 +58,7 @@ impl Machine {
     /// The initial state of node `me`.
     pub(crate) fn init(&mut self, alloc: Global, setup: &Setup, me: u32) -> Result<Vars, NoMemory>
         ensures state { IfOk result (λ vs. vs ≡ (algorithm_of self.old setup.now).init me) }
+        ensures kinds { IfOk result (IsOfState self.old) }
         ensures same { self.new ≡ self.old }
     {
         self.code.init(alloc, setup, me, &mut self.room)
@@ -76,58 +74,47 @@ impl Machine {
         me: u32,
         dest: u32,
     ) -> Result<Option<Message>, NoMemory>
+        requires { IsOfState self.old state.now }
         ensures message { IfOk result (λ m. m
             ≡ (algorithm_of self.old setup.now).send round state.now me dest) }
         ensures same { self.new ≡ self.old }
     {
-        if !self.code.is_state(state) {
-            return send_of(alloc, self.code.program(), setup, round, state, me, dest);
-        }
         self.code
             .send(alloc, setup, round, state, me, dest, &mut self.room)
     }
 
-    /// The state of node `me` after a round, from the state before it and the frames held of it.
+    /// Writes the state of node `me` after a round over another, from the state before it and the
+    /// frames held of it.
     pub(crate) fn end(
         &mut self,
-        alloc: Global,
         setup: &Setup,
         round: u32,
         me: u32,
         held: &[Option<Sealed>],
         state: &Vars,
-    ) -> Result<Vars, NoMemory>
-        requires { IsInbox (inbox_of held.now) }
-        ensures state { IfOk result (λ vs. vs
-            ≡ (algorithm_of self.old setup.now).end round me (inbox_of held.now) state.now) }
+        next: &mut Vars,
+    )
+        requires state { IsOfState self.old state.now }
+        requires next { IsOfState self.old next.old }
+        requires held { AreOfRound self.old round held.now }
+        ensures state { next.new
+            ≡ (algorithm_of self.old setup.now).end round me (inbox_of held.now) state.now }
+        ensures kinds { IsOfState self.old next.new }
         ensures same { self.new ≡ self.old }
     {
-        if !self.code.is_state(state) || !are_of_round(&self.code, round, held) {
-            let inbox = inbox_of(alloc, held)?;
-            return end_of(alloc, self.code.program(), setup, round, me, &inbox, state);
-        }
-        let mut next = state.copy(alloc)?;
         self.code.init_turn(setup, round, me, state, &mut self.room);
         take_all(&self.code, round, held, &mut self.room);
-        self.code.end(round, &mut next, &mut self.room);
-        Ok(next)
+        self.code.end(round, next, &mut self.room);
     }
 }
 
-/// Whether the code can read the messages of a round.
-fn are_of_round(code: &StepProgram, round: u32, held: &[Option<Sealed>]) -> bool
-    ensures { IsTrue result ↔ AreOfRound code.now round held.now }
+/// What nodes begin with and what they send has the kinds that the code reads.
+pub(crate) fn kinds_are_kept(program: &Checked)
+    ensures starts { StartsHaveKinds program.now }
+    ensures sends { SendsHaveKinds program.now }
 {
-    held.iter().all(|frame| is_of_round(code, round, frame))
-}
-
-fn is_of_round(code: &StepProgram, round: u32, frame: &Option<Sealed>) -> bool
-    ensures { IsTrue result ↔ MayBeOfRound code.now round frame.now }
-{
-    match frame {
-        Some(frame) => code.is_message(round, frame.message()),
-        None => true,
-    }
+    program.typed();
+    types_are_kept(program);
 }
 
 /// Takes the messages, in rising order of sender.
@@ -147,17 +134,4 @@ fn take_all(code: &StepProgram, round: u32, held: &[Option<Sealed>], room: &mut 
             take_all(code, round, rest, room);
         }
     }
-}
-
-/// The frames as an inbox, in rising order of sender.
-fn inbox_of<'a>(alloc: Global, held: &'a [Option<Sealed>]) -> Result<Vec<Heard<'a>>, NoMemory>
-    ensures { IfOk result (λ inbox. inbox.items ≡ inbox_of held.now) }
-{
-    let mut inbox = Vec::with_capacity(alloc, held.len())?;
-    for frame in held {
-        if let Some(frame) = frame {
-            inbox.push(Heard::new(frame.name().from, frame.message()))?;
-        }
-    }
-    Ok(inbox)
 }

@@ -5,15 +5,15 @@ ghost use Rattle.std.specs.Prelude.{◌≡◌, ◌≢◌, suc, ◌+◌, ◌<◌,
 ghost use Rattle.std.specs.Prelude.{option_map, replicate};
 ghost use Rattle.round_meaning.specs.Rounds.{algorithm_of};
 ghost use Rattle.round_meaning.specs.Setups.{IsSized};
-ghost use Rattle.step_machine.specs.Frames.{Spells};
+ghost use Rattle.step_machine.specs.Frames.{IsPrepared, Spells};
 ghost use Rattle.step_machine.specs.Nodes.{HasSettled, IsDoubled, IsEnd, IsSameTurn, ahead};
-ghost use Rattle.step_machine.specs.Nodes.{algorithm_in, held_now, held_with, inbox_of, said_to};
+ghost use Rattle.step_machine.specs.Nodes.{algorithm_in, held_with, said_to};
 
 mod finished;
 
 use crate::event::Name;
 use crate::held::Held;
-use crate::machine::Machine;
+use crate::machine::{Machine, kinds_are_kept};
 use crate::prepared::Prepared;
 use crate::said::Said;
 use crate::sealed::Sealed;
@@ -23,6 +23,7 @@ use round_lang::{NoMemory, Vars};
 use round_meaning::{Setup, is_broadcast};
 use std::alloc::Global;
 use std::marker::Model;
+use std::mem;
 use std::sync::Arc;
 
 /// How many rounds' frames a node holds: those of its own, and of three rounds after it.
@@ -42,9 +43,11 @@ pub enum Taken {
 }
 
 /// One node, outside of all locks: its program and setup, its round (from 1), its state after the
-/// round before, the frames that it holds of its round and of the three after it, and room for the
-/// next state. What it sends in its round is kept where it's the same for all, so that it's
-/// computed once.
+/// round before, the room of the next one, which the round's end is written to, and the frames that
+/// it holds of its round and of the three after it. The two states change places as it goes on.
+///
+/// A copy of the state is shared by all that the node sends in its round. What it sends is kept
+/// where it's the same for all, so that it's computed once.
 #[derive(Drop)]
 pub struct Node {
     alloc: Global,
@@ -52,9 +55,11 @@ pub struct Node {
     setup: Setup,
     me: u32,
     round: u32,
-    state: Arc<Vars>,
+    state: Vars,
+    next: Vars,
+    has_ended: bool,
     held: Vec<Held>,
-    next: Option<Arc<Vars>>,
+    shared: Option<Arc<Vars>>,
     spoken: Option<Arc<Said>>,
 }
 
@@ -93,9 +98,10 @@ impl Node {
           next = None;
         }) }
     {
+        kinds_are_kept(program);
         let mut machine = Machine::new(alloc, program)?;
         let state = machine.init(alloc, setup, me)?;
-        let state = Arc::new(alloc, state)?;
+        let next = state.copy(alloc)?;
         let held = none_held(alloc, setup.nodes)?;
         Ok(Node {
             alloc,
@@ -104,8 +110,10 @@ impl Node {
             me,
             round: 1,
             state,
+            next,
+            has_ended: false,
             held,
-            next: None,
+            shared: None,
             spoken: None,
         })
     }
@@ -125,8 +133,10 @@ impl Node {
           state = self.old.state;
           message = (algorithm_in self.old).send self.old.round self.old.state self.old.me dest;
         }) }
+        ensures prepared { IfOk result (IsPrepared (algorithm_in self.old)) }
         ensures same { self.new ≡ self.old }
     {
+        kinds_are_kept(self.machine.program());
         let said = self.said_to(dest)?;
         let name = Name {
             from: self.me,
@@ -164,8 +174,21 @@ impl Node {
             self.me,
             dest,
         )?;
-        let state = Arc::try_clone(&self.state)?;
+        let state = self.shared_state()?;
         Ok(Arc::new(self.alloc, Said::new(state, message))?)
+    }
+
+    /// Its state, as it is shared by all that it sends in its round.
+    fn shared_state(&mut self) -> Result<Arc<Vars>, NoMemory>
+        ensures state { IfOk result (λ state. arc_value state ≡ self.old.state) }
+        ensures same { self.new ≡ self.old }
+    {
+        if let Some(state) = &self.shared {
+            return Ok(Arc::try_clone(state)?);
+        }
+        let state = Arc::new(self.alloc, self.state.copy(self.alloc)?)?;
+        self.shared = Some(Arc::try_clone(&state)?);
+        Ok(state)
     }
 
     /// Takes a frame that was sent to it. What isn't kept is dropped.
@@ -197,47 +220,44 @@ impl Node {
     }
 
     /// Ends the round: computes the next state from the frames held of it, and leaves the node as
-    /// it is.
-    pub fn finish(&mut self) -> Result<Finished<'_>, NoMemory>
+    /// it is. Takes no memory.
+    pub fn finish(&mut self) -> Finished<'_>
         ensures* leaves { sem 𝓛 (LeavesEnded self.entry result) }
-        ensures ended { IfOk result (λ f. IsSameTurn self.old f.node.now) }
+        ensures ended { IsSameTurn self.old result.node.now }
     {
-        let next = self.next_state()?;
-        self.next = Some(next);
-        Ok(Finished { node: self })
+        self.end_round();
+        Finished { node: self }
     }
 
-    /// The state after the round.
-    fn next_state(&mut self) -> Result<Arc<Vars>, NoMemory>
-        ensures state { IfOk result (λ s. arc_value s
-            ≡ (algorithm_in self.old).end self.old.round self.old.me
-            (inbox_of (held_now self.old)) self.old.state) }
-        ensures same { self.new ≡ self.old }
+    /// Writes the state after the round to its room.
+    fn end_round(&mut self)
+        ensures same { IsSameTurn self.old self.new }
+        ensures ended { IsEnd self.new }
     {
-        let next = self.machine.end(
-            self.alloc,
+        kinds_are_kept(self.machine.program());
+        self.machine.end(
             &self.setup,
             self.round,
             self.me,
             self.held[0].frames(),
             &self.state,
-        )?;
-        Ok(Arc::new(self.alloc, next)?)
+            &mut self.next,
+        );
+        self.has_ended = true;
     }
 
     /// Adopts the state of the last `finish`, drops the frames of the round that ended, and goes on
-    /// to the next round, whose frames it holds already.
+    /// to the next round, whose frames it holds already. Takes no memory.
     pub fn settle(&mut self)
         requires ended { IsSome self.old.next }
         requires within { self.old.round ≤ self.old.setup.rounds }
         ensures { HasSettled self.old self.new }
     {
-        match self.next.take() {
-            Some(next) => self.state = next,
-            None => unreachable!(),
-        }
+        mem::swap(&mut self.state, &mut self.next);
+        self.has_ended = false;
         self.held[0].clear();
         self.held.rotate_left(1);
+        self.shared = None;
         self.spoken = None;
         self.round += 1;
     }

@@ -1,8 +1,9 @@
 //! Deeds on a journal. A call that is refused for memory must leave all as it was, and is made
 //! again.
-ghost use Rattle.std.specs.Prelude.{◌≡◌, ◌<◌, ◌≤◌, IfSome, OnErr};
+ghost use Rattle.std.specs.Prelude.{◌≡◌, ◌<◌, ◌≤◌, IfSome};
 ghost use Rattle.run_tests.specs.declared.journal.act.Network.TheVariants as Network;
 ghost use Rattle.step_book.specs.Names.{IsName};
+ghost use Rattle.step_machine.specs.Frames.{IsPrepared};
 ghost use Rattle.step_machine.specs.Nodes.{algorithm_in};
 
 use crate::fault::Fault;
@@ -24,6 +25,7 @@ fn prepare(node: &mut Node, to: u32) -> Option<Prepared>
       state = node.old.state;
       message = (algorithm_in node.old).send node.old.round node.old.state node.old.me to;
     }) }
+    ensures prepared { IfSome result (IsPrepared (algorithm_in node.old)) }
     ensures node { node.new ≡ node.old }
 {
     match node.prepare(to) {
@@ -84,13 +86,8 @@ fn send(journal: &mut Journal<Known>, node: &mut Node, to: u32) -> Answer<SendFa
     }
 }
 
-/// A node ends its round, and the journal closes it or says why not. Where only the node's memory
-/// was wanting, nothing is done.
-fn end_round(
-    journal: &mut Journal<Known>,
-    node: &mut Node,
-    me: u32,
-) -> Result<Answer<CloseFault>, NoMemory>
+/// A node ends its round, and the journal closes it or says why not.
+fn end_round(journal: &mut Journal<Known>, node: &mut Node, me: u32) -> Answer<CloseFault>
     requires me { me < journal.old.log.setup.nodes }
     requires round { node.old.round ≤ node.old.setup.rounds }
     requires program { node.old.program ≡ journal.old.log.program }
@@ -99,10 +96,9 @@ fn end_round(
     ensures setup { journal.new.log.setup ≡ journal.old.log.setup }
     ensures node_program { node.new.program ≡ node.old.program }
     ensures node_setup { node.new.setup ≡ node.old.setup }
-    ensures again { OnErr result (node.new.round ≡ node.old.round) }
 {
     let before = Seen::of(journal, me);
-    let finished = node.finish()?;
+    let finished = node.finish();
     let mut closed = journal.close(&finished);
     if closed == Err(CloseFault::NoMemory) && Seen::of(journal, me) == before {
         closed = journal.close(&finished);
@@ -110,13 +106,13 @@ fn end_round(
     match closed {
         Ok(()) => {
             node.settle();
-            Ok(Answer::Done)
+            Answer::Done
         }
         Err(fault) => {
             if Seen::of(journal, me) != before {
-                return Ok(Answer::Changed);
+                return Answer::Changed;
             }
-            Ok(Answer::Said(fault))
+            Answer::Said(fault)
         }
     }
 }
@@ -135,10 +131,7 @@ fn close(journal: &mut Journal<Known>, node: &mut Node) -> Answer<CloseFault>
     let Some(me) = number_of(journal, node) else {
         return Answer::Outside;
     };
-    if let Ok(answer) = end_round(journal, node, me) {
-        return answer;
-    }
-    end_round(journal, node, me).unwrap_or(Answer::NoMemory)
+    end_round(journal, node, me)
 }
 
 fn idle(journal: &mut Journal<Known>, node: &mut Node) -> Answer<IdleFault>
@@ -210,9 +203,7 @@ fn skip(journal: &Journal<Known>, node: &mut Node) -> Answer<NoMemory>
     if node.round() > journal.book().setup().rounds {
         return Answer::Outside;
     }
-    if node.finish().is_err() && node.finish().is_err() {
-        return Answer::NoMemory;
-    }
+    let _finished = node.finish();
     node.settle();
     Answer::Done
 }

@@ -51,14 +51,11 @@ impl<'a> Finished<'a> {
         node.held[0].frames()
     }
 
-    /// The state after the round, to be shared.
+    /// The state after the round, as a copy to be shared.
     pub fn new_state(&self) -> Result<Arc<Vars>, NoMemory>
         ensures { IfOk result (λ s. Some (arc_value s) ≡ self.now.node.now.next) }
     {
         let node = self.node;
-        match &node.next {
-            Some(next) => Ok(Arc::try_clone(next)?),
-            None => unreachable!(),
-        }
+        Ok(Arc::new(node.alloc, node.next.copy(node.alloc)?)?)
     }
 }

@@ -1,7 +1,5 @@
 use Rattle.std.proofs.Common.{subst, sym}
-use Rattle.std.proofs.lemmas.Result.{IfOk-at_ok}
 use Rattle.step_book.specs.Log.{Recorded}
-use Rattle.step_machine.specs.Nodes.{IsEnd}
 use Rattle.adversary.specs.Driving.{IsNodeOf}
 use Rattle.adversary.proofs.Closed.{node_closed}
 use Rattle.adversary.proofs.driver.close.Goals as goal
@@ -11,7 +9,7 @@ returns-in-Ok-clause-node g c =
     let j = c.args.journal.now in
     let start = g.P.Plan.start j.plan in
     let e = c.settle.ensures in
-    let kept = c.finish.follows.holds-at-none in
+    let kept = c.finish-finished.follows.holds-at-none in
     subst (λ (z : Recorded _). IsNodeOf (g.P.Plan.start z.plan) z.log c.args.node.now.me c.settle.new.self) (sym c.in-Ok.ensures.ok)
-    (node_closed start j.log c.args.node.now c.in_ok-finished.finished.node.now c.in_ok-finished.ensures.ended c.requires.node c.requires.first c.requires.due
-    c.finish.follows.lender-at-none c.settle.new.self kept.0 (IfOk-at_ok (λ _. IsEnd c.finish.follows.lender-at-none) c.in_ok-finished.was kept.1) e)
+    (node_closed start j.log c.args.node.now c.finish-finished.result.node.now c.finish-finished.ensures.ended c.requires.node c.requires.first c.requires.due
+    c.finish-finished.follows.lender-at-none c.settle.new.self kept.0 kept.1 e)

@@ -32,7 +32,10 @@ invariant_of-self-2 c =
     record {
       setup = c.self.invariant.setup;
       me = c.self.invariant.me;
+      state = c.self.invariant.state;
+      next = c.self.invariant.next;
       held = subst (λ (r : HeldRow). AreHeld (algorithm_in (node_seen c.self.inside)) c.self.inside.setup.nodes c.self.inside.me c.self.inside.round (set c.self.inside.held.items row r)) (sym put)
           (one_row _ _ _ _ row _ _ _ near here new c.self.invariant.held);
+      shared = c.self.invariant.shared;
       spoken = c.self.invariant.spoken;
     }
