@@ -1,5 +1,5 @@
 -- The number at the front of a text.
-use Rattle.std.proofs.Common.{◌≡◌, ◌≢◌, ℕ, ◌+◌, ◌<◌, ◌≤◌, Bool, true, false, cond, eqb, ◌&&◌, List}
+use Rattle.std.proofs.Common.{◌≡◌, ◌≢◌, ℕ, ◌+◌, ◌*◌, ◌<◌, ◌≤◌, Bool, true, false, cond, eqb, ◌&&◌, List}
 use Rattle.std.proofs.Common.{[], ◌∷◌, ◌++◌, length, take, drop, get_or, map, Option, Some, None}
 use Rattle.std.proofs.Common.{option_map, Result, Ok, Err, leb, le-leb, append_assoc, refl, sym, ap}
 use Rattle.std.proofs.Common.{subst, ◌∙◌, arith}
@@ -127,6 +127,25 @@ module _ (t : List ℕ) (n : ℕ) (n-is : n ≡ prefix_len is_ascii_digit t) (so
 pub record CountsDigits (t : List ℕ) (n v : ℕ) : Type 0 where
   pub digits : (k : ℕ) → k < n → is_ascii_digit (get_or t k 0) ≡ true
   pub value : v ≡ capped (value_of (take n t))
+
+-- n digits, five at most, spell a number of so many digits
+pub record IsShort (n v : ℕ) : Type 0 where
+  pub none : n ≡ 0 → v ≡ 0
+  pub one : n ≤ 1 → v ≤ 9
+  pub two : n ≤ 2 → v ≤ 99
+  pub three : n ≤ 3 → v ≤ 999
+  pub four : n ≤ 4 → v ≤ 9999
+  pub all : v ≤ 99999
+
+pub short_more : (n v w d : ℕ) → n < 5 → d ≤ 9 → w ≡ 10 * v + d → IsShort n v → IsShort (n + 1) w
+short_more n v w d few digit is h = record {
+  none = λ l. absurd (omega (arith, l));
+  one = λ l. let a = h.none (omega (arith, l)) in omega (arith, a, digit, is);
+  two = λ l. let a = h.one (omega (arith, l)) in omega (arith, a, digit, is);
+  three = λ l. let a = h.two (omega (arith, l)) in omega (arith, a, digit, is);
+  four = λ l. let a = h.three (omega (arith, l)) in omega (arith, a, digit, is);
+  all = let a = h.four (omega (arith, few)) in omega (arith, a, digit, is);
+}
 
 pub digits_end : (t : List ℕ) (n v : ℕ) → CountsDigits t n v → n ≤ length t → (n < length t → is_ascii_digit (get_or t n 0) ≡ false) → (n ≡ prefix_len is_ascii_digit t) × (v ≡ capped (front_value t))
 digits_end t n v all within stops =

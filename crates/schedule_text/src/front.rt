@@ -4,7 +4,6 @@ ghost use Rattle.std.specs.List.{prefix_len};
 ghost use Rattle.std.specs.Str.Lines.{lines, strip_carriage_return};
 ghost use Rattle.schedule_text.specs.Fronts.{IsFrontEvent};
 
-use crate::line::after;
 use crate::number::number_before;
 use step_machine::{Event, Name};
 
@@ -14,8 +13,9 @@ pub fn front_event(text: &[u8]) -> Option<(Event, &[u8])>
     ensures { IfSome result (λ r. IsFrontEvent text.now r.0 r.1.now) }
 {
     match text {
-        [b's', ..] => front_step(after(text, b"step ")?),
-        _ => front_release(after(text, b"release ")?),
+        [b's', b't', b'e', b'p', b' ', rest @ ..] => front_step(rest),
+        [b'r', b'e', b'l', b'e', b'a', b's', b'e', b' ', rest @ ..] => front_release(rest),
+        _ => None,
     }
 }
 

@@ -57,6 +57,41 @@ pub fn first_number(text: &[u8]) -> Option<Front<'_>>
 pub fn number_before(text: &[u8], end: u8) -> Option<(u32, &[u8])>
     ensures { IfSome result (λ r. IsNumberBefore text.now end r.0 r.1.now) }
 {
+    match short_number_before(text, end) {
+        Some(number) => Some(number),
+        None => long_number_before(text, end),
+    }
+}
+
+/// Within how many bytes a short number ends.
+const SHORT: usize = 5;
+
+/// The same where the number ends within the first bytes, and more bytes follow: then nothing has
+/// to be tested at each digit but that it is one.
+fn short_number_before(text: &[u8], end: u8) -> Option<(u32, &[u8])>
+    ensures { IfSome result (λ r. IsNumberBefore text.now end r.0 r.1.now) }
+{
+    if text.len() < SHORT {
+        return None;
+    }
+    let mut value = 0u32;
+    for place in 0..SHORT {
+        let byte = text[place];
+        if !byte.is_ascii_digit() {
+            if place == 0 || byte != end {
+                return None;
+            }
+            return Some((value, &text[place + 1..]));
+        }
+        value = 10 * value + u32::from(byte - b'0');
+    }
+    None
+}
+
+/// The same for a number of any length.
+fn long_number_before(text: &[u8], end: u8) -> Option<(u32, &[u8])>
+    ensures { IfSome result (λ r. IsNumberBefore text.now end r.0 r.1.now) }
+{
     let mut value = 0u64;
     for (place, byte) in text.iter().enumerate() {
         if !byte.is_ascii_digit() {

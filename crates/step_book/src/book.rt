@@ -448,12 +448,44 @@ impl<P: Plan> Book<P> {
             (SameWaitingBut (P.start self.old.plan) node self.old.log self.new.log) }
         ensures kept { OnOk result (KeepsClosed (P.start self.old.plan) self.old.log self.new.log) }
     {
+        if let Some(fault) = self.refuses_receive(node) {
+            return Err(fault);
+        }
+        self.record_receive(node)?;
+        Ok(())
+    }
+
+    /// Why a receive would be refused, where it would be for another cause than memory.
+    pub fn refuses_receive(&self, node: u32) -> Option<ReceiveFault>
+        requires { node < self.now.log.setup.nodes }
+        ensures { MatchOption result
+            (IsReceiveFit (P.start self.now.plan) self.now.log node)
+            (ReceiveCause (P.start self.now.plan) self.now.log node) }
+    {
         if self.is_due(node) {
-            return Err(ReceiveFault::NotClosed);
+            return Some(ReceiveFault::NotClosed);
         }
         if !self.is_receive(node) {
-            return Err(ReceiveFault::NotItsSlot);
+            return Some(ReceiveFault::NotItsSlot);
         }
+        None
+    }
+
+    /// Records a receive that isn't refused: what waits for the node is handed out.
+    pub fn record_receive(&mut self, node: u32) -> Result<(), NoMemory>
+        requires node { node < self.old.log.setup.nodes }
+        requires fit { IsReceiveFit (P.start self.old.plan) self.old.log node }
+        ensures ok { OnOk result
+            (self.new ≡ record self.old { log = happened self.old.log (Event.Step node) }) }
+        ensures err { OnErr result (self.new ≡ self.old) }
+        ensures once { OnOk result (IsBuffer (world_of (P.start self.old.plan) self.old.log)
+            (history self.old.log) node (waiting_in (P.start self.old.plan) self.old.log node)) }
+        ensures marks { OnOk result (SameMarks (P.start self.old.plan) self.old.log self.new.log) }
+        ensures taken { OnOk result (waiting_in (P.start self.old.plan) self.new.log node ≡ []) }
+        ensures waiting { OnOk result
+            (SameWaitingBut (P.start self.old.plan) node self.old.log self.new.log) }
+        ensures kept { OnOk result (KeepsClosed (P.start self.old.plan) self.old.log self.new.log) }
+    {
         note_receive(
             &mut self.trace,
             &mut self.steps,
@@ -582,6 +614,24 @@ impl<P: Plan> Book<P> {
         if !self.is_known(node, finished.old(), finished.frames()) {
             return Err(CloseFault::Stranger);
         }
+        self.record_close(finished)?;
+        Ok(())
+    }
+
+    /// Closes a round that isn't refused.
+    pub fn record_close(&mut self, finished: &Finished<'_>) -> Result<(), NoMemory>
+        requires program { finished.now.node.now.program ≡ self.old.log.program }
+        requires setup { finished.now.node.now.setup ≡ self.old.log.setup }
+        requires due { IsDueIn (P.start self.old.plan) self.old.log finished.now.node.now }
+        requires ended { EndsAsRecorded (P.start self.old.plan) self.old.log finished.now.node.now }
+        ensures ok { OnOk result
+            (self.new ≡ record self.old { log = closed self.old.log finished.now.node.now }) }
+        ensures err { OnErr result (self.new ≡ self.old) }
+        ensures kept { OnOk result (KeepsClosed (P.start self.old.plan) self.old.log self.new.log) }
+    {
+        // Nothing at run time: what is known of the frames that the node folded.
+        let _frames = finished.frames();
+        let node = finished.node();
         note_close(&mut self.states[node as usize], finished)?;
         Ok(())
     }
@@ -602,6 +652,22 @@ impl<P: Plan> Book<P> {
         if self.round_of(node) <= self.setup.rounds {
             return Err(IdleFault::NotPast);
         }
+        self.record_idle_step(node)?;
+        Ok(())
+    }
+
+    /// Records a step after the last round that isn't refused.
+    pub fn record_idle_step(&mut self, node: u32) -> Result<(), NoMemory>
+        requires node { node < self.old.log.setup.nodes }
+        requires past { self.old.log.setup.rounds < round_of self.old.log node }
+        ensures ok { OnOk result
+            (self.new ≡ record self.old { log = happened self.old.log (Event.Step node) }) }
+        ensures err { OnErr result (self.new ≡ self.old) }
+        ensures marks { OnOk result (SameMarks (P.start self.old.plan) self.old.log self.new.log) }
+        ensures waiting { OnOk result
+            (SameWaiting (P.start self.old.plan) self.old.log self.new.log) }
+        ensures kept { OnOk result (KeepsClosed (P.start self.old.plan) self.old.log self.new.log) }
+    {
         note_step(&mut self.trace, &mut self.steps, node)?;
         Ok(())
     }

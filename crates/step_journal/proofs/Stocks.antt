@@ -130,6 +130,9 @@ name_view {P} n e h = subst (λ (z : Recorded P). IsName z.log.setup n) (sym e) 
 pub work_view : {P : Type 0} {s v : Recorded P} (p : Ready) → s ≡ v → IsPrepared (algorithm_of v.log.program v.log.setup) p → IsPrepared (algorithm_of s.log.program s.log.setup) p
 work_view {P} p e h = subst (λ (z : Recorded P). IsPrepared (algorithm_of z.log.program z.log.setup) p) (sym e) h
 
+pub fit_view : {P : Type 0} {s v : Recorded P} (start : P → ℕ → ℕ) (p : Ready) → s ≡ v → IsSendFit (start v.plan) v.log p → IsSendFit (start s.plan) s.log p
+fit_view {P} start p e h = subst (λ (z : Recorded P). IsSendFit (start z.plan) z.log p) (sym e) h
+
 pub place_view : {P : Type 0} {s v : Recorded P} (n : Name) (place : ℕ) → s ≡ v → place ≡ place_among v.log.setup.nodes n → place ≡ place_among s.log.setup.nodes n
 place_view {P} n place e h = subst (λ (z : Recorded P). place ≡ place_among z.log.setup.nodes n) (sym e) h
 

@@ -199,16 +199,40 @@ impl<P: Plan> Journal<P> {
         if let Some(fault) = self.book.refuses_send(&prepared) {
             return Err(Refused { fault, prepared });
         }
+        match self.record_send(prepared) {
+            Ok(()) => Ok(()),
+            Err(prepared) => Err(Refused::memory(prepared)),
+        }
+    }
+
+    /// Records a send that isn't refused: the message is in flight, or there was silence. Where
+    /// there is no memory, the work comes back.
+    pub fn record_send(&mut self, prepared: Prepared) -> Result<(), Prepared>
+        requires name { IsName self.old.log.setup prepared.name }
+        requires work { IsPrepared (algorithm_of self.old.log.program self.old.log.setup) prepared }
+        requires fit { IsSendFit (P.start self.old.plan) self.old.log prepared }
+        ensures ok { OnOk result (self.new
+            ≡ record self.old { log = happened self.old.log (Event.Step prepared.name.from) }) }
+        ensures err { OnErr result (self.new ≡ self.old) }
+        ensures back { IfErr result (λ p. p ≡ prepared) }
+        ensures sent { OnOk result
+            (mark_in (P.start self.old.plan) self.new.log prepared.name ≡ spoken prepared.message) }
+        ensures marks { OnOk result
+            (SameMarksBut (P.start self.old.plan) prepared.name self.old.log self.new.log) }
+        ensures waiting { OnOk result
+            (SameWaiting (P.start self.old.plan) self.old.log self.new.log) }
+        ensures kept { OnOk result (KeepsClosed (P.start self.old.plan) self.old.log self.new.log) }
+    {
         let name = prepared.name();
         let place = self.place(name);
         let buffer = &mut self.buffers[name.to as usize];
         match buffer.reserve_flying(0, place) {
             Ok(()) => {}
-            Err(_) => return Err(Refused::memory(prepared)),
+            Err(_) => return Err(prepared),
         }
         match self.book.record_send(&prepared) {
             Ok(()) => {}
-            Err(_) => return Err(Refused::memory(prepared)),
+            Err(_) => return Err(prepared),
         }
         match prepared.into_sealed() {
             Some(frame) => {
@@ -245,8 +269,39 @@ impl<P: Plan> Journal<P> {
             (SameWaitingBut (P.start self.old.plan) node self.old.log self.new.log) }
         ensures kept { OnOk result (KeepsClosed (P.start self.old.plan) self.old.log self.new.log) }
     {
+        if let Some(fault) = self.book.refuses_receive(node) {
+            return Err(fault);
+        }
+        Ok(self.record_receive(node)?)
+    }
+
+    /// Records a receive that isn't refused: every frame that was released to the node and not yet
+    /// taken.
+    pub fn record_receive(&mut self, node: u32) -> Result<Took, NoMemory>
+        requires node { node < self.old.log.setup.nodes }
+        requires fit { IsReceiveFit (P.start self.old.plan) self.old.log node }
+        ensures ok { OnOk result
+            (self.new ≡ record self.old { log = happened self.old.log (Event.Step node) }) }
+        ensures err { OnErr result (self.new ≡ self.old) }
+        ensures names { IfOk result (λ took. names_in took.frames.items
+            ≡ waiting_in (P.start self.old.plan) self.old.log node) }
+        ensures once { IfOk result (λ took. IsBuffer (world_of (P.start self.old.plan) self.old.log)
+            (history self.old.log) node (names_in took.frames.items)) }
+        ensures genuine { IfOk result (λ took.
+            All (IsGenuine (algorithm_of self.old.log.program self.old.log.setup) self.old.log.rows)
+            took.frames.items) }
+        ensures mail { IfOk result (λ took. All (IsMail (algorithm_of self.old.log.program
+            self.old.log.setup) self.old.log.setup.nodes node) took.frames.items) }
+        ensures said { IfOk result
+            (λ took. All (IsSaid (P.start self.old.plan) self.old.log) took.frames.items) }
+        ensures marks { OnOk result (SameMarks (P.start self.old.plan) self.old.log self.new.log) }
+        ensures taken { OnOk result (waiting_in (P.start self.old.plan) self.new.log node ≡ []) }
+        ensures waiting { OnOk result
+            (SameWaitingBut (P.start self.old.plan) node self.old.log self.new.log) }
+        ensures kept { OnOk result (KeepsClosed (P.start self.old.plan) self.old.log self.new.log) }
+    {
         self.book.agrees();
-        self.book.receive(node)?;
+        self.book.record_receive(node)?;
         let buffer = &mut self.buffers[node as usize];
         let frames = buffer.take();
         Ok(Took { frames })
@@ -381,6 +436,23 @@ impl<P: Plan> Journal<P> {
         Ok(())
     }
 
+    /// Closes a round that isn't refused.
+    pub fn record_close(&mut self, finished: &Finished<'_>) -> Result<(), NoMemory>
+        requires program { finished.now.node.now.program ≡ self.old.log.program }
+        requires setup { finished.now.node.now.setup ≡ self.old.log.setup }
+        requires due { IsDueIn (P.start self.old.plan) self.old.log finished.now.node.now }
+        requires ended { EndsAsRecorded (P.start self.old.plan) self.old.log finished.now.node.now }
+        ensures ok { OnOk result
+            (self.new ≡ record self.old { log = closed self.old.log finished.now.node.now }) }
+        ensures err { OnErr result (self.new ≡ self.old) }
+        ensures kept { OnOk result (KeepsClosed (P.start self.old.plan) self.old.log self.new.log) }
+    {
+        self.book.agrees();
+        let _one = finished.node();
+        self.book.record_close(finished)?;
+        Ok(())
+    }
+
     /// A step after the last round.
     pub fn idle_step(&mut self, node: u32) -> Result<(), IdleFault>
         requires { node < self.old.log.setup.nodes }
@@ -395,6 +467,22 @@ impl<P: Plan> Journal<P> {
         ensures kept { OnOk result (KeepsClosed (P.start self.old.plan) self.old.log self.new.log) }
     {
         self.book.idle_step(node)?;
+        Ok(())
+    }
+
+    /// Records a step after the last round that isn't refused.
+    pub fn record_idle_step(&mut self, node: u32) -> Result<(), NoMemory>
+        requires node { node < self.old.log.setup.nodes }
+        requires past { self.old.log.setup.rounds < round_of self.old.log node }
+        ensures ok { OnOk result
+            (self.new ≡ record self.old { log = happened self.old.log (Event.Step node) }) }
+        ensures err { OnErr result (self.new ≡ self.old) }
+        ensures marks { OnOk result (SameMarks (P.start self.old.plan) self.old.log self.new.log) }
+        ensures waiting { OnOk result
+            (SameWaiting (P.start self.old.plan) self.old.log self.new.log) }
+        ensures kept { OnOk result (KeepsClosed (P.start self.old.plan) self.old.log self.new.log) }
+    {
+        self.book.record_idle_step(node)?;
         Ok(())
     }
 }

@@ -1,22 +1,11 @@
-use Rattle.step_book.specs.Agreed.{KeepsClosed}
-use Rattle.step_book.specs.Log.{Recorded}
-use Rattle.step_book.proofs.Later.{kept_closed}
-use Rattle.std.proofs.Common.{arith, sym, ap, subst, ◌∙◌, length, List, Option}
-use Rattle.step_machine.specs.Frames.{Frame}
-use Rattle.step_machine.specs.Nodes.{IsHeld, algorithm_in}
-use Rattle.round_meaning.specs.declared.setup.Setup.{Setup}
+use Rattle.std.proofs.Common.{sym, ◌∙◌}
 use Rattle.step_book.specs.declared.fault.CloseFault.TheVariants.{NoMemory}
 use Rattle.step_book.specs.Causes.{CloseCause}
-use Rattle.step_book.specs.Log.{end_state}
-use Rattle.step_book.proofs.Closing.{close, closed_view, due_in, err_given, known_in, on_err}
-use Rattle.step_book.proofs.Closing.{rows_closed, same_rows, same_view, to_rows}
-use Rattle.step_book.proofs.Reading.{of_view, rows_view, rows_len, rows_of_len}
-use Rattle.step_book.proofs.Vectors.{rows_grow, rows_same}
+use Rattle.step_book.proofs.Closing.{due_in, err_given, known_in}
 use Rattle.step_book.proofs.book.Book.close.Goals as goal
 
 pub returns-then-not-is_known-clause-cause : goal.returns-then-not-is_known-clause-cause
 returns-then-not-is_known-clause-cause g c =
-    let s = c.self.inside in
     let v = c.args.self.now in
     let n = c.args.finished.now.node.now in
     let start = g.P.Plan.start v.plan in
@@ -24,80 +13,11 @@ returns-then-not-is_known-clause-cause g c =
     let known = known_in start v.log n c.node-node.result c.old.result.now c.frames.result.now c.is_known.result due c.node-node.ensures.value c.old.ensures c.frames.ensures.value c.is_known.ensures in
     (due, λ e. (let on = known.1 e in cc))
 
-pub returns-in_err-note_close-clause-cause : goal.returns-in_err-note_close-clause-cause
-returns-in_err-note_close-clause-cause g c =
-    let s = c.self.inside in
+pub returns-in_err-record_close-clause-cause : goal.returns-in_err-record_close-clause-cause
+returns-in_err-record_close-clause-cause g c =
     let v = c.args.self.now in
     let n = c.args.finished.now.node.now in
     let start = g.P.Plan.start v.plan in
     let due = due_in start v.log n c.node-node.result c.round_of-round.result c.is_due.result c.node-node.ensures.value c.is_due.ensures.0 (cc) c.round_of-round.ensures.value (sym c.round.ensures ∙ c.if-round.false) in
     let known = known_in start v.log n c.node-node.result c.old.result.now c.frames.result.now c.is_known.result due c.node-node.ensures.value c.old.ensures c.frames.ensures.value c.is_known.ensures in
     err_given c.from_residual.result NoMemory (CloseCause start v.log n) c.from_residual.ensures.1 (due, known.0 (cc))
-
-pub invariant_of-self : goal.invariant_of-self
-invariant_of-self g c =
-    let size = rows_len (of_view g.P.Plan.start g.P.Plan.nodes c.self.view_is c.self.invariant) in
-    let long = rows_of_len c.self.inside.states.items in
-    let view = ap length (rows_view c.self.view_is) in
-    let one = c.node-node.ensures.one in
-    let nodes = ap (λ (x : Setup). x.nodes) c.requires.setup in
-    same_rows c.self.invariant _
-    (rows_same c.self.inside.states.items c.node-node.result c.index_mut.result.now c.note_close.new.states (omega arith) c.index_mut.ensures.value c.in_err-note_close.ensures.err)
-
-pub returns-in_err-note_close-clause-err : goal.returns-in_err-note_close-clause-err
-returns-in_err-note_close-clause-err g c =
-    let size = rows_len (of_view g.P.Plan.start g.P.Plan.nodes c.self.view_is c.self.invariant) in
-    let long = rows_of_len c.self.inside.states.items in
-    let view = ap length (rows_view c.self.view_is) in
-    let one = c.node-node.ensures.one in
-    let nodes = ap (λ (x : Setup). x.nodes) c.requires.setup in
-    on_err c.from_residual.result (same_view _ c.self.view_is
-    (rows_same c.self.inside.states.items c.node-node.result c.index_mut.result.now c.note_close.new.states (omega arith) c.index_mut.ensures.value c.in_err-note_close.ensures.err))
-
-pub invariant_of-self-2 : goal.invariant_of-self-2
-invariant_of-self-2 g c =
-    let s = c.self.inside in
-    let v = c.args.self.now in
-    let n = c.args.finished.now.node.now in
-    let start = g.P.Plan.start v.plan in
-    let due = due_in start v.log n c.node-node.result c.round_of-round.result c.is_due.result c.node-node.ensures.value c.is_due.ensures.0 (cc) c.round_of-round.ensures.value (sym c.round.ensures ∙ c.if-round.false) in
-    let known = known_in start v.log n c.node-node.result c.old.result.now c.frames.result.now c.is_known.result due c.node-node.ensures.value c.old.ensures c.frames.ensures.value c.is_known.ensures in
-    let size = rows_len (of_view g.P.Plan.start g.P.Plan.nodes c.self.view_is c.self.invariant) in
-    let long = rows_of_len c.self.inside.states.items in
-    let view = ap length (rows_view c.self.view_is) in
-    let one = c.node-node.ensures.one in
-    let nodes = ap (λ (x : Setup). x.nodes) c.requires.setup in
-    let P : List (Option Frame) → Type 0 = λ x. IsHeld (algorithm_in n) n.setup.nodes n.me n.round x in
-    to_rows g.P.Plan.start g.P.Plan.nodes c.self.view_is
-    (close (of_view g.P.Plan.start g.P.Plan.nodes c.self.view_is c.self.invariant) n _ (omega arith) c.requires.program c.requires.setup (ap length (sym c.frames.ensures.value) ∙ c.frames.ensures.sized) (subst P c.frames.ensures.value c.frames.ensures.held) due (known.0 (cc))
-    (rows_closed n c.node-node.result _ c.self.view_is c.node-node.ensures.value
-    (rows_grow s.states.items c.node-node.result c.index_mut.result.now c.note_close.new.states (end_state n) (omega arith) c.index_mut.ensures.value c.in_ok-note_close.ensures.ok)))
-
-pub returns-clause-ok : goal.returns-clause-ok
-returns-clause-ok g c =
-    let n = c.args.finished.now.node.now in
-    let size = rows_len (of_view g.P.Plan.start g.P.Plan.nodes c.self.view_is c.self.invariant) in
-    let long = rows_of_len c.self.inside.states.items in
-    let view = ap length (rows_view c.self.view_is) in
-    let one = c.node-node.ensures.one in
-    let nodes = ap (λ (x : Setup). x.nodes) c.requires.setup in
-    closed_view n _ c.self.view_is
-    (rows_closed n c.node-node.result _ c.self.view_is c.node-node.ensures.value
-    (rows_grow c.self.inside.states.items c.node-node.result c.index_mut.result.now c.note_close.new.states (end_state n) (omega arith) c.index_mut.ensures.value c.in_ok-note_close.ensures.ok))
-
-pub returns-clause-kept : goal.returns-clause-kept
-returns-clause-kept g c =
-    let v = c.args.self.now in
-    let n = c.args.finished.now.node.now in
-    let size = rows_len (of_view g.P.Plan.start g.P.Plan.nodes c.self.view_is c.self.invariant) in
-    let long = rows_of_len c.self.inside.states.items in
-    let seen = ap length (rows_view c.self.view_is) in
-    let one = c.node-node.ensures.one in
-    let me = c.node-node.ensures.value in
-    let nodes = ap (λ (x : Setup). x.nodes) c.requires.setup in
-    subst (λ (z : Recorded _). KeepsClosed (g.P.Plan.start v.plan) v.log z.log)
-    (sym
-    (closed_view n _ c.self.view_is
-    (rows_closed n c.node-node.result _ c.self.view_is c.node-node.ensures.value
-    (rows_grow c.self.inside.states.items c.node-node.result c.index_mut.result.now c.note_close.new.states (end_state n) (omega arith) c.index_mut.ensures.value c.in_ok-note_close.ensures.ok))))
-    (kept_closed (of_view g.P.Plan.start g.P.Plan.nodes c.self.view_is c.self.invariant) n (omega arith))

@@ -6,38 +6,32 @@ use Rattle.step_book.specs.Log.{Log, SameMarks, SameWaiting, round_of}
 use Rattle.step_book.proofs.Events.{count_le, idle, to_fields}
 use Rattle.step_book.proofs.Leaves.{idle_marks, idle_waiting}
 use Rattle.step_book.proofs.Reading.{of_view, nodes_view, rounds_view, trace_view, log_view}
-use Rattle.step_book.proofs.book.Book.idle_step.Goals as goal
+use Rattle.step_book.proofs.book.Book.record_idle_step.Goals as goal
 
 pub note_step-requires-clause-counted : goal.note_step-requires-clause-counted
 note_step-requires-clause-counted g c =
     let nodes = nodes_view c.self.view_is in
-    let n = count_le c.self.invariant c.args.node (omega (arith, c.requires)) in
+    let n = count_le c.self.invariant c.args.node (omega (arith, c.requires.node)) in
     omega arith
 
 pub invariant_of-self-2 : goal.invariant_of-self-2
 invariant_of-self-2 g c =
     let v = c.args.self.now in
-    let rounds = rounds_view c.self.view_is in
-    let late : v.log.setup.rounds < round_of v.log c.args.node = omega (arith, c.round_of.ensures.value) in
     to_fields g.P.Plan.start g.P.Plan.nodes c.self.view_is
-    (idle (of_view g.P.Plan.start g.P.Plan.nodes c.self.view_is c.self.invariant) c.args.node _ _ c.requires late
+    (idle (of_view g.P.Plan.start g.P.Plan.nodes c.self.view_is c.self.invariant) c.args.node _ _ c.requires.node c.requires.past
     (trace_view (Step c.args.node) _ c.self.view_is c.in_ok-note_step.ensures.trace) c.in_ok-note_step.ensures.steps)
 
 pub returns-clause-marks : goal.returns-clause-marks
 returns-clause-marks g c =
     let v = c.args.self.now in
-    let rounds = rounds_view c.self.view_is in
-    let late : v.log.setup.rounds < round_of v.log c.args.node = omega (arith, c.round_of.ensures.value) in
     subst (λ (z : Log). SameMarks (g.P.Plan.start v.plan) v.log z) (sym (log_view (Step c.args.node) _ c.self.view_is c.in_ok-note_step.ensures.trace))
-    (idle_marks (of_view g.P.Plan.start g.P.Plan.nodes c.self.view_is c.self.invariant) c.args.node late)
+    (idle_marks (of_view g.P.Plan.start g.P.Plan.nodes c.self.view_is c.self.invariant) c.args.node c.requires.past)
 
 pub returns-clause-waiting : goal.returns-clause-waiting
 returns-clause-waiting g c =
     let v = c.args.self.now in
-    let rounds = rounds_view c.self.view_is in
-    let late : v.log.setup.rounds < round_of v.log c.args.node = omega (arith, c.round_of.ensures.value) in
     subst (λ (z : Log). SameWaiting (g.P.Plan.start v.plan) v.log z) (sym (log_view (Step c.args.node) _ c.self.view_is c.in_ok-note_step.ensures.trace))
-    (idle_waiting (of_view g.P.Plan.start g.P.Plan.nodes c.self.view_is c.self.invariant) c.args.node c.requires late)
+    (idle_waiting (of_view g.P.Plan.start g.P.Plan.nodes c.self.view_is c.self.invariant) c.args.node c.requires.node c.requires.past)
 
 pub returns-clause-kept : goal.returns-clause-kept
 returns-clause-kept g c =

@@ -1,12 +1,12 @@
 use Rattle.std.proofs.Common.{◌<◌, sym, subst, ap, ◌∙◌}
 use Rattle.step_machine.specs.declared.event.Name.{Name}
 use Rattle.step_book.specs.Log.{Recorded, SameMarksBut, SameWaiting, mark_in}
-use Rattle.step_journal.proofs.Stocks.{fits_hushed, fits_kept, fits_sent, fits_view, name_view}
-use Rattle.step_journal.proofs.Stocks.{place_view, work_view}
-use Rattle.step_journal.proofs.journal.Journal.send.Goals as goal
+use Rattle.step_journal.proofs.Stocks.{fit_view, fits_hushed, fits_kept, fits_sent, fits_view}
+use Rattle.step_journal.proofs.Stocks.{name_view, place_view, work_view}
+use Rattle.step_journal.proofs.journal.Journal.record_send.Goals as goal
 
-pub invariant_of-self-in-Some-into_sealed : goal.invariant_of-self-in-Some-into_sealed
-invariant_of-self-in-Some-into_sealed g c =
+pub invariant_of-self-in-Some : goal.invariant_of-self-in-Some
+invariant_of-self-in-Some g c =
     let s = c.self.inside.book in
     let p = c.args.prepared in
     let start = g.P.Plan.start s.plan in
@@ -16,11 +16,11 @@ invariant_of-self-in-Some-into_sealed g c =
     let waits = subst (λ (z : Recorded _). SameWaiting start s.log z.log) ok c.in-Ok-record_send.ensures.waiting in
     let name = name_view p.name c.self.view_is c.requires.name in
     fits_view g.P.Plan.start ok
-    (fits_sent c.self.invariant p c.name-name.result c.into_sealed.result c.in-Some-into_sealed.frame c.place-place.result c.index_mut-buffer.result.now c.reserve_flying.new.self c.index_mut-buffer-in-Some-into_sealed.result.now c.put.new.self
-    c.name-name.ensures.value c.name-name.ensures.original name (work_view p c.self.view_is c.requires.work) c.in_default.ensures c.in-Ok-record_send.ensures.round
+    (fits_sent c.self.invariant p c.name-name.result c.into_sealed.result c.in-Some.frame c.place-place.result c.index_mut-buffer.result.now c.reserve_flying.new.self c.index_mut-buffer-in-Some.result.now c.put.new.self
+    c.name-name.ensures.value c.name-name.ensures.original name (work_view p c.self.view_is c.requires.work) (fit_view g.P.Plan.start p c.self.view_is c.requires.fit) c.in-Ok-record_send.ensures.round
     (place_view c.name-name.result c.place-place.result c.self.view_is c.place-place.ensures)
-    c.index_mut-buffer.ensures.value c.reserve_flying.ensures.run c.in-Ok.ensures.flying c.in-Ok.ensures.waiting c.into_sealed.ensures c.in-Some-into_sealed.is
-    c.index_mut-buffer-in-Some-into_sealed.ensures.value c.put.ensures.run c.put.ensures.flying c.put.ensures.waiting mark marks waits)
+    c.index_mut-buffer.ensures.value c.reserve_flying.ensures.run c.in-Ok.ensures.flying c.in-Ok.ensures.waiting c.into_sealed.ensures c.in-Some.is
+    c.index_mut-buffer-in-Some.ensures.value c.put.ensures.run c.put.ensures.flying c.put.ensures.waiting mark marks waits)
 
 pub invariant_of-self-in-None : goal.invariant_of-self-in-None
 invariant_of-self-in-None g c =
@@ -51,8 +51,8 @@ invariant_of-self-in-Err-record_send g c =
     fits_view g.P.Plan.start c.in-Err-record_send.ensures.err
     (fits_kept c.self.invariant c.name-name.result.to c.index_mut-buffer.result.now c.reserve_flying.new.self to c.index_mut-buffer.ensures.value c.reserve_flying.ensures.run c.reserve_flying.ensures.flying c.reserve_flying.ensures.waiting)
 
-pub returns-in-Some-into_sealed-clause-marks : goal.returns-in-Some-into_sealed-clause-marks
-returns-in-Some-into_sealed-clause-marks g c =
+pub returns-in-Some-clause-marks : goal.returns-in-Some-clause-marks
+returns-in-Some-clause-marks g c =
     subst (λ (z : Recorded _). SameMarksBut (g.P.Plan.start z.plan) c.args.prepared.name z.log c.record_send.new.self.log) c.self.view_is c.in-Ok-record_send.ensures.marks
 
 pub returns-in-None-clause-marks : goal.returns-in-None-clause-marks

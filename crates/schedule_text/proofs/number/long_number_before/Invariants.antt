@@ -1,7 +1,7 @@
 use Rattle.std.proofs.Common.{◌≤◌}
 use Rattle.schedule_text.specs.Numbers.{max_number}
 use Rattle.schedule_text.proofs.Numbers.{CountsDigits}
-use Rattle.schedule_text.proofs.number.number_before.Given as goal
+use Rattle.schedule_text.proofs.number.long_number_before.Given as goal
 
 abbrev pub invariant-loop-place : goal.invariant-loop-place
 invariant-loop-place l = record {

@@ -3,7 +3,7 @@ use Rattle.std.proofs.Common.{length-drop}
 use Rattle.std.proofs.lemmas.List.{take_all}
 use Rattle.schedule_text.specs.Numbers.{value_of}
 use Rattle.schedule_text.proofs.Numbers.{digits_end, front_is, is_one, parts}
-use Rattle.schedule_text.proofs.number.number_before.Goals as goal
+use Rattle.schedule_text.proofs.number.long_number_before.Goals as goal
 
 pub returns-then-not-is_ascii_digit : goal.returns-then-not-is_ascii_digit
 returns-then-not-is_ascii_digit c =
