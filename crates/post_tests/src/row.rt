@@ -142,7 +142,7 @@ fn close<C: Recorder>(
     ensures node_program { node.new.program ≡ node.old.program }
     ensures node_setup { node.new.setup ≡ node.old.setup }
 {
-    let finished = node.finish()?;
+    let finished = node.finish();
     match recorder.close(me, &finished) {
         Ok(()) => {}
         Err(CloseFault::NoMemory) => return Err(Fault::NoMemory),
