@@ -14,7 +14,7 @@ use Rattle.step_book.specs.Work.{AreCarried}
 use Rattle.step_book.specs.World.{earliest}
 use Rattle.step_book.specs.Log.{Log, closed, count_of, end_state, history, round_of, state_before}
 use Rattle.step_book.specs.Log.{world_of}
-use Rattle.step_machine.specs.Frames.{HeldRow, held_at}
+use Rattle.step_machine.specs.Sealed.{HeldRow, held_at}
 use Rattle.step_machine.specs.Nodes.{HasPlaces, HasSettled, IsEnd, IsSameTurn, NodeView, ahead}
 use Rattle.step_machine.specs.Nodes.{held_now, held_of, inbox_of}
 use Rattle.adversary.specs.Driving.{IsNodeOf}

@@ -14,14 +14,14 @@ use Rattle.step_book.specs.Agreed.{IsSaid}
 use Rattle.step_book.specs.Agreement.{IsBuffer, Row, row}
 use Rattle.step_book.specs.Causes.{IsReceiveFit}
 use Rattle.step_book.specs.Log.{IsReceive, Log, count_of, happened, history, round_of, world_of}
-use Rattle.step_book.specs.Stock.{IsMail, names_in}
+use Rattle.step_book.specs.Buffers.{IsMail, names_in}
 use Rattle.step_book.specs.Taking.{HasTaken}
 use Rattle.step_book.specs.Trace.{is_step}
 use Rattle.step_book.specs.Work.{AreCarried}
 use Rattle.step_book.specs.World.{IsPlan, World, is_receive, nodes_of}
 use Rattle.step_machine.specs.declared.event.Event.{Event}
 use Rattle.step_machine.specs.declared.event.Event.TheVariants.{Step}
-use Rattle.step_machine.specs.Frames.{Frame}
+use Rattle.step_machine.specs.Sealed.{Frame}
 use Rattle.step_machine.specs.Nodes.{HasPlaces, NodeView, held_of}
 use Rattle.adversary.specs.Driving.{GoesOn, IsInRound, IsNodeOf}
 use Rattle.adversary.proofs.Settled.{newest, not_its_step}

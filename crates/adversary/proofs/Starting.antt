@@ -13,7 +13,7 @@ use Rattle.step_book.proofs.Reading.{nodes_are}
 use Rattle.step_book.specs.Agreement.{Row, row}
 use Rattle.step_book.specs.Log.{Log, opened, world_of}
 use Rattle.step_machine.proofs.HeldFrames.{no_rows, none_at}
-use Rattle.step_machine.specs.Frames.{held_at}
+use Rattle.step_machine.specs.Sealed.{held_at}
 use Rattle.step_machine.specs.Nodes.{HasPlaces, NodeView, ahead, held_of}
 use Rattle.adversary.specs.Driving.{IsNodeOf}
 

@@ -1,10 +1,10 @@
 //! Runs that go on event by event, on one thread.
 ghost use Rattle.std.specs.Prelude.{◌≡◌, ℕ, ◌+◌, ◌<◌, ◌≤◌, ◌∷◌, [], All, IfOk, OnOk};
-ghost use Rattle.round_meaning.specs.Setups.{IsLawful, IsSized, max_rounds};
+ghost use Rattle.round_meaning.specs.Setups.{IsLawful, IsSetup, max_rounds};
 ghost use Rattle.step_book.specs.Agreement.{row};
 ghost use Rattle.step_book.specs.Log.{count_of, happened, opened, round_of};
 ghost use Rattle.step_book.specs.Names.{IsName};
-ghost use Rattle.step_book.specs.Stock.{IsMail};
+ghost use Rattle.step_book.specs.Buffers.{IsMail};
 ghost use Rattle.step_book.specs.Taking.{HasTaken};
 ghost use Rattle.step_machine.specs.Nodes.{HasPlaces, algorithm_in};
 ghost use Rattle.step_machine.specs.declared.event.Event.TheVariants as event;
@@ -110,7 +110,7 @@ impl<P: Plan> Driver<P> {
 
 /// The nodes before their first round.
 fn first_nodes(alloc: Global, program: &Checked, setup: &Setup) -> Result<Vec<Node>, NoMemory>
-    requires { IsSized setup.now }
+    requires { IsSetup setup.now }
     ensures { IfOk result (λ nodes. (start : ℕ → ℕ)
         → AreNodesOf start (opened program.now setup.now) nodes.items) }
 {

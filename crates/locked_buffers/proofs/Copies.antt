@@ -2,15 +2,15 @@
 use Rattle.std.proofs.Common.{◌≡◌, ℕ, Option, Some, None, sym, subst, ◌∙◌}
 use Rattle.std.specs.Prelude.{IfSome, option_map}
 use Rattle.round_meaning.specs.Rounds.{Algorithm, algorithm_of}
-use Rattle.step_machine.specs.Frames.{Frame, Spells, copied_as}
-use Rattle.step_book.specs.Stock.{AreSpelt, IsSameRun, Stock, flying_at, run_of}
+use Rattle.step_machine.specs.Sealed.{Frame, Spells, copied_as}
+use Rattle.step_book.specs.Buffers.{AreSpelt, IsSameRun, BufferView, flying_at, run_of}
 
 copied_spelt : (a : Algorithm) (k : ℕ) (o : Option Frame) → IfSome o (Spells a) → IfSome (option_map (copied_as k) o) (Spells a)
 copied_spelt a k None h = tt
 copied_spelt a k (Some f) h = record { says = h.says; kinds = h.kinds }
 
 -- what was copied of a frame of a buffer may go to that buffer, whatever room was made in it
-pub spelt_made : (old new : Stock) (copy place : ℕ) (o : Option Frame) (frame : Frame) → AreSpelt (run_of old) old.flying old.waiting
+pub spelt_made : (old new : BufferView) (copy place : ℕ) (o : Option Frame) (frame : Frame) → AreSpelt (run_of old) old.flying old.waiting
     → o ≡ option_map (copied_as copy) (flying_at old 0 place) → o ≡ Some frame → IsSameRun old new → Spells (run_of new) frame
 spelt_made old new copy place o frame all made some run =
     let said = subst (λ x. IfSome x (Spells (run_of old))) (sym made ∙ some) (copied_spelt (run_of old) copy (flying_at old 0 place) (all.flies 0 place)) in

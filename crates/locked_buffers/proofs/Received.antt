@@ -6,15 +6,15 @@ use Rattle.std.proofs.lemmas.List.Elements.{All-same}
 use Rattle.round_meaning.specs.declared.setup.Setup.{Setup}
 use Rattle.round_meaning.specs.Rounds.{algorithm_of}
 use Rattle.step_machine.specs.declared.event.Name.{Name}
-use Rattle.step_machine.specs.Frames.{Frame, Spells}
+use Rattle.step_machine.specs.Sealed.{Frame, Spells}
 use Rattle.step_book.specs.Log.{IsFaithful, Recorded, history, waiting_in, world_of}
-use Rattle.step_book.specs.Stock.{AreSpelt, IsGenuine, IsMail, Stock, run_of}
+use Rattle.step_book.specs.Buffers.{AreSpelt, IsGenuine, IsMail, BufferView, run_of}
 use Rattle.step_journal.specs.Fits.{IsOfRun}
 use Rattle.step_journal.specs.Fitting.{AreNamed}
 use Rattle.step_journal.proofs.Handed.{mail_of}
 use Rattle.locked_buffers.specs.Runs.{IsBookOfRun, Run, algorithm_by}
 
-pub mail_waits : {P : Type 0} (start : P → ℕ → ℕ) (r : Run P) (b : Recorded P) (s : Stock) (i : ℕ) (frames ws : List Frame) (ns : List Name)
+pub mail_waits : {P : Type 0} (start : P → ℕ → ℕ) (r : Run P) (b : Recorded P) (s : BufferView) (i : ℕ) (frames ws : List Frame) (ns : List Name)
     → IsBookOfRun r b → IsOfRun r.program r.setup s → AreNamed b.log.rows ws ns → ws ≡ s.waiting → ns ≡ waiting_in (start b.plan) b.log i
     → AreSpelt (run_of s) s.flying s.waiting → IsFaithful (start b.plan) b.log → frames ≡ s.waiting
     → All (IsMail (algorithm_by r) r.setup.nodes i) frames

@@ -2,12 +2,12 @@
 use Rattle.std.specs.Prelude.{◌≡◌, ℕ, ◌++◌, Bool, true, false, [], ◌∷◌, None, Option}
 use Rattle.std.specs.Prelude.{option_map, option_to_list}
 use Rattle.step_machine.specs.declared.event.Event.{Event}
-use Rattle.step_machine.specs.Frames.{Frame, Ready, copied_as, original}
+use Rattle.step_machine.specs.Sealed.{Frame, Ready, copied_as, original}
 use Rattle.step_machine.specs.Nodes.{NodeView}
 use Rattle.step_machine.specs.declared.event.Name.{Name}
 use Rattle.step_book.specs.Causes.{IsDueIn, EndsAsRecorded, IsReceiveFit, IsSendFit}
 use Rattle.step_book.specs.Log.{Recorded, mark_in, waiting_in}
-use Rattle.step_book.specs.Stock.{IsSameRun, Stock, flying_at}
+use Rattle.step_book.specs.Buffers.{IsSameRun, BufferView, flying_at}
 use Rattle.step_book.specs.Tables.{Puts, SameTables}
 use Rattle.step_journal.specs.Fits.{IsOfRun, place_among}
 use Rattle.step_journal.specs.Fitting.{AreNamed, HoldsAt}
@@ -23,42 +23,42 @@ use Rattle.locked_buffers.specs.Runs.{IsBookOfRun, Run}
 use Rattle.locked_buffers.specs.Seats.{Told}
 
 -- the same frames, whatever room there is
-pub record SameStock (old new : Stock) : Type 0 where
+pub record SameBuffer (old new : BufferView) : Type 0 where
   pub run : IsSameRun old new
   pub flying : SameTables None old.flying new.flying
   pub waiting : new.waiting ≡ old.waiting
 
 -- this stands in flight at one place, and the rest is as it was
-pub record PutsFrame (copy place : ℕ) (o : Option Frame) (old new : Stock) : Type 0 where
+pub record PutsFrame (copy place : ℕ) (o : Option Frame) (old new : BufferView) : Type 0 where
   pub run : IsSameRun old new
   pub flying : Puts None old.flying new.flying copy place o
   pub waiting : new.waiting ≡ old.waiting
 
 -- what was in flight at one place waits, after what waited
-pub record LetsGo (copy place : ℕ) (old new : Stock) : Type 0 where
+pub record LetsGo (copy place : ℕ) (old new : BufferView) : Type 0 where
   pub run : IsSameRun old new
   pub flying : Puts None old.flying new.flying copy place None
   pub waiting : new.waiting ≡ old.waiting ++ option_to_list (flying_at old copy place)
 
 -- where a copy was made, copy 0's frame stands in flight at its place too, and else nothing changed
-abbrev pub AddsCopy : ℕ → ℕ → Stock → Stock → Bool → Type 0
+abbrev pub AddsCopy : ℕ → ℕ → BufferView → BufferView → Bool → Type 0
 AddsCopy copy place old new true = PutsFrame copy place (option_map (copied_as copy) (flying_at old
     0 place)) old new
-AddsCopy copy place old new false = SameStock old new
+AddsCopy copy place old new false = SameBuffer old new
 
 -- what the network was told, with one event more and its answer
 abbrev pub told_with : Told → Event → Bool → Told
 told_with t e b = record { events = t.events ++ e ∷ []; answers = t.answers ++ b ∷ [] }
 
 -- nothing waits, and the rest is as it was
-pub record TakesAll (old new : Stock) : Type 0 where
+pub record TakesAll (old new : BufferView) : Type 0 where
   pub run : IsSameRun old new
   pub flying : new.flying ≡ old.flying
   pub waiting : new.waiting ≡ []
 
 -- the book is of the run, so is the buffer, and it has a frame under this name just where the book
 -- says that it's in flight
-pub record Agrees {P : Type 0} (start : P → ℕ → ℕ) (r : Run P) (s : Stock) (b : Recorded P) (n :
+pub record Agrees {P : Type 0} (start : P → ℕ → ℕ) (r : Run P) (s : BufferView) (b : Recorded P) (n :
     Name)
     : Type 0 where
   pub book : IsBookOfRun r b
@@ -67,11 +67,11 @@ pub record Agrees {P : Type 0} (start : P → ℕ → ℕ) (r : Run P) (s : Stoc
       (flying_at s n.copy (place_among b.log.setup.nodes n))
 
 -- they agree, and the book takes the send
-abbrev pub TakesSend : {P : Type 0} → (P → ℕ → ℕ) → Run P → Stock → Recorded P → Ready → Type 0
+abbrev pub TakesSend : {P : Type 0} → (P → ℕ → ℕ) → Run P → BufferView → Recorded P → Ready → Type 0
 TakesSend start r s b p = Agrees start r s b p.name × IsSendFit (start b.plan) b.log p
 
 -- both are of the run, the frames that wait are those that the book names, and it takes the receive
-pub record TakesReceive {P : Type 0} (start : P → ℕ → ℕ) (r : Run P) (s : Stock) (b : Recorded P) (i
+pub record TakesReceive {P : Type 0} (start : P → ℕ → ℕ) (r : Run P) (s : BufferView) (b : Recorded P) (i
     : ℕ)
     : Type 0 where
   pub book : IsBookOfRun r b
@@ -87,11 +87,11 @@ pub record TakesClose {P : Type 0} (start : P → ℕ → ℕ) (r : Run P) (b : 
   pub known : EndsAsRecorded (start b.plan) b.log n
 
 -- they agree on the copy and on copy 0
-abbrev pub AgreesTwice : {P : Type 0} → (P → ℕ → ℕ) → Run P → Stock → Recorded P → Name → Type 0
+abbrev pub AgreesTwice : {P : Type 0} → (P → ℕ → ℕ) → Run P → BufferView → Recorded P → Name → Type 0
 AgreesTwice start r s b n = Agrees start r s b n × Agrees start r s b (original n)
 
 -- why a send that the seat allows is refused: under the locks it doesn't go, or there is no memory
-abbrev pub SendFails : {P : Type 0} → (P → ℕ → ℕ) → Run P → Stock → Recorded P → Ready → SendFault →
+abbrev pub SendFails : {P : Type 0} → (P → ℕ → ℕ) → Run P → BufferView → Recorded P → Ready → SendFault →
     Type 0
 SendFails start r s b p send.NotClosed = ⊥
 SendFails start r s b p send.NotItsSlot = ⊥
@@ -99,7 +99,7 @@ SendFails start r s b p send.Stranger = ¬ TakesSend start r s b p
 SendFails start r s b p send.NoMemory = TakesSend start r s b p
 
 -- why a receive is
-abbrev pub ReceiveFails : {P : Type 0} → (P → ℕ → ℕ) → Run P → Stock → Recorded P → ℕ → PostFault →
+abbrev pub ReceiveFails : {P : Type 0} → (P → ℕ → ℕ) → Run P → BufferView → Recorded P → ℕ → PostFault →
     Type 0
 ReceiveFails start r s b i post.NotClosed = ⊥
 ReceiveFails start r s b i post.NotItsSlot = ⊥
@@ -114,13 +114,13 @@ CloseFails start r b n close.Stranger = ¬ TakesClose start r b n
 CloseFails start r b n close.NoMemory = IsBookOfRun r b
 
 -- why a release or a drop is
-abbrev pub RelayFails : {P : Type 0} → (P → ℕ → ℕ) → Run P → Stock → Recorded P → Name → RelayFault
+abbrev pub RelayFails : {P : Type 0} → (P → ℕ → ℕ) → Run P → BufferView → Recorded P → Name → RelayFault
     → Type 0
 RelayFails start r s b n relay.Stranger = ¬ Agrees start r s b n
 RelayFails start r s b n relay.NoMemory = Agrees start r s b n
 
 -- why a copy is
-abbrev pub CopyFails : {P : Type 0} → (P → ℕ → ℕ) → Run P → Stock → Recorded P → Name → RelayFault →
+abbrev pub CopyFails : {P : Type 0} → (P → ℕ → ℕ) → Run P → BufferView → Recorded P → Name → RelayFault →
     Type 0
 CopyFails start r s b n relay.Stranger = ¬ AgreesTwice start r s b n
 CopyFails start r s b n relay.NoMemory = AgreesTwice start r s b n

@@ -4,11 +4,11 @@ ghost use Rattle.std.specs.Prelude.{◌≡◌, ◌+◌, ◌^◌, ◌<◌, ◌∷
 ghost use Rattle.std.specs.Prelude.{OnOk};
 ghost use Rattle.step_book.specs.Log.{closed, end_state, happened};
 ghost use Rattle.step_book.specs.Names.{IsName};
-ghost use Rattle.step_book.specs.Stock.{IsMail, names_in};
+ghost use Rattle.step_book.specs.Buffers.{IsMail, names_in};
 ghost use Rattle.step_journal.specs.Fits.{place_among};
-ghost use Rattle.step_machine.specs.Frames.{IsPrepared, frame_of};
+ghost use Rattle.step_machine.specs.Sealed.{IsPrepared, frame_of};
 ghost use Rattle.step_machine.specs.declared.event.Event.TheVariants as event;
-ghost use Rattle.locked_buffers.specs.Commits.{CloseFails, PutsFrame, ReceiveFails, SameStock};
+ghost use Rattle.locked_buffers.specs.Commits.{CloseFails, PutsFrame, ReceiveFails, SameBuffer};
 ghost use Rattle.locked_buffers.specs.Commits.{SendFails, TakesAll, TakesClose, TakesReceive};
 ghost use Rattle.locked_buffers.specs.Commits.{TakesSend};
 ghost use Rattle.locked_buffers.specs.Runs.{algorithm_by};
@@ -43,7 +43,7 @@ pub(crate) fn commit_send<P: Plan>(
     ensures unseated { OnErr result (seat.new ≡ seat.old) }
     ensures frame { OnOk result (PutsFrame 0 (place_among run.now.setup.nodes prepared.name)
         (frame_of prepared) buffer.old buffer.new) }
-    ensures unchanged { OnErr result (SameStock buffer.old buffer.new) }
+    ensures unchanged { OnErr result (SameBuffer buffer.old buffer.new) }
     ensures taken { OnOk result (TakesSend P.start run.now buffer.old book.old prepared) }
     ensures cause { IfErr result (λ refused. SendFails P.start run.now buffer.old book.old prepared
         refused.fault) }

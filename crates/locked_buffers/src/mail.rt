@@ -3,8 +3,8 @@ ghost use Rattle.std.specs.Prelude.{◌≡◌, ◌+◌, ◌<◌, ◌∷◌, ◌+
 ghost use Rattle.std.specs.Prelude.{OnErr, OnOk};
 ghost use Rattle.step_book.specs.Log.{end_state};
 ghost use Rattle.step_book.specs.Names.{IsName};
-ghost use Rattle.step_book.specs.Stock.{IsMail, names_in};
-ghost use Rattle.step_machine.specs.Frames.{IsPrepared};
+ghost use Rattle.step_book.specs.Buffers.{IsMail, names_in};
+ghost use Rattle.step_machine.specs.Sealed.{IsPrepared};
 ghost use Rattle.locked_buffers.specs.Runs.{Run, algorithm_by};
 ghost use Rattle.locked_buffers.specs.Seats.{CloseBlame, MayClose, MayReceive, MaySend};
 ghost use Rattle.locked_buffers.specs.Seats.{ReceiveBlame, SendBlame};

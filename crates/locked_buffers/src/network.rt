@@ -4,11 +4,11 @@ ghost use Rattle.std.specs.Prelude.{OnOk, option_map};
 ghost use Rattle.step_book.specs.Log.{CanCopy, IsFlying, happened};
 ghost use Rattle.step_book.specs.Names.{IsName};
 ghost use Rattle.step_journal.specs.Fits.{place_among};
-ghost use Rattle.step_book.specs.Stock.{flying_at};
-ghost use Rattle.step_machine.specs.Frames.{copied_as, original};
+ghost use Rattle.step_book.specs.Buffers.{flying_at};
+ghost use Rattle.step_machine.specs.Sealed.{copied_as, original};
 ghost use Rattle.step_machine.specs.declared.event.Event.TheVariants as event;
 ghost use Rattle.locked_buffers.specs.Commits.{AddsCopy, Agrees, AgreesTwice, CopyFails, LetsGo};
-ghost use Rattle.locked_buffers.specs.Commits.{PutsFrame, RelayFails, SameStock, told_with};
+ghost use Rattle.locked_buffers.specs.Commits.{PutsFrame, RelayFails, SameBuffer, told_with};
 
 use crate::fault::RelayFault;
 use crate::room::room;
@@ -49,7 +49,7 @@ pub(crate) fn commit_release<P: Plan>(
     ensures untold { OnErr result (relay.new ≡ relay.old) }
     ensures frame { OnOk result (LetsGo name.copy (place_among run.now.setup.nodes name) buffer.old
         buffer.new) }
-    ensures unchanged { OnErr result (SameStock buffer.old buffer.new) }
+    ensures unchanged { OnErr result (SameBuffer buffer.old buffer.new) }
     ensures taken { OnOk result (Agrees P.start run.now buffer.old book.old name) }
     ensures cause { IfErr result (RelayFails P.start run.now buffer.old book.old name) }
 {
@@ -88,7 +88,7 @@ pub(crate) fn commit_drop<P: Plan>(
     ensures untold { OnErr result (relay.new ≡ relay.old) }
     ensures frame { OnOk result (PutsFrame name.copy (place_among run.now.setup.nodes name) None
         buffer.old buffer.new) }
-    ensures unchanged { OnErr result (SameStock buffer.old buffer.new) }
+    ensures unchanged { OnErr result (SameBuffer buffer.old buffer.new) }
     ensures taken { OnOk result (Agrees P.start run.now buffer.old book.old name) }
     ensures cause { IfErr result (RelayFails P.start run.now buffer.old book.old name) }
 {
@@ -139,7 +139,7 @@ pub(crate) fn commit_copy<P: Plan>(
     ensures untold { OnErr result (relay.new ≡ relay.old) }
     ensures frame { IfOk result (λ made. AddsCopy name.copy (place_among run.now.setup.nodes name)
         buffer.old buffer.new made) }
-    ensures unchanged { OnErr result (SameStock buffer.old buffer.new) }
+    ensures unchanged { OnErr result (SameBuffer buffer.old buffer.new) }
     ensures taken { OnOk result (AgreesTwice P.start run.now buffer.old book.old name) }
     ensures cause { IfErr result (CopyFails P.start run.now buffer.old book.old name) }
 {

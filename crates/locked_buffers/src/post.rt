@@ -5,8 +5,8 @@ ghost use Rattle.std.specs.Prelude.{MatchResult, OnErr, OnOk, slice_index_or, ve
 ghost use Rattle.round_meaning.specs.Setups.{IsLawful};
 ghost use Rattle.step_book.specs.Log.{end_state};
 ghost use Rattle.step_book.specs.Names.{IsName};
-ghost use Rattle.step_book.specs.Stock.{IsMail, names_in};
-ghost use Rattle.step_machine.specs.Frames.{IsPrepared};
+ghost use Rattle.step_book.specs.Buffers.{IsMail, names_in};
+ghost use Rattle.step_machine.specs.Sealed.{IsPrepared};
 ghost use Rattle.step_machine.specs.declared.event.Event.TheVariants as event;
 ghost use Rattle.locked_buffers.specs.Accounts.{AccountsAgree};
 ghost use Rattle.locked_buffers.specs.Commits.{told_with};

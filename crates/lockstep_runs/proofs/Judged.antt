@@ -28,7 +28,7 @@ use Rattle.step_machine.specs.declared.event.Event.{Event}
 use Rattle.step_machine.specs.declared.event.Event.TheVariants.{Step, Release, Drop}
 use Rattle.step_machine.specs.declared.event.InFlight.{InFlight}
 use Rattle.step_machine.specs.declared.event.Name.{Name}
-use Rattle.step_machine.specs.Frames.{original}
+use Rattle.step_machine.specs.Sealed.{original}
 use Rattle.omission_explainer.specs.Verdict.{AreNodes, IsDelayBound, IsLetInBetween, IsLockstep}
 use Rattle.omission_explainer.proofs.Clear.{clear_hears}
 use Rattle.omission_explainer.proofs.Delays.{came_between, let_in_moment, was_made}

@@ -11,7 +11,7 @@ use Rattle.locked_buffers.specs.Seats.{Account, round_by}
 use Rattle.step_machine.proofs.HeldFrames.{no_rows}
 use Rattle.step_machine.specs.Nodes.{HasPlaces, HasSettled, IsSameTurn, NodeView, ahead}
 use Rattle.step_book.specs.Taking.{HasTaken}
-use Rattle.step_machine.specs.Frames.{Frame}
+use Rattle.step_machine.specs.Sealed.{Frame}
 use Rattle.node_threads.specs.Bodies.{IsTogether}
 
 -- after a send

@@ -2,7 +2,7 @@
 ghost use Rattle.std.specs.Option.{ForSome};
 ghost use Rattle.std.specs.Prelude.{◌≡◌, ◌+◌, ◌<◌, ◌≤◌, All, OnOk};
 ghost use Rattle.round_meaning.specs.Setups.{max_rounds};
-ghost use Rattle.step_book.specs.Stock.{IsMail};
+ghost use Rattle.step_book.specs.Buffers.{IsMail};
 ghost use Rattle.step_book.specs.Taking.{HasTaken};
 ghost use Rattle.step_machine.specs.Nodes.{HasPlaces, algorithm_in};
 ghost use Rattle.locked_buffers.specs.Seats.{round_by};

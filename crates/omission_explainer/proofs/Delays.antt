@@ -8,7 +8,7 @@ use Rattle.round_lang.specs.declared.value.Value.{Value}
 use Rattle.step_machine.specs.declared.event.Event.{Event}
 use Rattle.step_machine.specs.declared.event.Event.TheVariants.{Step, Release}
 use Rattle.step_machine.specs.declared.event.Name.{Name}
-use Rattle.step_machine.specs.Frames.{original}
+use Rattle.step_machine.specs.Sealed.{original}
 use Rattle.step_book.specs.Fates.{Unmade, fate}
 use Rattle.step_book.specs.History.{message}
 use Rattle.step_book.specs.Places.{IsSlotAt, Sent, steps_before}

@@ -10,7 +10,7 @@ use Rattle.round_lang.specs.declared.value.Value.{Value}
 use Rattle.step_machine.specs.declared.event.Event.{Event}
 use Rattle.step_machine.specs.declared.event.Event.TheVariants.{Release, Drop}
 use Rattle.step_machine.specs.declared.event.Name.{Name}
-use Rattle.step_machine.specs.Frames.{original}
+use Rattle.step_machine.specs.Sealed.{original}
 use Rattle.step_book.specs.declared.mark.Mark.{Mark}
 use Rattle.step_book.specs.Fates.{Fate, Unmade, Moving, Waiting, Taken, Lost, fate}
 use Rattle.step_book.specs.History.{marked, message}

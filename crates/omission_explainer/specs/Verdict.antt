@@ -13,7 +13,7 @@ use Rattle.step_book.specs.Places.{steps_before}
 use Rattle.step_book.specs.World.{World, is_receive}
 use Rattle.step_machine.specs.declared.event.Event.{Event}
 use Rattle.step_machine.specs.declared.event.Name.{Name}
-use Rattle.step_machine.specs.Frames.{max_copy}
+use Rattle.step_machine.specs.Sealed.{max_copy}
 use Rattle.omission_explainer.specs.declared.judging.Verdict.{Verdict}
 use Rattle.omission_explainer.specs.Reported.{omitted_in}
 

@@ -3,7 +3,7 @@ use Rattle.std.specs.Prelude.{◌≡◌, ℕ, ◌+◌, ◌<◌, ◌≤◌, min, 
 use Rattle.std.specs.Prelude.{slice_index_or, Option, Some, None, All, if◌then◌else◌, ltb}
 use Rattle.step_machine.specs.declared.event.InFlight.{InFlight}
 use Rattle.step_machine.specs.declared.event.Name.{Name}
-use Rattle.step_machine.specs.Frames.{original}
+use Rattle.step_machine.specs.Sealed.{original}
 use Rattle.policies.specs.declared.bounded.Bounded.{Bounded}
 use Rattle.policies.specs.declared.policy.Choice.{Choice}
 use Rattle.policies.specs.declared.policy.Choice.TheVariants.{Release}

@@ -4,8 +4,8 @@ ghost use Rattle.round_lang.specs.Syntax.{ProgramTree};
 ghost use Rattle.round_meaning.specs.Rounds.{algorithm_of};
 ghost use Rattle.round_meaning.specs.declared.setup.Setup.{Setup as OneSetup};
 ghost use Rattle.step_book.specs.Names.{IsName};
-ghost use Rattle.step_book.specs.Stock.{IsMail};
-ghost use Rattle.step_machine.specs.Frames.{IsPrepared};
+ghost use Rattle.step_book.specs.Buffers.{IsMail};
+ghost use Rattle.step_machine.specs.Sealed.{IsPrepared};
 
 use locked_buffers::{OpenGate, Post, PostFault, Relay, RelayFault, Seat};
 use slot_plans::Plan;

@@ -1,8 +1,8 @@
 //! One schedule's events, recorded by a journal and by a post.
 ghost use Rattle.std.specs.Prelude.{◌≡◌, ◌<◌, All, IfOk, IsTrue};
-ghost use Rattle.round_meaning.specs.Setups.{IsLawful, IsSized};
+ghost use Rattle.round_meaning.specs.Setups.{IsLawful, IsSetup};
 ghost use Rattle.step_book.specs.Names.{IsName};
-ghost use Rattle.step_book.specs.Stock.{IsMail};
+ghost use Rattle.step_book.specs.Buffers.{IsMail};
 ghost use Rattle.step_machine.specs.Nodes.{algorithm_in};
 
 use crate::fault::Fault;
@@ -21,7 +21,7 @@ use step_machine::{Event, MAX_COPY, Name, Node, Sealed};
 
 /// The nodes of a run before their first step.
 fn all_nodes(alloc: Global, program: &Checked, setup: &Setup) -> Result<Vec<Node>, Fault>
-    requires { IsSized setup.now }
+    requires { IsSetup setup.now }
     ensures { IfOk result
         (λ nodes. All (λ n. (n.program ≡ program.now) × (n.setup ≡ setup.now)) nodes.items) }
 {
@@ -267,7 +267,7 @@ fn answers<P: Plan, C: Recorder>(
     schedule: &Schedule,
 ) -> Result<String, Fault>
     requires plan { P.nodes plan ≡ schedule.now.setup.nodes }
-    requires sized { IsSized schedule.now.setup }
+    requires sized { IsSetup schedule.now.setup }
     requires program { program.now ≡ C.program recorder.old }
     requires setup { schedule.now.setup ≡ C.setup recorder.old }
 {

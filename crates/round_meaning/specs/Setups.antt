@@ -12,7 +12,7 @@ abbrev pub max_rounds : ℕ
 max_rounds = 4096
 
 -- the numbers are within their limits, and each node has an input
-pub record IsSized (s : Setup) : Type 0 where
+pub record IsSetup (s : Setup) : Type 0 where
   pub some_node : 0 < s.nodes
   pub few_nodes : s.nodes ≤ max_nodes
   pub few_faults : s.faults ≤ max_faults
@@ -22,5 +22,5 @@ pub record IsSized (s : Setup) : Type 0 where
 
 -- so they are, and each input is below K
 pub record IsLawful (values : ℕ) (s : Setup) : Type 0 where
-  pub sized : IsSized s
+  pub sized : IsSetup s
   pub inputs : All (λ x. x < values) s.inputs

@@ -1,6 +1,6 @@
 //! What a run is asked for with.
 ghost use Rattle.std.specs.Prelude.{◌≡◌, ◌<◌, ◌↔◌, All, IsTrue, IfOk, length, slice_index};
-ghost use Rattle.round_meaning.specs.Setups.{IsLawful, IsSized};
+ghost use Rattle.round_meaning.specs.Setups.{IsLawful, IsSetup};
 
 use round_check::Checked;
 use round_lang::NoMemory;
@@ -137,7 +137,7 @@ impl Setup {
 }
 
 fn is_sized(setup: &Setup) -> bool
-    ensures { IsTrue result ↔ IsSized setup.now }
+    ensures { IsTrue result ↔ IsSetup setup.now }
 {
     1 <= setup.nodes
         && setup.nodes <= MAX_NODES

@@ -1,6 +1,6 @@
 //! A journal, act by act, and what it answers.
 ghost use Rattle.std.specs.Prelude.{◌≡◌, ◌*◌, All, IfOk};
-ghost use Rattle.round_meaning.specs.Setups.{IsSized};
+ghost use Rattle.round_meaning.specs.Setups.{IsSetup};
 
 mod act;
 mod doing;
@@ -21,7 +21,7 @@ use step_machine::Node;
 
 /// The nodes of a run, and then their doubles: with three nodes the double of node 0 is 3.
 fn all_nodes(alloc: Global, program: &Checked, setup: &Setup) -> Result<Vec<Node>, Fault>
-    requires { IsSized setup.now }
+    requires { IsSetup setup.now }
     ensures { IfOk result
         (λ nodes. All (λ n. (n.program ≡ program.now) × (n.setup ≡ setup.now)) nodes.items) }
 {

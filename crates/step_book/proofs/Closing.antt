@@ -6,7 +6,7 @@ use Rattle.std.specs.Prelude.{option_map, Result, Ok, Err, OnErr, IfErr, IsErrAn
 use Rattle.std.specs.Option.{ForSome}
 use Rattle.round_lang.specs.declared.value.Value.{Value}
 use Rattle.round_meaning.specs.Rounds.{Algorithm, algorithm_of}
-use Rattle.step_machine.specs.Frames.{Frame, held_at}
+use Rattle.step_machine.specs.Sealed.{Frame, held_at}
 use Rattle.step_machine.specs.Nodes.{NodeView, IsHeld, IsFrom, algorithm_in, held_now, inbox_of}
 use Rattle.step_machine.specs.declared.event.Name.{Name}
 use Rattle.step_book.specs.declared.mark.Mark.{Mark}

@@ -11,7 +11,7 @@ use Rattle.round_meaning.specs.declared.received.Received.{Received}
 use Rattle.round_meaning.specs.Rounds.{rounds, inbox, received}
 use Rattle.step_machine.specs.declared.event.Event.{Event}
 use Rattle.step_machine.specs.declared.event.Name.{Name}
-use Rattle.step_machine.specs.Frames.{Frame, held_at}
+use Rattle.step_machine.specs.Sealed.{Frame, held_at}
 use Rattle.step_machine.specs.Nodes.{inbox_of, IsFrom}
 use Rattle.step_book.specs.declared.mark.Mark.{Mark}
 use Rattle.step_book.specs.declared.mark.Mark.TheVariants.{Unsent}

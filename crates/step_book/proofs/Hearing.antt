@@ -13,13 +13,13 @@ use Rattle.round_lang.specs.declared.value.Value.{Value}
 use Rattle.step_machine.specs.declared.event.Event.{Event}
 use Rattle.step_machine.specs.declared.event.Event.TheVariants.{Step}
 use Rattle.step_machine.specs.declared.event.Name.{Name}
-use Rattle.step_machine.specs.Frames.{Frame, held_at, original}
+use Rattle.step_machine.specs.Sealed.{Frame, held_at, original}
 use Rattle.step_machine.specs.Nodes.{NodeView, ahead, held_of}
 use Rattle.step_book.specs.Agreement.{IsBuffer}
 use Rattle.step_book.specs.Fates.{Fate, Unmade, Moving, Waiting, Taken, Lost, after, carried, fate}
 use Rattle.step_book.specs.Fates.{is_take, is_waiting, makes, some_copy, taken_near}
 use Rattle.step_book.specs.History.{is_buffered, message, state}
-use Rattle.step_book.specs.Stock.{names_in}
+use Rattle.step_book.specs.Buffers.{names_in}
 use Rattle.step_book.specs.Taking.{HasTaken, frame_from, held_or}
 use Rattle.step_book.specs.Trace.{is_drop, is_name, is_release, is_step, steps}
 use Rattle.step_book.specs.Work.{AreCarried, Tag, heard_from, sent_name, tag_by, tag_of}

@@ -11,7 +11,7 @@ use Rattle.std.proofs.lemmas.Option.{same_Some, slice_get_within}
 use Rattle.step_machine.specs.declared.event.Event.{Event}
 use Rattle.step_machine.specs.declared.event.Event.TheVariants.{Step, Release, Drop, Copy}
 use Rattle.step_machine.specs.declared.event.Name.{Name}
-use Rattle.step_machine.specs.Frames.{original}
+use Rattle.step_machine.specs.Sealed.{original}
 use Rattle.step_book.specs.Fates.{Fate, Unmade, Moving, Waiting, Taken, Lost, after, carried, fate}
 use Rattle.step_book.specs.Fates.{is_moving, is_slot, is_take, makes, taken_near}
 use Rattle.step_book.specs.Places.{Copied, IsCarried, IsCarriedAs, IsCopiedAt, IsCopyAt, IsDropAt}

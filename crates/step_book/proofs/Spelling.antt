@@ -3,8 +3,8 @@ use Rattle.std.proofs.Common.{◌≡◌, ℕ, List, Option, None, ◌⊎◌, inl
 use Rattle.std.specs.Prelude.{All, IfSome}
 use Rattle.std.proofs.lemmas.Bool.{cases_eq}
 use Rattle.round_meaning.specs.Rounds.{Algorithm}
-use Rattle.step_machine.specs.Frames.{Frame, Spells}
-use Rattle.step_book.specs.Stock.{AreSpelt}
+use Rattle.step_machine.specs.Sealed.{Frame, Spells}
+use Rattle.step_book.specs.Buffers.{AreSpelt}
 use Rattle.step_book.specs.Tables.{Puts, SameTables, read_at}
 
 -- tables that read the same

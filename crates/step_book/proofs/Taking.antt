@@ -7,11 +7,11 @@ use Rattle.std.proofs.lemmas.Bool.{and_from, and_left, and_right, cases_eq, case
 use Rattle.std.proofs.lemmas.Bool.{cond-true, eq-eqb, ne_eqb}
 use Rattle.std.proofs.lemmas.List.{get_or-set_other, get_or-set_same}
 use Rattle.round_meaning.specs.Rounds.{Algorithm}
-use Rattle.step_book.specs.Stock.{IsMail}
+use Rattle.step_book.specs.Buffers.{IsMail}
 use Rattle.step_book.specs.Taking.{HasTaken, IsSameBut, frame_from, held_or}
 use Rattle.step_machine.specs.declared.node.Taken.{Taken}
 use Rattle.step_machine.specs.declared.node.Taken.TheVariants.{Kept, Late, Early, Doubled}
-use Rattle.step_machine.specs.Frames.{Frame, HeldRow, held_at}
+use Rattle.step_machine.specs.Sealed.{Frame, HeldRow, held_at}
 use Rattle.step_machine.specs.Nodes.{HasPlaces, IsDoubled, IsInReach, NodeView, ahead, algorithm_in}
 use Rattle.step_machine.specs.Nodes.{held_of, held_with, rounds_ahead}
 

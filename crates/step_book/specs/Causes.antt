@@ -11,7 +11,7 @@ use Rattle.step_book.specs.declared.fault.IdleFault.TheVariants as idle
 use Rattle.step_book.specs.Log.{Log, IsDue, IsSlot, IsReceive, history, round_of, state_before}
 use Rattle.step_book.specs.Log.{world_of}
 use Rattle.step_book.specs.Work.{AreCarried}
-use Rattle.step_machine.specs.Frames.{Ready}
+use Rattle.step_machine.specs.Sealed.{Ready}
 use Rattle.step_machine.specs.Nodes.{NodeView, held_now}
 
 -- the sender has no open due round, the slot is its next step, and the state is the recorded one

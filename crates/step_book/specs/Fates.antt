@@ -3,7 +3,7 @@ use Rattle.std.specs.Prelude.{ℕ, ◌+◌, Bool, true, false, ◌&&◌, ◌||�
 use Rattle.std.specs.Prelude.{◌∷◌}
 use Rattle.step_machine.specs.declared.event.Event.{Event}
 use Rattle.step_machine.specs.declared.event.Name.{Name}
-use Rattle.step_machine.specs.Frames.{original}
+use Rattle.step_machine.specs.Sealed.{original}
 use Rattle.step_book.specs.Trace.{is_copy, is_drop, is_release, is_step, steps}
 use Rattle.step_book.specs.World.{World, is_receive, lies_near}
 

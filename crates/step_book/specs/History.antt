@@ -11,7 +11,7 @@ use Rattle.step_book.specs.World.{World}
 use Rattle.step_machine.specs.declared.event.Event.{Event}
 use Rattle.step_machine.specs.declared.event.Event.TheVariants.{Step, Release, Drop, Copy}
 use Rattle.step_machine.specs.declared.event.Name.{Name}
-use Rattle.step_machine.specs.Frames.{original}
+use Rattle.step_machine.specs.Sealed.{original}
 
 -- the omission table of a history: what wasn't carried
 abbrev pub omits_of : World → List Event → ℕ → ℕ → ℕ → Bool

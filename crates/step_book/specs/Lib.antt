@@ -1,6 +1,6 @@
 pub use Rattle.round_meaning.specs.Rounds
 pub use Rattle.round_meaning.specs.Setups
-pub use Rattle.step_machine.specs.Frames
+pub use Rattle.step_machine.specs.Sealed
 pub use Rattle.step_machine.specs.Nodes
 pub use Rattle.slot_plans.specs.Plan
 pub mod World
@@ -16,7 +16,7 @@ pub mod Mailing
 pub mod Log
 pub mod Flight
 pub mod Causes
-pub mod Stock
+pub mod Buffers
 pub mod Places
 pub mod Agreed
 pub mod Taking

@@ -6,7 +6,7 @@ use Rattle.std.specs.Prelude.{◌≡◌, ℕ, ◌+◌, ◌<◌, ◌≤◌, ◌�
 use Rattle.step_machine.specs.declared.event.Event.{Event}
 use Rattle.step_machine.specs.declared.event.Event.TheVariants.{Step, Release, Drop, Copy}
 use Rattle.step_machine.specs.declared.event.Name.{Name}
-use Rattle.step_machine.specs.Frames.{max_copy, original}
+use Rattle.step_machine.specs.Sealed.{max_copy, original}
 use Rattle.step_book.specs.Trace.{is_step}
 use Rattle.step_book.specs.World.{World, earliest, nodes_of}
 

@@ -1,7 +1,7 @@
 -- A node that takes frames.
 use Rattle.std.specs.Prelude.{◌≡◌, ℕ, ◌+◌, ◌≤◌, ◌&&◌, ◌==◌, if◌then◌else◌, List, [], ◌∷◌, Option}
 use Rattle.std.specs.Prelude.{Some, None}
-use Rattle.step_machine.specs.Frames.{Frame, held_at}
+use Rattle.step_machine.specs.Sealed.{Frame, held_at}
 use Rattle.step_machine.specs.Nodes.{HasPlaces, NodeView, ahead, held_of}
 
 -- all but the frames held and the next state is as it was

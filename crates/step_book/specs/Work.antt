@@ -9,7 +9,7 @@ use Rattle.step_book.specs.History.{message, state}
 use Rattle.step_book.specs.World.{World, nodes_of}
 use Rattle.step_machine.specs.declared.event.Event.{Event}
 use Rattle.step_machine.specs.declared.event.Name.{Name}
-use Rattle.step_machine.specs.Frames.{Frame, HeldRow, held_at, original}
+use Rattle.step_machine.specs.Sealed.{Frame, HeldRow, held_at, original}
 
 -- a message by the name of its copy 0 and its sender's state
 pub record Tag : Type 0 where

@@ -4,7 +4,7 @@ ghost use Rattle.std.specs.Prelude.{IfSome, IsTrue, MatchOption, None, OnErr, On
 ghost use Rattle.std.specs.Prelude.{option_map};
 ghost use Rattle.round_meaning.specs.Rounds.{algorithm_of};
 ghost use Rattle.round_meaning.specs.Setups.{IsLawful};
-ghost use Rattle.step_machine.specs.Frames.{IsPrepared, original};
+ghost use Rattle.step_machine.specs.Sealed.{IsPrepared, original};
 ghost use Rattle.step_book.specs.Agreed.{JournalAgrees, KeepsClosed};
 ghost use Rattle.step_book.specs.Agreement.{IsBuffer, row};
 ghost use Rattle.step_book.specs.Causes.{CloseCause, IdleCause, IsDueIn, EndsAsRecorded};

@@ -1,8 +1,8 @@
 //! The frames of one node.
 ghost use Rattle.std.specs.Prelude.{◌≡◌, ◌<◌, ◌++◌, [], IfOk, MatchOption, OnOk, None, Some};
 ghost use Rattle.std.specs.Prelude.{option_to_list, vec_len};
-ghost use Rattle.step_machine.specs.Frames.{Spells};
-ghost use Rattle.step_book.specs.Stock.{AreSpelt, IsSameRun, flying_at, run_of};
+ghost use Rattle.step_machine.specs.Sealed.{Spells};
+ghost use Rattle.step_book.specs.Buffers.{AreSpelt, IsSameRun, flying_at, run_of};
 ghost use Rattle.step_book.specs.Tables.{HasPlace, Puts, SameTable, SameTables, tables_of};
 
 use round_check::Checked;
@@ -33,11 +33,11 @@ impl Model for Buffer {
     ghost use Rattle.round_lang.specs.contracts.formula.Formula as formula;
     ghost use Rattle.round_meaning.specs.Rounds.{algorithm_of};
     ghost use Rattle.std.specs.Coded.{codes};
-    ghost use Rattle.step_machine.specs.Frames.{Spells};
-    ghost use Rattle.step_book.specs.Stock.{AreSpelt, Stock};
+    ghost use Rattle.step_machine.specs.Sealed.{Spells};
+    ghost use Rattle.step_book.specs.Buffers.{AreSpelt, BufferView};
     ghost use Rattle.step_book.specs.Tables.{tables_of};
 
-    ghost Value = { Stock };
+    ghost Value = { BufferView };
 
     ghost coded = { Prim.hlevel (codes, formula.the_row.coded) };
 

@@ -10,18 +10,18 @@ use Rattle.round_meaning.specs.Rounds.{Algorithm, algorithm_of}
 use Rattle.step_machine.specs.declared.event.Event.{Event}
 use Rattle.step_machine.specs.declared.event.Event.TheVariants.{Step, Release, Drop, Copy}
 use Rattle.step_machine.specs.declared.event.Name.{Name}
-use Rattle.step_machine.specs.Frames.{Frame, sent_under}
+use Rattle.step_machine.specs.Sealed.{Frame, sent_under}
 use Rattle.step_book.specs.declared.mark.Mark.{Mark}
 use Rattle.step_book.specs.declared.mark.Mark.TheVariants.{Unsent, Silent, Flying, Released, Lost}
 use Rattle.step_book.specs.Agreed.{IsSaid}
 use Rattle.step_book.specs.Agreement.{Row, row}
 use Rattle.step_book.specs.History.{arrival, arrived, buffer_of}
 use Rattle.step_book.specs.Log.{IsFaithful, Log, Recorded, history, world_of}
-use Rattle.step_book.specs.Stock.{IsGenuine, IsMail, Stock, names_in}
-use Rattle.step_journal.specs.Fits.{Fits, stock_at}
+use Rattle.step_book.specs.Buffers.{IsGenuine, IsMail, BufferView, names_in}
+use Rattle.step_journal.specs.Fits.{Fits, buffer_at}
 use Rattle.step_book.specs.Fates.{is_take}
 use Rattle.step_book.specs.World.{World}
-use Rattle.step_journal.proofs.Stocks.{stock_read}
+use Rattle.step_journal.proofs.BufferViews.{buffer_read}
 
 abbrev pub IsTo : ℕ → Name → Type 0
 IsTo i n = n.to ≡ i
@@ -89,28 +89,28 @@ said_of start v f is g =
 pub all_said : (start : ℕ → ℕ) (v : Log) (frames : List Frame) → IsFaithful start v → All (IsGenuine (algorithm_of v.program v.setup) v.rows) frames → All (IsSaid start v) frames
 all_said start v frames is h = λ k d l. said_of start v (get_or frames k d) is (h k d l)
 
--- the frames that wait in a stock of a run's
-module _ {P : Type 0} {s v : Recorded P} {bs : List Stock} (start : P → ℕ → ℕ) (e : s ≡ v) (f : Fits (start s.plan) s.log bs) (is : IsFaithful (start s.plan) s.log) where
-  there : (i : ℕ) (b : Stock) (frames : List Frame) → i < s.log.setup.nodes → b ≡ get_or bs i b → frames ≡ b.waiting → frames ≡ (stock_at bs i).waiting
-  there i b frames l h d = d ∙ ap (λ (x : Stock). x.waiting) (sym (stock_read bs i b (let n = f.sized in omega arith) h))
+-- the frames that wait in a buffer of a run's
+module _ {P : Type 0} {s v : Recorded P} {bs : List BufferView} (start : P → ℕ → ℕ) (e : s ≡ v) (f : Fits (start s.plan) s.log bs) (is : IsFaithful (start s.plan) s.log) where
+  there : (i : ℕ) (b : BufferView) (frames : List Frame) → i < s.log.setup.nodes → b ≡ get_or bs i b → frames ≡ b.waiting → frames ≡ (buffer_at bs i).waiting
+  there i b frames l h d = d ∙ ap (λ (x : BufferView). x.waiting) (sym (buffer_read bs i b (let n = f.sized in omega arith) h))
 
-  genuine_there : (i : ℕ) (b : Stock) (frames : List Frame) → i < s.log.setup.nodes → b ≡ get_or bs i b → frames ≡ b.waiting → All (IsGenuine (algorithm_of s.log.program s.log.setup) s.log.rows) frames
+  genuine_there : (i : ℕ) (b : BufferView) (frames : List Frame) → i < s.log.setup.nodes → b ≡ get_or bs i b → frames ≡ b.waiting → All (IsGenuine (algorithm_of s.log.program s.log.setup) s.log.rows) frames
   genuine_there i b frames l h d = All-same (IsGenuine (algorithm_of s.log.program s.log.setup) s.log.rows) frames _ (there i b frames l h d) (f.genuine i l)
 
   -- name their senders' recorded states, and say what these send
-  pub waiting_genuine : (i : ℕ) (b : Stock) (frames : List Frame) → i < v.log.setup.nodes → b ≡ get_or bs i b → frames ≡ b.waiting → All (IsGenuine (algorithm_of v.log.program v.log.setup) v.log.rows) frames
+  pub waiting_genuine : (i : ℕ) (b : BufferView) (frames : List Frame) → i < v.log.setup.nodes → b ≡ get_or bs i b → frames ≡ b.waiting → All (IsGenuine (algorithm_of v.log.program v.log.setup) v.log.rows) frames
   waiting_genuine i b frames l h d =
       let own : i < s.log.setup.nodes = subst (λ (z : Recorded P). i < z.log.setup.nodes) (sym e) l in
       subst (λ (z : Recorded P). All (IsGenuine (algorithm_of z.log.program z.log.setup) z.log.rows) frames) e (genuine_there i b frames own h d)
 
   -- are what the run in rounds says
-  pub waiting_said : (i : ℕ) (b : Stock) (frames : List Frame) → i < v.log.setup.nodes → b ≡ get_or bs i b → frames ≡ b.waiting → All (IsSaid (start v.plan) v.log) frames
+  pub waiting_said : (i : ℕ) (b : BufferView) (frames : List Frame) → i < v.log.setup.nodes → b ≡ get_or bs i b → frames ≡ b.waiting → All (IsSaid (start v.plan) v.log) frames
   waiting_said i b frames l h d =
       let own : i < s.log.setup.nodes = subst (λ (z : Recorded P). i < z.log.setup.nodes) (sym e) l in
       subst (λ (z : Recorded P). All (IsSaid (start z.plan) z.log) frames) e (all_said (start s.plan) s.log frames is (genuine_there i b frames own h d))
 
   -- and are for the node
-  pub waiting_mail : (i : ℕ) (b : Stock) (frames : List Frame) → i < v.log.setup.nodes → b ≡ get_or bs i b → frames ≡ b.waiting → All (IsMail (algorithm_of v.log.program v.log.setup) v.log.setup.nodes i) frames
+  pub waiting_mail : (i : ℕ) (b : BufferView) (frames : List Frame) → i < v.log.setup.nodes → b ≡ get_or bs i b → frames ≡ b.waiting → All (IsMail (algorithm_of v.log.program v.log.setup) v.log.setup.nodes i) frames
   waiting_mail i b frames l h d =
       let own : i < s.log.setup.nodes = subst (λ (z : Recorded P). i < z.log.setup.nodes) (sym e) l in
       subst (λ (z : Recorded P). All (IsMail (algorithm_of z.log.program z.log.setup) z.log.setup.nodes i) frames) e

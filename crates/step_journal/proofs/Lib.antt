@@ -1,3 +1,3 @@
-pub mod Stocks
+pub mod BufferViews
 pub mod Handed
 pub mod Named

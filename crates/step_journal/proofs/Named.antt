@@ -9,16 +9,16 @@ use Rattle.round_lang.specs.Syntax.{ProgramTree}
 use Rattle.round_meaning.specs.Rounds.{Algorithm, algorithm_of}
 use Rattle.round_meaning.specs.declared.setup.Setup.{Setup}
 use Rattle.step_machine.specs.declared.event.Name.{Name}
-use Rattle.step_machine.specs.Frames.{Frame, Spells, max_copy}
+use Rattle.step_machine.specs.Sealed.{Frame, Spells, max_copy}
 use Rattle.step_book.specs.declared.mark.Mark.{Mark}
 use Rattle.step_book.specs.declared.mark.Mark.TheVariants.{Unsent, Silent, Flying, Released, Lost}
 use Rattle.step_book.specs.Agreement.{Row, row}
 use Rattle.step_book.specs.Log.{IsFaithful, Log, mark_in, waiting_in}
 use Rattle.step_book.specs.Names.{IsName}
-use Rattle.step_book.specs.Stock.{AreSpelt, IsGenuine, Stock, flying_at, names_in, run_of}
-use Rattle.step_journal.specs.Fits.{Fits, Flies, IsOfRun, no_stock, place_among, stock_at}
+use Rattle.step_book.specs.Buffers.{AreSpelt, IsGenuine, BufferView, flying_at, names_in, run_of}
+use Rattle.step_journal.specs.Fits.{Fits, Flies, IsOfRun, no_buffer, place_among, buffer_at}
 use Rattle.step_journal.specs.Fitting.{AreNamed, FitsNode, FliesAs, HoldsAt, IsRecorded, named}
-use Rattle.step_journal.proofs.Stocks.{stock_read}
+use Rattle.step_journal.proofs.BufferViews.{buffer_read}
 
 recorded : (a : Algorithm) (rows : List Row) (f : Frame) → IsGenuine a rows f → IsRecorded rows f
 recorded a rows f h = record { copy = h.copy; first = h.first; past = h.past; own = h.own }
@@ -67,28 +67,28 @@ holds_flies a rows n Lost o said h = h.stays (λ e. absurd (cc))
 -- ---- the frames in flight to a node, one after the other
 
 -- a frame stands, or doesn't, as the record says of it
-abbrev pub Stands : (ℕ → ℕ) → Log → Stock → ℕ → ℕ → ℕ → ℕ → Type 0
+abbrev pub Stands : (ℕ → ℕ) → Log → BufferView → ℕ → ℕ → ℕ → ℕ → Type 0
 Stands start v b i k r j =
     HoldsAt v.rows (named i k r j) (mark_in start v (named i k r j)) (flying_at b k (place_among v.setup.nodes (named i k r j)))
 
 -- so those of one round from the first senders
-abbrev pub FliesFrom : (ℕ → ℕ) → Log → Stock → ℕ → ℕ → ℕ → ℕ → Type 0
+abbrev pub FliesFrom : (ℕ → ℕ) → Log → BufferView → ℕ → ℕ → ℕ → ℕ → Type 0
 FliesFrom start v b i k r n = (j : ℕ) → j < n → Stands start v b i k r j
 
-pub flies_first : (start : ℕ → ℕ) (v : Log) (b : Stock) (i k r : ℕ) → FliesFrom start v b i k r 0
+pub flies_first : (start : ℕ → ℕ) (v : Log) (b : BufferView) (i k r : ℕ) → FliesFrom start v b i k r 0
 flies_first start v b i k r = λ j l. absurd (omega arith)
 
-pub flies_next : (start : ℕ → ℕ) (v : Log) (b : Stock) (i k r n : ℕ) → Stands start v b i k r n → FliesFrom start v b i k r n → FliesFrom start v b i k r (n + 1)
+pub flies_next : (start : ℕ → ℕ) (v : Log) (b : BufferView) (i k r n : ℕ) → Stands start v b i k r n → FliesFrom start v b i k r n → FliesFrom start v b i k r (n + 1)
 flies_next start v b i k r n here before = λ j l. each j l (cases_lt j n)
   where
     each : (j : ℕ) → j < n + 1 → (j < n) ⊎ (n ≤ j) → Stands start v b i k r j
     each j l (inl low) = before j low
     each j l (inr high) = subst (Stands start v b i k r) (let e : n ≡ j = omega arith in e) here
 
-pub flies_no_round : (start : ℕ → ℕ) (v : Log) (b : Stock) (i k : ℕ) → FliesAs start v b i k (1 - 1)
+pub flies_no_round : (start : ℕ → ℕ) (v : Log) (b : BufferView) (i k : ℕ) → FliesAs start v b i k (1 - 1)
 flies_no_round start v b i k = λ r j first last from. absurd (omega arith)
 
-pub flies_round : (start : ℕ → ℕ) (v : Log) (b : Stock) (i k r n : ℕ) → 0 < r → v.setup.nodes ≤ n → FliesFrom start v b i k r n → FliesAs start v b i k (r - 1) → FliesAs start v b i k (r + 1 - 1)
+pub flies_round : (start : ℕ → ℕ) (v : Log) (b : BufferView) (i k r n : ℕ) → 0 < r → v.setup.nodes ≤ n → FliesFrom start v b i k r n → FliesAs start v b i k (r - 1) → FliesAs start v b i k (r + 1 - 1)
 flies_round start v b i k r n positive past here before = λ q j first last from. each q j first last from (cases_lt q r)
   where
     each : (q j : ℕ) → 0 < q → q ≤ r + 1 - 1 → j < v.setup.nodes → (q < r) ⊎ (r ≤ q) → Stands start v b i k q j
@@ -101,69 +101,69 @@ flies_round start v b i k r n positive past here before = λ q j first last from
 named_is : (v : Log) (i k r j : ℕ) → i < v.setup.nodes → k ≤ 3 → 0 < r → r ≤ v.setup.rounds → j < v.setup.nodes → IsName v.setup (named i k r j)
 named_is v i k r j to copy first last from = record { from = from; to = to; first = first; last = last; copy = copy }
 
-pub fits_at : (start : ℕ → ℕ) (v : Log) (bs : List Stock) (i : ℕ) (b : Stock) → i < v.setup.nodes → b ≡ get_or bs i b → Fits start v bs → FitsNode start v i b
+pub fits_at : (start : ℕ → ℕ) (v : Log) (bs : List BufferView) (i : ℕ) (b : BufferView) → i < v.setup.nodes → b ≡ get_or bs i b → Fits start v bs → FitsNode start v i b
 fits_at start v bs i b l h f =
     let a = algorithm_of v.program v.setup in
     let within : i < length bs = (let s = f.sized in omega arith) in
-    let was : stock_at bs i ≡ b = stock_read bs i b within h in
+    let was : buffer_at bs i ≡ b = buffer_read bs i b within h in
     let of : IsOfRun v.program v.setup b = subst (IsOfRun v.program v.setup) (sym h) (f.runs i b within) in
-    let waits : All (IsGenuine a v.rows) b.waiting = All-same (IsGenuine a v.rows) _ _ (ap (λ (x : Stock). x.waiting) (sym was)) (f.genuine i l) in record {
+    let waits : All (IsGenuine a v.rows) b.waiting = All-same (IsGenuine a v.rows) _ _ (ap (λ (x : BufferView). x.waiting) (sym was)) (f.genuine i l) in record {
       program = of.program;
       setup = of.setup;
       waiting = record {
-        names = ap (λ (x : Stock). names_in x.waiting) (sym was) ∙ f.waiting i l;
+        names = ap (λ (x : BufferView). names_in x.waiting) (sym was) ∙ f.waiting i l;
         recorded = λ k d m. recorded a v.rows _ (waits k d m);
       };
       flying = λ k few r j first last from.
           let n = named i k r j in
           flies_holds a v.rows n (mark_in start v n) _
-          (subst (λ (x : Stock). Flies a v.rows n (mark_in start v n) (flying_at x k (place_among v.setup.nodes n))) was
+          (subst (λ (x : BufferView). Flies a v.rows n (mark_in start v n) (flying_at x k (place_among v.setup.nodes n))) was
           (f.flying n (named_is v i k r j l few first last from)));
     }
 
 -- the nodes' buffers up to one fit
-abbrev pub FitTo : (ℕ → ℕ) → Log → List Stock → ℕ → Type 0
+abbrev pub FitTo : (ℕ → ℕ) → Log → List BufferView → ℕ → Type 0
 FitTo start v bs n =
-    (i : ℕ) → i < n → FitsNode start v i (stock_at bs i) × AreSpelt (run_of (stock_at bs i)) (stock_at bs i).flying (stock_at bs i).waiting
+    (i : ℕ) → i < n → FitsNode start v i (buffer_at bs i) × AreSpelt (run_of (buffer_at bs i)) (buffer_at bs i).flying (buffer_at bs i).waiting
 
-pub fit_none : (start : ℕ → ℕ) (v : Log) (bs : List Stock) → FitTo start v bs 0
+pub fit_none : (start : ℕ → ℕ) (v : Log) (bs : List BufferView) → FitTo start v bs 0
 fit_none start v bs = λ i l. absurd (omega arith)
 
-pub fit_more : (start : ℕ → ℕ) (v : Log) (bs : List Stock) (n : ℕ) (b : Stock) → n < length bs → b ≡ get_or bs n b
+pub fit_more : (start : ℕ → ℕ) (v : Log) (bs : List BufferView) (n : ℕ) (b : BufferView) → n < length bs → b ≡ get_or bs n b
     → FitsNode start v n b → AreSpelt (run_of b) b.flying b.waiting → FitTo start v bs n → FitTo start v bs (n + 1)
 fit_more start v bs n b l h here said before = λ i m. each i m (cases_lt i n)
   where
-    was : stock_at bs n ≡ b
-    was = stock_read bs n b l h
+    was : buffer_at bs n ≡ b
+    was = buffer_read bs n b l h
 
-    each : (i : ℕ) → i < n + 1 → (i < n) ⊎ (n ≤ i) → FitsNode start v i (stock_at bs i) × AreSpelt (run_of (stock_at bs i)) (stock_at bs i).flying (stock_at bs i).waiting
+    each : (i : ℕ) → i < n + 1 → (i < n) ⊎ (n ≤ i) → FitsNode start v i (buffer_at bs i) × AreSpelt (run_of (buffer_at bs i)) (buffer_at bs i).flying (buffer_at bs i).waiting
     each i m (inl low) = before i low
     each i m (inr high) =
         let is : n ≡ i = omega arith in
-        subst (λ k. FitsNode start v k (stock_at bs k) × AreSpelt (run_of (stock_at bs k)) (stock_at bs k).flying (stock_at bs k).waiting) is
-        (subst (λ (x : Stock). FitsNode start v n x × AreSpelt (run_of x) x.flying x.waiting) (sym was) (here, said))
+        subst (λ k. FitsNode start v k (buffer_at bs k) × AreSpelt (run_of (buffer_at bs k)) (buffer_at bs k).flying (buffer_at bs k).waiting) is
+        (subst (λ (x : BufferView). FitsNode start v n x × AreSpelt (run_of x) x.flying x.waiting) (sym was) (here, said))
 
--- what is spelt in a stock of the run is spelt in the run
-spelt_in : {p : ProgramTree} {s : Setup} (b : Stock) (o : Option Frame) → b.program ≡ p → b.setup ≡ s → IfSome o (Spells (run_of b)) → IfSome o (Spells (algorithm_of p s))
+-- what is spelt in a buffer of the run is spelt in the run
+spelt_in : {p : ProgramTree} {s : Setup} (b : BufferView) (o : Option Frame) → b.program ≡ p → b.setup ≡ s → IfSome o (Spells (run_of b)) → IfSome o (Spells (algorithm_of p s))
 spelt_in {p} {s} b o program setup h =
     subst (λ q. IfSome o (Spells (algorithm_of q s))) program (subst (λ t. IfSome o (Spells (algorithm_of b.program t))) setup h)
 
-spelt_all : {p : ProgramTree} {s : Setup} (b : Stock) (fs : List Frame) → b.program ≡ p → b.setup ≡ s → All (Spells (run_of b)) fs → All (Spells (algorithm_of p s)) fs
+spelt_all : {p : ProgramTree} {s : Setup} (b : BufferView) (fs : List Frame) → b.program ≡ p → b.setup ≡ s → All (Spells (run_of b)) fs → All (Spells (algorithm_of p s)) fs
 spelt_all {p} {s} b fs program setup h =
     subst (λ q. All (Spells (algorithm_of q s)) fs) program (subst (λ t. All (Spells (algorithm_of b.program t)) fs) setup h)
 
-pub fit_all : (start : ℕ → ℕ) (v : Log) (bs : List Stock) → length bs ≡ v.setup.nodes → FitTo start v bs v.setup.nodes → Fits start v bs
+pub fit_all : (start : ℕ → ℕ) (v : Log) (bs : List BufferView) → length bs ≡ v.setup.nodes → FitTo start v bs v.setup.nodes → Fits start v bs
 fit_all start v bs sized all =
     let a = algorithm_of v.program v.setup in record {
       sized = sized;
-      runs = All-from_get_or (IsOfRun v.program v.setup) bs no_stock (λ i l. (let h = (all i (omega arith)).0 in record { program = h.program; setup = h.setup }));
+      runs = All-from_get_or (IsOfRun v.program v.setup) bs no_buffer (λ i l. (let h = (all i (omega arith)).0 in record { program = h.program; setup = h.setup }));
       waiting = λ i l. (all i l).0.waiting.names;
       genuine = λ i l k d m.
-          (let h = all i l in genuine a v.rows _ (spelt_all (stock_at bs i) (stock_at bs i).waiting h.0.program h.0.setup h.1.waits k d m) (h.0.waiting.recorded k d m));
+          (let h = all i l in genuine a v.rows _ (spelt_all (buffer_at bs i) (buffer_at bs i).waiting h.0.program h.0.setup h.1.waits k d m) (h.0.waiting.recorded k d m));
       flying = λ n is.
           (let h = all n.to is.to in
-          let o = flying_at (stock_at bs n.to) n.copy (place_among v.setup.nodes n) in
-          holds_flies a v.rows n (mark_in start v n) o (spelt_in (stock_at bs n.to) o h.0.program h.0.setup (h.1.flies n.copy (place_among v.setup.nodes n)))
+          let o = flying_at (buffer_at bs n.to) n.copy (place_among v.setup.nodes n) in
+          holds_flies a v.rows n (mark_in start v n) o (spelt_in (buffer_at bs n.to) o h.0.program h.0.setup (h.1.flies n.copy (place_among v.setup.nodes n)))
           (h.0.flying n.copy is.copy n.round n.from is.first is.last is.from));
     }
 

@@ -5,22 +5,22 @@ use Rattle.round_lang.specs.Syntax.{ProgramTree}
 use Rattle.round_meaning.specs.Rounds.{Algorithm, algorithm_of}
 use Rattle.round_meaning.specs.declared.setup.Setup.{Setup}
 use Rattle.step_machine.specs.declared.event.Name.{Name}
-use Rattle.step_machine.specs.Frames.{Frame}
+use Rattle.step_machine.specs.Sealed.{Frame}
 use Rattle.step_book.specs.declared.mark.Mark.{Mark}
 use Rattle.step_book.specs.declared.mark.Mark.TheVariants.{Unsent, Silent, Flying, Released, Lost}
 use Rattle.step_book.specs.Agreement.{Row}
 use Rattle.step_book.specs.Log.{Log, mark_in, waiting_in}
 use Rattle.step_book.specs.Names.{IsName}
-use Rattle.step_book.specs.Stock.{Stock, IsGenuine, flying_at, names_in}
+use Rattle.step_book.specs.Buffers.{BufferView, IsGenuine, flying_at, names_in}
 
--- the stock is of a run of this program and setup
-pub record IsOfRun (p : ProgramTree) (s : Setup) (b : Stock) : Type 0 where
+-- the buffer is of a run of this program and setup
+pub record IsOfRun (p : ProgramTree) (s : Setup) (b : BufferView) : Type 0 where
   pub program : b.program ≡ p
   pub setup : b.setup ≡ s
 
 -- no frames, of no run: what is read past the end of a list
-abbrev pub no_stock : Stock
-no_stock = record {
+abbrev pub no_buffer : BufferView
+no_buffer = record {
   program = record { values = 0; period = 0; variables = []; decides = []; blocks = [] };
   setup = record { nodes = 0; faults = 0; inputs = []; rounds = 0 };
   flying = [];
@@ -29,11 +29,11 @@ no_stock = record {
 }
 
 -- the frames of a node
-abbrev pub stock_at : List Stock → ℕ → Stock
-stock_at bs i = slice_index_or bs i no_stock
+abbrev pub buffer_at : List BufferView → ℕ → BufferView
+buffer_at bs i = slice_index_or bs i no_buffer
 
--- so many stocks of a run, without a frame
-pub record AreEmpty (p : ProgramTree) (s : Setup) (count : ℕ) (bs : List Stock) : Type 0 where
+-- so many buffers of a run, without a frame
+pub record AreEmpty (p : ProgramTree) (s : Setup) (count : ℕ) (bs : List BufferView) : Type 0 where
   pub sized : length bs ≡ count
   pub runs : All (IsOfRun p s) bs
   pub each : All (λ b. (b.flying ≡ []) × (b.waiting ≡ [])) bs
@@ -50,14 +50,14 @@ Flies a rows n Lost o = o ≡ None
 abbrev pub place_among : ℕ → Name → ℕ
 place_among nodes n = (n.round - 1) * nodes + n.from
 
--- the stocks are of the recorded run, one for each node, and their frames are those that the record
+-- the buffers are of the recorded run, one for each node, and their frames are those that the record
 -- names
-pub record Fits (start : ℕ → ℕ) (v : Log) (bs : List Stock) : Type 0 where
+pub record Fits (start : ℕ → ℕ) (v : Log) (bs : List BufferView) : Type 0 where
   pub sized : length bs ≡ v.setup.nodes
   pub runs : All (IsOfRun v.program v.setup) bs
   pub waiting : (i : ℕ) → i < v.setup.nodes
-      → names_in (stock_at bs i).waiting ≡ waiting_in start v i
+      → names_in (buffer_at bs i).waiting ≡ waiting_in start v i
   pub genuine : (i : ℕ) → i < v.setup.nodes
-      → All (IsGenuine (algorithm_of v.program v.setup) v.rows) (stock_at bs i).waiting
+      → All (IsGenuine (algorithm_of v.program v.setup) v.rows) (buffer_at bs i).waiting
   pub flying : (n : Name) → IsName v.setup n → Flies (algorithm_of v.program v.setup) v.rows n
-      (mark_in start v n) (flying_at (stock_at bs n.to) n.copy (place_among v.setup.nodes n))
+      (mark_in start v n) (flying_at (buffer_at bs n.to) n.copy (place_among v.setup.nodes n))

@@ -2,12 +2,12 @@
 use Rattle.std.specs.Prelude.{◌≡◌, ℕ, ◌-◌, ◌<◌, ◌≤◌, All, List, [], Option, None, IsSomeAnd, length}
 use Rattle.std.specs.Prelude.{slice_index_or}
 use Rattle.step_machine.specs.declared.event.Name.{Name}
-use Rattle.step_machine.specs.Frames.{Frame, max_copy}
+use Rattle.step_machine.specs.Sealed.{Frame, max_copy}
 use Rattle.step_book.specs.declared.mark.Mark.{Mark}
 use Rattle.step_book.specs.declared.mark.Mark.TheVariants.{Flying}
 use Rattle.step_book.specs.Agreement.{Row, row}
 use Rattle.step_book.specs.Log.{Log, mark_in, waiting_in}
-use Rattle.step_book.specs.Stock.{Stock, flying_at, names_in}
+use Rattle.step_book.specs.Buffers.{BufferView, flying_at, names_in}
 use Rattle.step_journal.specs.Fits.{IsOfRun, place_among}
 
 -- the frame is of a copy of a message, and names its sender's recorded state
@@ -32,14 +32,14 @@ abbrev pub named : ℕ → ℕ → ℕ → ℕ → Name
 named i k r j = record { from = j; to = i; round = r; copy = k }
 
 -- so of copy k of each message to node i in the first rounds
-abbrev pub FliesAs : (ℕ → ℕ) → Log → Stock → ℕ → ℕ → ℕ → Type 0
+abbrev pub FliesAs : (ℕ → ℕ) → Log → BufferView → ℕ → ℕ → ℕ → Type 0
 FliesAs start v b i k rounds =
     (r j : ℕ) → 0 < r → r ≤ rounds → j < v.setup.nodes
     → HoldsAt v.rows (named i k r j) (mark_in start v (named i k r j))
     (flying_at b k (place_among v.setup.nodes (named i k r j)))
 
--- the stock of node i is of the recorded run, and holds the frames that the record names
-pub record FitsNode (start : ℕ → ℕ) (v : Log) (i : ℕ) (b : Stock) : Type 0 where
+-- the buffer of node i is of the recorded run, and holds the frames that the record names
+pub record FitsNode (start : ℕ → ℕ) (v : Log) (i : ℕ) (b : BufferView) : Type 0 where
   pub program : b.program ≡ v.program
   pub setup : b.setup ≡ v.setup
   pub waiting : AreNamed v.rows b.waiting (waiting_in start v i)

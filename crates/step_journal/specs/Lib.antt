@@ -11,7 +11,7 @@ pub use Rattle.step_book.specs.Log
 pub use Rattle.step_book.specs.Serials
 pub use Rattle.step_book.specs.Flight
 pub use Rattle.step_book.specs.Causes
-pub use Rattle.step_book.specs.Stock
+pub use Rattle.step_book.specs.Buffers
 pub use Rattle.step_book.specs.Places
 pub use Rattle.step_book.specs.Agreed
 pub use Rattle.step_book.specs.Taking

@@ -2,7 +2,7 @@
 ghost use Rattle.std.specs.Prelude.{◌≡◌, ◌<◌, ◌≤◌, ◌↔◌, ℕ, IsTrue};
 ghost use Rattle.step_book.specs.Log.{mark_in};
 ghost use Rattle.step_book.specs.Names.{IsName};
-ghost use Rattle.step_book.specs.Stock.{flying_at};
+ghost use Rattle.step_book.specs.Buffers.{flying_at};
 ghost use Rattle.step_journal.specs.Fits.{Fits, place_among};
 ghost use Rattle.step_journal.specs.Fitting.{AreNamed, FitsNode, FliesAs, HoldsAt, IsRecorded};
 

@@ -3,7 +3,7 @@ ghost use Rattle.std.specs.Prelude.{◌≡◌, ◌+◌, ◌-◌, ◌*◌, ◌<�
 ghost use Rattle.std.specs.Prelude.{IfSome, IsSome, IsTrue, OnErr, OnOk};
 ghost use Rattle.round_meaning.specs.Rounds.{algorithm_of};
 ghost use Rattle.round_meaning.specs.Setups.{IsLawful};
-ghost use Rattle.step_machine.specs.Frames.{IsPrepared, copied_as, original};
+ghost use Rattle.step_machine.specs.Sealed.{IsPrepared, copied_as, original};
 ghost use Rattle.step_book.specs.Agreed.{IsSaid, JournalAgrees, KeepsClosed};
 ghost use Rattle.step_book.specs.Agreement.{IsBuffer};
 ghost use Rattle.step_book.specs.Causes.{CloseCause, IdleCause, IsDueIn, EndsAsRecorded};
@@ -14,7 +14,7 @@ ghost use Rattle.step_book.specs.Log.{CanCopy, IsFlying, SameMarks, SameMarksBut
 ghost use Rattle.step_book.specs.Log.{SameWaitingBut, closed, count_of, happened, history, mark_in};
 ghost use Rattle.step_book.specs.Log.{opened, round_of, waiting_in, world_of};
 ghost use Rattle.step_book.specs.Names.{IsName};
-ghost use Rattle.step_book.specs.Stock.{IsGenuine, IsMail, names_in};
+ghost use Rattle.step_book.specs.Buffers.{IsGenuine, IsMail, names_in};
 ghost use Rattle.step_journal.specs.Fits.{AreEmpty, Fits, place_among};
 
 use crate::fitting::{fits, place};

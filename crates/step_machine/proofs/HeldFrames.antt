@@ -15,7 +15,7 @@ use Rattle.round_lang.specs.Syntax.{ProgramTree}
 use Rattle.round_meaning.specs.declared.setup.Setup.{Setup}
 use Rattle.round_meaning.specs.Rounds.{Algorithm, algorithm_of}
 use Rattle.step_code.specs.Turns.{IsOfRound, IsOfState}
-use Rattle.step_machine.specs.Frames.{Frame, HeldRow, held_at}
+use Rattle.step_machine.specs.Sealed.{Frame, HeldRow, held_at}
 use Rattle.step_machine.specs.Nodes.{AreHeld, HasPlaces, IsFrom, IsHeld, ahead, inbox_of}
 use Rattle.step_machine.specs.Reading.{AreOfRound, MayBeOfRound, SendsHaveKinds, StartsHaveKinds}
 

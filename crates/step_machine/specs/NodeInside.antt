@@ -2,7 +2,7 @@
 use Rattle.std.specs.Prelude.{◌≡◌, ◌<◌, Some, None, if◌then◌else◌}
 use Rattle.std.specs.Arc.{arc_value}
 use Rattle.std.specs.Option.{ForSome}
-use Rattle.round_meaning.specs.Setups.{IsSized}
+use Rattle.round_meaning.specs.Setups.{IsSetup}
 use Rattle.step_code.specs.Turns.{IsOfState}
 use Rattle.step_machine.specs.declared.node.Node.TheInside.{Inside}
 use Rattle.step_machine.specs.Nodes.{NodeView, AreHeld, IsToldToAll, algorithm_in}
@@ -23,7 +23,7 @@ node_seen s = record {
 -- program's states, the frames that it holds are of its round and those after it, what it keeps as
 -- its shared state is a copy of its state, and what it keeps as said to all is what it sends to each
 pub record IsKept (s : Inside) : Type 0 where
-  pub setup : IsSized s.setup
+  pub setup : IsSetup s.setup
   pub me : s.me < s.setup.nodes
   pub state : IsOfState s.machine s.state
   pub next : IsOfState s.machine s.next

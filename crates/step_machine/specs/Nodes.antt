@@ -8,7 +8,7 @@ use Rattle.round_lang.specs.Syntax.{ProgramTree}
 use Rattle.round_meaning.specs.declared.received.Received.{Received}
 use Rattle.round_meaning.specs.declared.setup.Setup.{Setup}
 use Rattle.round_meaning.specs.Rounds.{Algorithm, algorithm_of}
-use Rattle.step_machine.specs.Frames.{Frame, HeldRow, Saying, Spells, held_at}
+use Rattle.step_machine.specs.Sealed.{Frame, HeldRow, Saying, Spells, held_at}
 
 -- how many rounds ahead of its round a node keeps frames
 abbrev pub ahead : ℕ

@@ -5,7 +5,7 @@ use Rattle.round_lang.specs.declared.value.Value.{Value}
 use Rattle.round_meaning.specs.Rounds.{algorithm_of}
 use Rattle.round_meaning.specs.declared.setup.Setup.{Setup}
 use Rattle.step_code.specs.Turns.{IsOfRound, IsOfState}
-use Rattle.step_machine.specs.Frames.{Frame, HeldRow}
+use Rattle.step_machine.specs.Sealed.{Frame, HeldRow}
 
 -- the frame, where there is one, has a message of the kinds that the round's messages have
 abbrev pub MayBeOfRound : ProgramTree → ℕ → Option Frame → Type 0

@@ -1,6 +1,6 @@
 //! What happens in a run, and how its messages are named.
 ghost use Rattle.std.specs.Prelude.{◌≡◌};
-ghost use Rattle.step_machine.specs.Frames.{original};
+ghost use Rattle.step_machine.specs.Sealed.{original};
 
 /// The greatest number of a copy: a message has at most four, counted from 0.
 pub const MAX_COPY: u32 = 3;

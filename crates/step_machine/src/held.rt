@@ -1,7 +1,7 @@
 //! The frames of one round that a node holds.
 ghost use Rattle.std.specs.Prelude.{◌≡◌, ◌↔◌, ◌<◌, ℕ, IfOk, IsSome, IsTrue, None, Some, length};
 ghost use Rattle.std.specs.Prelude.{replicate, slice_set};
-ghost use Rattle.step_machine.specs.Frames.{held_at};
+ghost use Rattle.step_machine.specs.Sealed.{held_at};
 
 use crate::sealed::Sealed;
 use round_lang::NoMemory;
@@ -15,7 +15,7 @@ pub(crate) struct Held {
 }
 
 impl Model for Held {
-    ghost use Rattle.step_machine.specs.Frames.{HeldRow};
+    ghost use Rattle.step_machine.specs.Sealed.{HeldRow};
 
     ghost Value = { HeldRow };
 

@@ -4,8 +4,8 @@ ghost use Rattle.std.specs.Borrow.{sem};
 ghost use Rattle.std.specs.Prelude.{◌≡◌, ◌≢◌, suc, ◌+◌, ◌<◌, ◌≤◌, ◌↔◌, IfOk, IsSome, None};
 ghost use Rattle.std.specs.Prelude.{option_map, replicate};
 ghost use Rattle.round_meaning.specs.Rounds.{algorithm_of};
-ghost use Rattle.round_meaning.specs.Setups.{IsSized};
-ghost use Rattle.step_machine.specs.Frames.{IsPrepared, Spells};
+ghost use Rattle.round_meaning.specs.Setups.{IsSetup};
+ghost use Rattle.step_machine.specs.Sealed.{IsPrepared, Spells};
 ghost use Rattle.step_machine.specs.Nodes.{HasSettled, IsDoubled, IsEnd, IsSameTurn, ahead};
 ghost use Rattle.step_machine.specs.Nodes.{algorithm_in, held_with, said_to};
 
@@ -86,7 +86,7 @@ impl Node {
 
     /// The node `me` before its first round. The setup is lawful, and `me` is below its nodes.
     pub fn new(alloc: Global, program: &Checked, setup: &Setup, me: u32) -> Result<Node, NoMemory>
-        requires sized { IsSized setup.now }
+        requires sized { IsSetup setup.now }
         requires me { me < setup.now.nodes }
         ensures { IfOk result (λ n. n ≡ record {
           program = program.now;

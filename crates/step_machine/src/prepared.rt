@@ -18,7 +18,7 @@ pub struct Prepared {
 impl Model for Prepared {
     ghost use Rattle.std.specs.Arc.{arc_value};
     ghost use Rattle.std.specs.Prelude.{◌≡◌};
-    ghost use Rattle.step_machine.specs.Frames.{Ready};
+    ghost use Rattle.step_machine.specs.Sealed.{Ready};
 
     ghost Value = { Ready };
 
@@ -33,7 +33,7 @@ impl Model for Prepared {
 
 impl Prepared {
     ghost use Rattle.std.specs.Arc.{arc_value};
-    ghost use Rattle.step_machine.specs.Frames.{frame_of};
+    ghost use Rattle.step_machine.specs.Sealed.{frame_of};
 
     pub(crate) fn new(name: Name, said: Arc<Said>) -> Prepared
         requires { name.copy ≡ 0 }

@@ -15,7 +15,7 @@ pub(crate) struct Said {
 
 impl Model for Said {
     ghost use Rattle.std.specs.Arc.{arc_value};
-    ghost use Rattle.step_machine.specs.Frames.{Saying};
+    ghost use Rattle.step_machine.specs.Sealed.{Saying};
 
     ghost Value = { Saying };
 

@@ -19,7 +19,7 @@ pub struct Sealed {
 impl Model for Sealed {
     ghost use Rattle.std.specs.Arc.{arc_value};
     ghost use Rattle.std.specs.Prelude.{IsSome};
-    ghost use Rattle.step_machine.specs.Frames.{Frame, message_in};
+    ghost use Rattle.step_machine.specs.Sealed.{Frame, message_in};
 
     ghost Value = { Frame };
 
@@ -35,7 +35,7 @@ impl Model for Sealed {
 impl Sealed {
     ghost use Rattle.std.specs.Arc.{arc_value};
     ghost use Rattle.std.specs.Prelude.{IsSome};
-    ghost use Rattle.step_machine.specs.Frames.{copied_as, message_in};
+    ghost use Rattle.step_machine.specs.Sealed.{copied_as, message_in};
 
     pub(crate) fn new(name: Name, said: Arc<Said>) -> Sealed
         requires { IsSome (arc_value said).message }

@@ -1,6 +1,6 @@
 //! A receive, and what becomes of each frame.
 ghost use Rattle.std.specs.Prelude.{◌≡◌, All};
-ghost use Rattle.step_book.specs.Stock.{IsMail};
+ghost use Rattle.step_book.specs.Buffers.{IsMail};
 ghost use Rattle.step_machine.specs.Nodes.{algorithm_in};
 
 use crate::fault::Fault;

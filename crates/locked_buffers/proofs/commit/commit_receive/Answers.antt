@@ -1,6 +1,6 @@
 use Rattle.std.proofs.Common.{subst}
 use Rattle.std.specs.Prelude.{All}
-use Rattle.step_book.specs.Stock.{IsMail}
+use Rattle.step_book.specs.Buffers.{IsMail}
 use Rattle.locked_buffers.specs.Runs.{algorithm_by}
 use Rattle.locked_buffers.specs.Seats.{Account}
 use Rattle.locked_buffers.proofs.Received.{mail_waits}

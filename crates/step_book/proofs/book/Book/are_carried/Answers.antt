@@ -1,7 +1,7 @@
 use Rattle.std.proofs.Common.{◌≡◌, None, arith, sym, ap, ◌∙◌, refl}
 use Rattle.std.specs.Prelude.{option_map}
 use Rattle.std.proofs.lemmas.List.{get_or_default}
-use Rattle.step_machine.specs.Frames.{held_at}
+use Rattle.step_machine.specs.Sealed.{held_at}
 use Rattle.step_book.specs.Work.{tag_of}
 use Rattle.step_book.proofs.Reading.{nodes_are, nodes_view, one_of}
 use Rattle.step_book.proofs.book.Book.are_carried.Goals as goal

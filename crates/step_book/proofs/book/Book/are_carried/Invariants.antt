@@ -1,6 +1,6 @@
 use Rattle.std.proofs.Common.{◌≡◌, ℕ, ◌-◌, ◌<◌}
 use Rattle.std.specs.Prelude.{option_map}
-use Rattle.step_machine.specs.Frames.{held_at}
+use Rattle.step_machine.specs.Sealed.{held_at}
 use Rattle.step_book.specs.Log.{history, round_of, world_of}
 use Rattle.step_book.specs.Work.{heard_from, tag_of}
 use Rattle.step_book.proofs.book.Book.are_carried.Given as goal

@@ -2,7 +2,7 @@ use Rattle.step_book.specs.Agreed.{KeepsClosed}
 use Rattle.step_book.specs.Log.{Recorded}
 use Rattle.step_book.proofs.Later.{kept_closed}
 use Rattle.std.proofs.Common.{arith, sym, ap, subst, ◌∙◌, length, List, Option}
-use Rattle.step_machine.specs.Frames.{Frame}
+use Rattle.step_machine.specs.Sealed.{Frame}
 use Rattle.step_machine.specs.Nodes.{IsHeld, algorithm_in}
 use Rattle.round_meaning.specs.declared.setup.Setup.{Setup}
 use Rattle.step_book.specs.Log.{end_state}

@@ -1,11 +1,11 @@
 use Rattle.std.proofs.Common.{◌≡◌, Option, ap, subst, sym, ◌∙◌}
 use Rattle.std.specs.Prelude.{IfSome, IsSome}
 use Rattle.round_meaning.specs.Rounds.{algorithm_of}
-use Rattle.step_machine.specs.Frames.{Frame, original}
+use Rattle.step_machine.specs.Sealed.{Frame, original}
 use Rattle.step_book.specs.Log.{IsFlying, Recorded, SameMarksBut, SameWaiting, mark_in}
-use Rattle.step_book.specs.Stock.{IsGenuine}
-use Rattle.step_journal.proofs.Stocks.{fits_kept, fits_made, fits_not_made, fits_view, name_view}
-use Rattle.step_journal.proofs.Stocks.{place_view}
+use Rattle.step_book.specs.Buffers.{IsGenuine}
+use Rattle.step_journal.proofs.BufferViews.{fits_kept, fits_made, fits_not_made, fits_view, name_view}
+use Rattle.step_journal.proofs.BufferViews.{place_view}
 use Rattle.step_journal.proofs.journal.Journal.copy_frame.Goals as goal
 
 pub invariant_of-self-in_default : goal.invariant_of-self-in_default

@@ -1,8 +1,8 @@
 use Rattle.std.proofs.Common.{◌≡◌, ap, subst, sym}
 use Rattle.round_meaning.specs.Rounds.{algorithm_of}
 use Rattle.step_book.specs.Log.{Recorded}
-use Rattle.step_book.specs.Stock.{IsGenuine}
-use Rattle.step_journal.proofs.Stocks.{copy_read, name_view, place_view}
+use Rattle.step_book.specs.Buffers.{IsGenuine}
+use Rattle.step_journal.proofs.BufferViews.{copy_read, name_view, place_view}
 use Rattle.step_journal.proofs.journal.Journal.copy_of.Goals as goal
 
 pub returns-in_ok-copied-in-Some-clause-named : goal.returns-in_ok-copied-in-Some-clause-named

@@ -1,7 +1,7 @@
 use Rattle.std.proofs.Common.{ℕ, None, ap, subst, sym, ◌∙◌}
 use Rattle.step_book.specs.Log.{Recorded, SameMarksBut, SameWaiting, mark_in}
 use Rattle.step_book.specs.Tables.{Puts}
-use Rattle.step_journal.proofs.Stocks.{fits_lost, fits_view, name_view, place_view}
+use Rattle.step_journal.proofs.BufferViews.{fits_lost, fits_view, name_view, place_view}
 use Rattle.step_journal.proofs.journal.Journal.drop_frame.Goals as goal
 
 pub invariant_of-self-then-lost : goal.invariant_of-self-then-lost

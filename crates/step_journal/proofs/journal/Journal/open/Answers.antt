@@ -1,4 +1,4 @@
-use Rattle.step_journal.proofs.Stocks.{fits_open, fits_view}
+use Rattle.step_journal.proofs.BufferViews.{fits_open, fits_view}
 use Rattle.step_journal.proofs.journal.Journal.open.Goals as goal
 
 pub invariant_of-result : goal.invariant_of-result

@@ -1,8 +1,8 @@
 use Rattle.std.proofs.Common.{◌<◌, sym, subst, ap, ◌∙◌}
 use Rattle.step_machine.specs.declared.event.Name.{Name}
 use Rattle.step_book.specs.Log.{Recorded, SameMarksBut, SameWaiting, mark_in}
-use Rattle.step_journal.proofs.Stocks.{fit_view, fits_hushed, fits_kept, fits_sent, fits_view}
-use Rattle.step_journal.proofs.Stocks.{name_view, place_view, work_view}
+use Rattle.step_journal.proofs.BufferViews.{fit_view, fits_hushed, fits_kept, fits_sent, fits_view}
+use Rattle.step_journal.proofs.BufferViews.{name_view, place_view, work_view}
 use Rattle.step_journal.proofs.journal.Journal.record_send.Goals as goal
 
 pub invariant_of-self-in-Some : goal.invariant_of-self-in-Some

@@ -1,9 +1,9 @@
 use Rattle.std.proofs.Common.{List, None, Option, sym, subst, ap, ◌∙◌}
-use Rattle.step_machine.specs.Frames.{Frame}
+use Rattle.step_machine.specs.Sealed.{Frame}
 use Rattle.step_book.specs.Tables.{read_at}
 use Rattle.step_book.specs.Log.{Recorded, SameMarksBut, SameWaitingBut, mark_in, waiting_in}
-use Rattle.step_journal.proofs.Stocks.{fits_kept, fits_let_be, fits_moved, fits_view, name_view}
-use Rattle.step_journal.proofs.Stocks.{place_view}
+use Rattle.step_journal.proofs.BufferViews.{fits_kept, fits_let_be, fits_moved, fits_view, name_view}
+use Rattle.step_journal.proofs.BufferViews.{place_view}
 use Rattle.step_journal.proofs.journal.Journal.release.Goals as goal
 
 pub invariant_of-self-then-moved : goal.invariant_of-self-then-moved

@@ -1,6 +1,6 @@
 use Rattle.std.proofs.Common.{◌≡◌, suc, None, ap, ◌∙◌, arith, sym, subst}
 use Rattle.std.specs.Prelude.{replicate}
-use Rattle.round_meaning.specs.Setups.{IsSized}
+use Rattle.round_meaning.specs.Setups.{IsSetup}
 use Rattle.round_meaning.specs.declared.setup.Setup.{Setup}
 use Rattle.round_lang.specs.Syntax.{ProgramTree}
 use Rattle.step_code.specs.Turns.{IsOfState}
@@ -16,7 +16,7 @@ invariant_of-result-2 c =
     let nodes : c.args.setup.now.nodes ≡ c.in_ok-copy.field-0.nodes = ap (λ (s : Setup). s.nodes) (sym same) in
     let none : c.in_ok-held.held.items ≡ replicate (suc ahead) (replicate c.in_ok-copy.field-0.nodes None) = c.in_ok-held.ensures ∙ ap (λ n. replicate (suc ahead) (replicate n None)) nodes in
     record {
-      setup = subst IsSized (sym same) c.requires.sized;
+      setup = subst IsSetup (sym same) c.requires.sized;
       me = omega (arith, c.requires.me, nodes);
       held = subst (AreHeld _ _ _ _) (sym none) (no_rows _ _ _ _);
       state = state;

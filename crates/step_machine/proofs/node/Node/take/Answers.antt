@@ -2,7 +2,7 @@ use Rattle.std.proofs.Common.{◌≡◌, ◌+◌, ◌-◌, ◌<◌, ◌≤◌, S
 use Rattle.std.proofs.Common.{sym, subst}
 use Rattle.std.proofs.lemmas.List.{get_or_read_under}
 use Rattle.step_machine.specs.declared.event.Name.{Name}
-use Rattle.step_machine.specs.Frames.{HeldRow, Spells}
+use Rattle.step_machine.specs.Sealed.{HeldRow, Spells}
 use Rattle.step_machine.specs.Nodes.{AreHeld, IsFrom, NodeView, ahead, algorithm_in}
 use Rattle.step_machine.specs.NodeInside.{node_seen}
 use Rattle.step_machine.proofs.HeldFrames.{one_row}

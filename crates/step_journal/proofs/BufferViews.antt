@@ -15,8 +15,8 @@ use Rattle.round_meaning.specs.Rounds.{Algorithm, algorithm_of}
 use Rattle.step_machine.specs.declared.event.Event.{Event}
 use Rattle.step_machine.specs.declared.event.Event.TheVariants.{Step, Release, Drop, Copy}
 use Rattle.step_machine.specs.declared.event.Name.{Name}
-use Rattle.step_machine.specs.Frames.{Frame, Ready, IsPrepared, Spells, copied_as, frame_of}
-use Rattle.step_machine.specs.Frames.{original}
+use Rattle.step_machine.specs.Sealed.{Frame, Ready, IsPrepared, Spells, copied_as, frame_of}
+use Rattle.step_machine.specs.Sealed.{original}
 use Rattle.step_machine.specs.Nodes.{NodeView}
 use Rattle.step_book.specs.declared.mark.Mark.{Mark}
 use Rattle.step_book.specs.declared.mark.Mark.TheVariants.{Unsent, Silent, Flying, Released, Lost}
@@ -35,23 +35,23 @@ use Rattle.step_book.proofs.Events.{let_go_idle}
 use Rattle.step_book.proofs.Kept.{mark_before}
 use Rattle.step_book.proofs.Names.{name_cases, name_same, original_named}
 use Rattle.step_book.proofs.Tables.{has_place}
-use Rattle.step_book.specs.Stock.{Stock, IsGenuine, IsSameRun, flying_at, names_in, run_of}
-use Rattle.step_journal.specs.Fits.{AreEmpty, Fits, Flies, IsOfRun, no_stock, place_among, stock_at}
+use Rattle.step_book.specs.Buffers.{BufferView, IsGenuine, IsSameRun, flying_at, names_in, run_of}
+use Rattle.step_journal.specs.Fits.{AreEmpty, Fits, Flies, IsOfRun, no_buffer, place_among, buffer_at}
 
 -- what holds of the view holds of the fields
-pub fits_view : {P : Type 0} {s v : Recorded P} {bs : List Stock} (start : P → ℕ → ℕ) → s ≡ v → Fits (start v.plan) v.log bs → Fits (start s.plan) s.log bs
+pub fits_view : {P : Type 0} {s v : Recorded P} {bs : List BufferView} (start : P → ℕ → ℕ) → s ≡ v → Fits (start v.plan) v.log bs → Fits (start s.plan) s.log bs
 fits_view {P} {s} {v} {bs} start e f = subst (λ (z : Recorded P). Fits (start z.plan) z.log bs) (sym e) f
 
--- a stock at a place, read with any default
-pub stock_read : (bs : List Stock) (k : ℕ) (b : Stock) → k < length bs → b ≡ get_or bs k b → stock_at bs k ≡ b
-stock_read bs k b l h = get_or_default bs k no_stock b l ∙ sym h
+-- a buffer at a place, read with any default
+pub buffer_read : (bs : List BufferView) (k : ℕ) (b : BufferView) → k < length bs → b ≡ get_or bs k b → buffer_at bs k ≡ b
+buffer_read bs k b l h = get_or_default bs k no_buffer b l ∙ sym h
 
--- the stock that was written, and each other
-pub written_at : (bs : List Stock) (k : ℕ) (b : Stock) → k < length bs → stock_at (set bs k b) k ≡ b
-written_at bs k b l = get_or-set_same bs k b no_stock l
+-- the buffer that was written, and each other
+pub written_at : (bs : List BufferView) (k : ℕ) (b : BufferView) → k < length bs → buffer_at (set bs k b) k ≡ b
+written_at bs k b l = get_or-set_same bs k b no_buffer l
 
-pub written_off : (bs : List Stock) (k i : ℕ) (b : Stock) → i ≢ k → stock_at (set bs k b) i ≡ stock_at bs i
-written_off bs k i b ne = get_or-set_other bs k i b no_stock ne
+pub written_off : (bs : List BufferView) (k i : ℕ) (b : BufferView) → i ≢ k → buffer_at (set bs k b) i ≡ buffer_at bs i
+written_off bs k i b ne = get_or-set_other bs k i b no_buffer ne
 
 -- flying frames stay as their table reads the same
 flies_same : (a : Algorithm) (rows : List Row) (n : Name) (m x : Mark) (o p : Option Frame) → x ≡ m → p ≡ o → Flies a rows n m o → Flies a rows n x p
@@ -91,7 +91,7 @@ grown_flies a rows k x n Flying None l h = h
 grown_flies a rows k x n Flying (Some g) l h = (h.0, grown_frame a rows _ k x g (row_of rows k x g.name.from l) h.1)
 
 -- a frame in flight has its place in its table
-there_in : (a : Algorithm) (rows : List Row) (n : Name) (b : Stock) (c k : ℕ) → IsSomeAnd (flying_at b c k) (λ x. (x.name ≡ n) × IsGenuine a rows x) → HasPlace b.flying c k
+there_in : (a : Algorithm) (rows : List Row) (n : Name) (b : BufferView) (c k : ℕ) → IsSomeAnd (flying_at b c k) (λ x. (x.name ≡ n) × IsGenuine a rows x) → HasPlace b.flying c k
 there_in a rows n b c k h = has_place None b.flying c k (λ none. subst (λ (y : Option Frame). IsSomeAnd y (λ x. (x.name ≡ n) × IsGenuine a rows x)) none h)
 
 -- only what is in flight has a frame there
@@ -136,42 +136,42 @@ fit_view {P} start p e h = subst (λ (z : Recorded P). IsSendFit (start z.plan) 
 pub place_view : {P : Type 0} {s v : Recorded P} (n : Name) (place : ℕ) → s ≡ v → place ≡ place_among v.log.setup.nodes n → place ≡ place_among s.log.setup.nodes n
 place_view {P} n place e h = subst (λ (z : Recorded P). place ≡ place_among z.log.setup.nodes n) (sym e) h
 
--- a stock of the run that is written over one of the run
-runs_set : {p : ProgramTree} {s : Setup} (bs : List Stock) (k : ℕ) (old new : Stock) → k < length bs
+-- a buffer of the run that is written over one of the run
+runs_set : {p : ProgramTree} {s : Setup} (bs : List BufferView) (k : ℕ) (old new : BufferView) → k < length bs
     → old ≡ get_or bs k old → IsSameRun old new → All (IsOfRun p s) bs → All (IsOfRun p s) (set bs k new)
 runs_set {p} {s} bs k old new l h r all =
     let was : IsOfRun p s old = subst (IsOfRun p s) (sym h) (all k old l) in
     All-set (IsOfRun p s) bs k new (record { program = r.program ∙ was.program; setup = r.setup ∙ was.setup }) all
 
 -- a run that begins has no frames
-pub fits_open : (start : ℕ → ℕ) (p : ProgramTree) (s : Setup) (bs : List Stock) → AreEmpty p s s.nodes bs → Fits start (opened p s) bs
+pub fits_open : (start : ℕ → ℕ) (p : ProgramTree) (s : Setup) (bs : List BufferView) → AreEmpty p s s.nodes bs → Fits start (opened p s) bs
 unfolding buffer_of steps
 fits_open start p s bs h = record {
   sized = h.sized;
   runs = h.runs;
-  waiting = λ i l. ap names_in (stock i l).1;
-  genuine = λ i l. All-same (IsGenuine (algorithm_of p s) (opened p s).rows) _ [] (stock i l).1 (λ x y z. absurd (omega arith));
-  flying = λ n a. flies_same (algorithm_of p s) (opened p s).rows n Unsent _ None _ (before n) (ap (λ (x : List (List (Option Frame))). read_at None x n.copy (place_among s.nodes n)) (stock n.to a.to).0) refl;
+  waiting = λ i l. ap names_in (buffer i l).1;
+  genuine = λ i l. All-same (IsGenuine (algorithm_of p s) (opened p s).rows) _ [] (buffer i l).1 (λ x y z. absurd (omega arith));
+  flying = λ n a. flies_same (algorithm_of p s) (opened p s).rows n Unsent _ None _ (before n) (ap (λ (x : List (List (Option Frame))). read_at None x n.copy (place_among s.nodes n)) (buffer n.to a.to).0) refl;
 }
   where
-    stock : (i : ℕ) → i < s.nodes → ((stock_at bs i).flying ≡ []) × ((stock_at bs i).waiting ≡ [])
-    stock i l = h.each i no_stock (let z = h.sized in omega arith)
+    buffer : (i : ℕ) → i < s.nodes → ((buffer_at bs i).flying ≡ []) × ((buffer_at bs i).waiting ≡ [])
+    buffer i l = h.each i no_buffer (let z = h.sized in omega arith)
 
     before : (n : Name) → mark_in start (opened p s) n ≡ Unsent
     before n = mark_before (world_of start (opened p s)) [] n (omega arith)
 
--- one empty stock more
-pub empty_push : (p : ProgramTree) (s : Setup) (n : ℕ) (xs ys : List Stock) (b : Stock) → ys ≡ xs ++ b ∷ []
+-- one empty buffer more
+pub empty_push : (p : ProgramTree) (s : Setup) (n : ℕ) (xs ys : List BufferView) (b : BufferView) → ys ≡ xs ++ b ∷ []
     → b.program ≡ p → b.setup ≡ s → b.flying ≡ [] → b.waiting ≡ [] → AreEmpty p s n xs → AreEmpty p s (n + 1) ys
 empty_push p s n xs ys b e q r x y h = record {
   sized = ap length e ∙ length_push xs b ∙ ap (λ z. z + 1) h.sized;
   runs = All-same (IsOfRun p s) _ _ e (All-push (IsOfRun p s) xs b h.runs (record { program = q; setup = r }));
-  each = All-same (λ (b : Stock). (b.flying ≡ []) × (b.waiting ≡ [])) _ _ e (All-push (λ (b : Stock). (b.flying ≡ []) × (b.waiting ≡ [])) xs b h.each (x, y));
+  each = All-same (λ (b : BufferView). (b.flying ≡ []) × (b.waiting ≡ [])) _ _ e (All-push (λ (b : BufferView). (b.flying ≡ []) × (b.waiting ≡ [])) xs b h.each (x, y));
 }
 
-module _ {start : ℕ → ℕ} {v : Log} {bs : List Stock} (f : Fits start v bs) where
+module _ {start : ℕ → ℕ} {v : Log} {bs : List BufferView} (f : Fits start v bs) where
   -- a receive takes what waits for its node, and leaves all else
-  pub fits_receive : (k : ℕ) (old new : Stock) → k < v.setup.nodes → old ≡ get_or bs k old → IsSameRun old new → new.flying ≡ old.flying → new.waiting ≡ [] → SameMarks start v (happened v (Step k)) → waiting_in start (happened v (Step k)) k ≡ [] → SameWaitingBut start k v (happened v (Step k)) → Fits start (happened v (Step k)) (set bs k new)
+  pub fits_receive : (k : ℕ) (old new : BufferView) → k < v.setup.nodes → old ≡ get_or bs k old → IsSameRun old new → new.flying ≡ old.flying → new.waiting ≡ [] → SameMarks start v (happened v (Step k)) → waiting_in start (happened v (Step k)) k ≡ [] → SameWaitingBut start k v (happened v (Step k)) → Fits start (happened v (Step k)) (set bs k new)
   fits_receive k old new l h r e d marks own others = record {
     sized = length-set bs k new ∙ f.sized;
     runs = runs_set bs k old new in_list h r f.runs;
@@ -183,21 +183,21 @@ module _ {start : ℕ → ℕ} {v : Log} {bs : List Stock} (f : Fits start v bs)
       in_list : k < length bs
       in_list = let s = f.sized in omega arith
 
-      waits : (i : ℕ) → i < v.setup.nodes → (i ≡ k) ⊎ (i ≡ k → ⊥) → names_in (stock_at (set bs k new) i).waiting ≡ waiting_in start (happened v (Step k)) i
-      waits i m (inl same) = rw same (ap (λ (b : Stock). names_in b.waiting) (written_at bs k new in_list) ∙ ap names_in d ∙ sym own)
-      waits i m (inr apart) = ap (λ (b : Stock). names_in b.waiting) (written_off bs k i new apart) ∙ f.waiting i m ∙ sym (others i apart)
+      waits : (i : ℕ) → i < v.setup.nodes → (i ≡ k) ⊎ (i ≡ k → ⊥) → names_in (buffer_at (set bs k new) i).waiting ≡ waiting_in start (happened v (Step k)) i
+      waits i m (inl same) = rw same (ap (λ (b : BufferView). names_in b.waiting) (written_at bs k new in_list) ∙ ap names_in d ∙ sym own)
+      waits i m (inr apart) = ap (λ (b : BufferView). names_in b.waiting) (written_off bs k i new apart) ∙ f.waiting i m ∙ sym (others i apart)
 
-      each : (i : ℕ) → i < v.setup.nodes → (i ≡ k) ⊎ (i ≡ k → ⊥) → All (IsGenuine (algorithm_of v.program v.setup) v.rows) (stock_at (set bs k new) i).waiting
-      each i m (inl same) = All-same (IsGenuine (algorithm_of v.program v.setup) v.rows) _ [] (ap (λ x. (stock_at (set bs k new) x).waiting) same ∙ ap (λ (b : Stock). b.waiting) (written_at bs k new in_list) ∙ d) (λ x y z. absurd (omega arith))
-      each i m (inr apart) = All-same (IsGenuine (algorithm_of v.program v.setup) v.rows) _ _ (ap (λ (b : Stock). b.waiting) (written_off bs k i new apart)) (f.genuine i m)
+      each : (i : ℕ) → i < v.setup.nodes → (i ≡ k) ⊎ (i ≡ k → ⊥) → All (IsGenuine (algorithm_of v.program v.setup) v.rows) (buffer_at (set bs k new) i).waiting
+      each i m (inl same) = All-same (IsGenuine (algorithm_of v.program v.setup) v.rows) _ [] (ap (λ x. (buffer_at (set bs k new) x).waiting) same ∙ ap (λ (b : BufferView). b.waiting) (written_at bs k new in_list) ∙ d) (λ x y z. absurd (omega arith))
+      each i m (inr apart) = All-same (IsGenuine (algorithm_of v.program v.setup) v.rows) _ _ (ap (λ (b : BufferView). b.waiting) (written_off bs k i new apart)) (f.genuine i m)
 
-      flies : (n : Name) → IsName v.setup n → (n.to ≡ k) ⊎ (n.to ≡ k → ⊥) → flying_at (stock_at (set bs k new) n.to) n.copy (place_among v.setup.nodes n) ≡ flying_at (stock_at bs n.to) n.copy (place_among v.setup.nodes n)
+      flies : (n : Name) → IsName v.setup n → (n.to ≡ k) ⊎ (n.to ≡ k → ⊥) → flying_at (buffer_at (set bs k new) n.to) n.copy (place_among v.setup.nodes n) ≡ flying_at (buffer_at bs n.to) n.copy (place_among v.setup.nodes n)
       flies n a (inl same) =
-          let there : stock_at (set bs k new) n.to ≡ new = ap (stock_at (set bs k new)) same ∙ written_at bs k new in_list in
-          let here : stock_at bs n.to ≡ old = ap (stock_at bs) same ∙ stock_read bs k old in_list h in
-          ap (λ (b : Stock). flying_at b n.copy (place_among v.setup.nodes n)) there ∙ ap (λ (x : List (List (Option Frame))). read_at None x n.copy (place_among v.setup.nodes n)) e
-          ∙ ap (λ (b : Stock). flying_at b n.copy (place_among v.setup.nodes n)) (sym here)
-      flies n a (inr apart) = ap (λ (b : Stock). flying_at b n.copy (place_among v.setup.nodes n)) (written_off bs k n.to new apart)
+          let there : buffer_at (set bs k new) n.to ≡ new = ap (buffer_at (set bs k new)) same ∙ written_at bs k new in_list in
+          let here : buffer_at bs n.to ≡ old = ap (buffer_at bs) same ∙ buffer_read bs k old in_list h in
+          ap (λ (b : BufferView). flying_at b n.copy (place_among v.setup.nodes n)) there ∙ ap (λ (x : List (List (Option Frame))). read_at None x n.copy (place_among v.setup.nodes n)) e
+          ∙ ap (λ (b : BufferView). flying_at b n.copy (place_among v.setup.nodes n)) (sym here)
+      flies n a (inr apart) = ap (λ (b : BufferView). flying_at b n.copy (place_among v.setup.nodes n)) (written_off bs k n.to new apart)
 
   -- an event that changes no message and no buffer
   pub fits_same : (e : Event) → SameMarks start v (happened v e) → SameWaiting start v (happened v e) → Fits start (happened v e) bs
@@ -209,8 +209,8 @@ module _ {start : ℕ → ℕ} {v : Log} {bs : List Stock} (f : Fits start v bs)
     flying = λ n a. flies_same _ _ n _ _ _ _ (marks n a) refl (f.flying n a);
   }
 
-  -- one stock that reads the same
-  pub fits_kept : (k : ℕ) (old new : Stock) → k < v.setup.nodes → old ≡ get_or bs k old → IsSameRun old new → SameTables None old.flying new.flying → new.waiting ≡ old.waiting → Fits start v (set bs k new)
+  -- one buffer that reads the same
+  pub fits_kept : (k : ℕ) (old new : BufferView) → k < v.setup.nodes → old ≡ get_or bs k old → IsSameRun old new → SameTables None old.flying new.flying → new.waiting ≡ old.waiting → Fits start v (set bs k new)
   fits_kept k old new l h r e d = record {
     sized = length-set bs k new ∙ f.sized;
     runs = runs_set bs k old new in_list h r f.runs;
@@ -222,22 +222,22 @@ module _ {start : ℕ → ℕ} {v : Log} {bs : List Stock} (f : Fits start v bs)
       in_list : k < length bs
       in_list = let s = f.sized in omega arith
 
-      waits : (i : ℕ) → (i ≡ k) ⊎ (i ≡ k → ⊥) → (stock_at (set bs k new) i).waiting ≡ (stock_at bs i).waiting
+      waits : (i : ℕ) → (i ≡ k) ⊎ (i ≡ k → ⊥) → (buffer_at (set bs k new) i).waiting ≡ (buffer_at bs i).waiting
       waits i (inl same) =
-          ap (λ x. (stock_at (set bs k new) x).waiting) same ∙ ap (λ (b : Stock). b.waiting) (written_at bs k new in_list) ∙ d
-          ∙ ap (λ (b : Stock). b.waiting) (sym (stock_read bs k old in_list h)) ∙ ap (λ x. (stock_at bs x).waiting) (sym same)
-      waits i (inr apart) = ap (λ (b : Stock). b.waiting) (written_off bs k i new apart)
+          ap (λ x. (buffer_at (set bs k new) x).waiting) same ∙ ap (λ (b : BufferView). b.waiting) (written_at bs k new in_list) ∙ d
+          ∙ ap (λ (b : BufferView). b.waiting) (sym (buffer_read bs k old in_list h)) ∙ ap (λ x. (buffer_at bs x).waiting) (sym same)
+      waits i (inr apart) = ap (λ (b : BufferView). b.waiting) (written_off bs k i new apart)
 
-      flies : (n : Name) → (n.to ≡ k) ⊎ (n.to ≡ k → ⊥) → flying_at (stock_at (set bs k new) n.to) n.copy (place_among v.setup.nodes n) ≡ flying_at (stock_at bs n.to) n.copy (place_among v.setup.nodes n)
+      flies : (n : Name) → (n.to ≡ k) ⊎ (n.to ≡ k → ⊥) → flying_at (buffer_at (set bs k new) n.to) n.copy (place_among v.setup.nodes n) ≡ flying_at (buffer_at bs n.to) n.copy (place_among v.setup.nodes n)
       flies n (inl same) =
-          let there : stock_at (set bs k new) n.to ≡ new = ap (stock_at (set bs k new)) same ∙ written_at bs k new in_list in
-          let here : stock_at bs n.to ≡ old = ap (stock_at bs) same ∙ stock_read bs k old in_list h in
-          ap (λ (b : Stock). flying_at b n.copy (place_among v.setup.nodes n)) there ∙ e n.copy (place_among v.setup.nodes n)
-          ∙ ap (λ (b : Stock). flying_at b n.copy (place_among v.setup.nodes n)) (sym here)
-      flies n (inr apart) = ap (λ (b : Stock). flying_at b n.copy (place_among v.setup.nodes n)) (written_off bs k n.to new apart)
+          let there : buffer_at (set bs k new) n.to ≡ new = ap (buffer_at (set bs k new)) same ∙ written_at bs k new in_list in
+          let here : buffer_at bs n.to ≡ old = ap (buffer_at bs) same ∙ buffer_read bs k old in_list h in
+          ap (λ (b : BufferView). flying_at b n.copy (place_among v.setup.nodes n)) there ∙ e n.copy (place_among v.setup.nodes n)
+          ∙ ap (λ (b : BufferView). flying_at b n.copy (place_among v.setup.nodes n)) (sym here)
+      flies n (inr apart) = ap (λ (b : BufferView). flying_at b n.copy (place_among v.setup.nodes n)) (written_off bs k n.to new apart)
 
   -- one frame's place in flight is written, as the mark of its message is
-  pub fits_mark : (e : Event) (n : Name) (old new : Stock) (o : Option Frame) → IsName v.setup n → old ≡ get_or bs n.to old → IsSameRun old new → Puts None old.flying new.flying n.copy (place_among v.setup.nodes n) o → SameMarksBut start n v (happened v e) → Flies (algorithm_of v.program v.setup) v.rows n (mark_in start (happened v e) n) o →
+  pub fits_mark : (e : Event) (n : Name) (old new : BufferView) (o : Option Frame) → IsName v.setup n → old ≡ get_or bs n.to old → IsSameRun old new → Puts None old.flying new.flying n.copy (place_among v.setup.nodes n) o → SameMarksBut start n v (happened v e) → Flies (algorithm_of v.program v.setup) v.rows n (mark_in start (happened v e) n) o →
       names_in new.waiting ≡ waiting_in start (happened v e) n.to → All (IsGenuine (algorithm_of v.program v.setup) v.rows) new.waiting → SameWaitingBut start n.to v (happened v e) → Fits start (happened v e) (set bs n.to new)
   fits_mark e n old new o a h r puts marks own names genuine waits = record {
     sized = length-set bs n.to new ∙ f.sized;
@@ -250,27 +250,27 @@ module _ {start : ℕ → ℕ} {v : Log} {bs : List Stock} (f : Fits start v bs)
       in_list : n.to < length bs
       in_list = let s = f.sized in let t = a.to in omega arith
 
-      wait : (i : ℕ) → i < v.setup.nodes → (i ≡ n.to) ⊎ (i ≡ n.to → ⊥) → names_in (stock_at (set bs n.to new) i).waiting ≡ waiting_in start (happened v e) i
-      wait i m (inl same) = rw same (ap (λ (b : Stock). names_in b.waiting) (written_at bs n.to new in_list) ∙ names)
-      wait i m (inr apart) = ap (λ (b : Stock). names_in b.waiting) (written_off bs n.to i new apart) ∙ f.waiting i m ∙ sym (waits i apart)
+      wait : (i : ℕ) → i < v.setup.nodes → (i ≡ n.to) ⊎ (i ≡ n.to → ⊥) → names_in (buffer_at (set bs n.to new) i).waiting ≡ waiting_in start (happened v e) i
+      wait i m (inl same) = rw same (ap (λ (b : BufferView). names_in b.waiting) (written_at bs n.to new in_list) ∙ names)
+      wait i m (inr apart) = ap (λ (b : BufferView). names_in b.waiting) (written_off bs n.to i new apart) ∙ f.waiting i m ∙ sym (waits i apart)
 
-      each : (i : ℕ) → i < v.setup.nodes → (i ≡ n.to) ⊎ (i ≡ n.to → ⊥) → All (IsGenuine (algorithm_of v.program v.setup) v.rows) (stock_at (set bs n.to new) i).waiting
-      each i m (inl same) = All-same (IsGenuine (algorithm_of v.program v.setup) v.rows) _ _ (ap (λ x. (stock_at (set bs n.to new) x).waiting) same ∙ ap (λ (b : Stock). b.waiting) (written_at bs n.to new in_list)) genuine
-      each i m (inr apart) = All-same (IsGenuine (algorithm_of v.program v.setup) v.rows) _ _ (ap (λ (b : Stock). b.waiting) (written_off bs n.to i new apart)) (f.genuine i m)
+      each : (i : ℕ) → i < v.setup.nodes → (i ≡ n.to) ⊎ (i ≡ n.to → ⊥) → All (IsGenuine (algorithm_of v.program v.setup) v.rows) (buffer_at (set bs n.to new) i).waiting
+      each i m (inl same) = All-same (IsGenuine (algorithm_of v.program v.setup) v.rows) _ _ (ap (λ x. (buffer_at (set bs n.to new) x).waiting) same ∙ ap (λ (b : BufferView). b.waiting) (written_at bs n.to new in_list)) genuine
+      each i m (inr apart) = All-same (IsGenuine (algorithm_of v.program v.setup) v.rows) _ _ (ap (λ (b : BufferView). b.waiting) (written_off bs n.to i new apart)) (f.genuine i m)
 
-      off : (m : Name) → IsName v.setup m → (m ≡ n → ⊥) → (m.to ≡ n.to) ⊎ (m.to ≡ n.to → ⊥) → flying_at (stock_at (set bs n.to new) m.to) m.copy (place_among v.setup.nodes m) ≡ flying_at (stock_at bs m.to) m.copy (place_among v.setup.nodes m)
+      off : (m : Name) → IsName v.setup m → (m ≡ n → ⊥) → (m.to ≡ n.to) ⊎ (m.to ≡ n.to → ⊥) → flying_at (buffer_at (set bs n.to new) m.to) m.copy (place_among v.setup.nodes m) ≡ flying_at (buffer_at bs m.to) m.copy (place_among v.setup.nodes m)
       off m b apart (inl same) =
-          let new_is : stock_at (set bs n.to new) m.to ≡ new = ap (stock_at (set bs n.to new)) same ∙ written_at bs n.to new in_list in
-          let old_is : stock_at bs m.to ≡ old = ap (stock_at bs) same ∙ stock_read bs n.to old in_list h in
-          ap (λ (x : Stock). flying_at x m.copy (place_among v.setup.nodes m)) new_is
+          let new_is : buffer_at (set bs n.to new) m.to ≡ new = ap (buffer_at (set bs n.to new)) same ∙ written_at bs n.to new in_list in
+          let old_is : buffer_at bs m.to ≡ old = ap (buffer_at bs) same ∙ buffer_read bs n.to old in_list h in
+          ap (λ (x : BufferView). flying_at x m.copy (place_among v.setup.nodes m)) new_is
           ∙ puts.others m.copy (place_among v.setup.nodes m) (place_apart v.setup.nodes m n b.from a.from same b.first a.first apart)
-          ∙ ap (λ (x : Stock). flying_at x m.copy (place_among v.setup.nodes m)) (sym old_is)
-      off m b apart (inr other) = ap (λ (x : Stock). flying_at x m.copy (place_among v.setup.nodes m)) (written_off bs n.to m.to new other)
+          ∙ ap (λ (x : BufferView). flying_at x m.copy (place_among v.setup.nodes m)) (sym old_is)
+      off m b apart (inr other) = ap (λ (x : BufferView). flying_at x m.copy (place_among v.setup.nodes m)) (written_off bs n.to m.to new other)
 
-      flies : (m : Name) → IsName v.setup m → (m ≡ n) ⊎ (m ≡ n → ⊥) → Flies (algorithm_of v.program v.setup) v.rows m (mark_in start (happened v e) m) (flying_at (stock_at (set bs n.to new) m.to) m.copy (place_among v.setup.nodes m))
+      flies : (m : Name) → IsName v.setup m → (m ≡ n) ⊎ (m ≡ n → ⊥) → Flies (algorithm_of v.program v.setup) v.rows m (mark_in start (happened v e) m) (flying_at (buffer_at (set bs n.to new) m.to) m.copy (place_among v.setup.nodes m))
       flies m b (inl same) =
-          let P : Name → Type 0 = λ x. Flies (algorithm_of v.program v.setup) v.rows x (mark_in start (happened v e) x) (flying_at (stock_at (set bs n.to new) x.to) x.copy (place_among v.setup.nodes x)) in
-          subst P (sym same) (flies_same _ _ n _ _ _ _ refl (ap (λ (x : Stock). flying_at x n.copy (place_among v.setup.nodes n)) (written_at bs n.to new in_list) ∙ puts.there) own)
+          let P : Name → Type 0 = λ x. Flies (algorithm_of v.program v.setup) v.rows x (mark_in start (happened v e) x) (flying_at (buffer_at (set bs n.to new) x.to) x.copy (place_among v.setup.nodes x)) in
+          subst P (sym same) (flies_same _ _ n _ _ _ _ refl (ap (λ (x : BufferView). flying_at x n.copy (place_among v.setup.nodes n)) (written_at bs n.to new in_list) ∙ puts.there) own)
       flies m b (inr apart) = flies_same _ _ m _ _ _ _ (marks m b apart) (off m b apart (cases_eq m.to n.to)) (f.flying m b)
 
   -- silence flies nowhere
@@ -283,9 +283,9 @@ module _ {start : ℕ → ℕ} {v : Log} {bs : List Stock} (f : Fits start v bs)
     flying = λ m b. flies m b (name_cases m n);
   }
     where
-      flies : (m : Name) → IsName v.setup m → (m ≡ n) ⊎ (m ≡ n → ⊥) → Flies (algorithm_of v.program v.setup) v.rows m (mark_in start (happened v (Step n.from)) m) (flying_at (stock_at bs m.to) m.copy (place_among v.setup.nodes m))
+      flies : (m : Name) → IsName v.setup m → (m ≡ n) ⊎ (m ≡ n → ⊥) → Flies (algorithm_of v.program v.setup) v.rows m (mark_in start (happened v (Step n.from)) m) (flying_at (buffer_at bs m.to) m.copy (place_among v.setup.nodes m))
       flies m b (inl same) =
-          let slot = flying_at (stock_at bs m.to) m.copy (place_among v.setup.nodes m) in
+          let slot = flying_at (buffer_at bs m.to) m.copy (place_among v.setup.nodes m) in
           let was : mark_in start v m ≡ Unsent = ap (mark_in start v) same ∙ before in
           let is : mark_in start (happened v (Step n.from)) m ≡ Silent = ap (mark_in start (happened v (Step n.from))) same ∙ after in
           let none : slot ≡ None = flies_same (algorithm_of v.program v.setup) v.rows m _ Unsent _ slot (sym was) refl (f.flying m b) in
@@ -293,46 +293,46 @@ module _ {start : ℕ → ℕ} {v : Log} {bs : List Stock} (f : Fits start v bs)
       flies m b (inr apart) = flies_same _ _ m _ _ _ _ (marks m b apart) refl (f.flying m b)
 
   -- what is sent, or copied, flies
-  pub fits_put : (e : Event) (n : Name) (frame : Frame) (old new : Stock) → IsName v.setup n → frame.name ≡ n → IsGenuine (algorithm_of v.program v.setup) v.rows frame → old ≡ get_or bs n.to old → IsSameRun old new → Puts None old.flying new.flying n.copy (place_among v.setup.nodes n) (Some frame) → new.waiting ≡ old.waiting → mark_in start (happened v e) n ≡ Flying → SameMarksBut start n v (happened v e) → SameWaiting start v (happened v e) → Fits start (happened v e) (set bs n.to new)
+  pub fits_put : (e : Event) (n : Name) (frame : Frame) (old new : BufferView) → IsName v.setup n → frame.name ≡ n → IsGenuine (algorithm_of v.program v.setup) v.rows frame → old ≡ get_or bs n.to old → IsSameRun old new → Puts None old.flying new.flying n.copy (place_among v.setup.nodes n) (Some frame) → new.waiting ≡ old.waiting → mark_in start (happened v e) n ≡ Flying → SameMarksBut start n v (happened v e) → SameWaiting start v (happened v e) → Fits start (happened v e) (set bs n.to new)
   fits_put e n frame old new a named genuine h r puts d flying marks waits =
       let a0 = algorithm_of v.program v.setup in
-      let was : stock_at bs n.to ≡ old = stock_read bs n.to old (let s = f.sized in let t = a.to in omega arith) h in
+      let was : buffer_at bs n.to ≡ old = buffer_read bs n.to old (let s = f.sized in let t = a.to in omega arith) h in
       fits_mark e n old new (Some frame) a h r puts marks
       (flies_same a0 v.rows n Flying _ (Some frame) (Some frame) flying refl (named, genuine))
-      (ap names_in d ∙ ap (λ (b : Stock). names_in b.waiting) (sym was) ∙ f.waiting n.to a.to ∙ sym (waits n.to))
-      (All-same (IsGenuine a0 v.rows) _ _ (d ∙ ap (λ (b : Stock). b.waiting) (sym was)) (f.genuine n.to a.to))
+      (ap names_in d ∙ ap (λ (b : BufferView). names_in b.waiting) (sym was) ∙ f.waiting n.to a.to ∙ sym (waits n.to))
+      (All-same (IsGenuine a0 v.rows) _ _ (d ∙ ap (λ (b : BufferView). b.waiting) (sym was)) (f.genuine n.to a.to))
       (λ i apart. waits i)
 
   -- the frame of a copy in flight
-  pub frame_there : (n : Name) (old : Stock) → IsName v.setup n → IsFlying start v n → old ≡ get_or bs n.to old → IsSomeAnd (flying_at old n.copy (place_among v.setup.nodes n)) (λ x. (x.name ≡ n) × IsGenuine (algorithm_of v.program v.setup) v.rows x)
+  pub frame_there : (n : Name) (old : BufferView) → IsName v.setup n → IsFlying start v n → old ≡ get_or bs n.to old → IsSomeAnd (flying_at old n.copy (place_among v.setup.nodes n)) (λ x. (x.name ≡ n) × IsGenuine (algorithm_of v.program v.setup) v.rows x)
   frame_there n old a fly h =
-      let was : stock_at bs n.to ≡ old = stock_read bs n.to old (let s = f.sized in let t = a.to in omega arith) h in
-      flies_same (algorithm_of v.program v.setup) v.rows n _ Flying _ _ (sym fly) (ap (λ (b : Stock). flying_at b n.copy (place_among v.setup.nodes n)) (sym was)) (f.flying n a)
+      let was : buffer_at bs n.to ≡ old = buffer_read bs n.to old (let s = f.sized in let t = a.to in omega arith) h in
+      flies_same (algorithm_of v.program v.setup) v.rows n _ Flying _ _ (sym fly) (ap (λ (b : BufferView). flying_at b n.copy (place_among v.setup.nodes n)) (sym was)) (f.flying n a)
 
   -- a copy in flight goes to those that wait
-  pub fits_move : (n : Name) (old new : Stock) → IsName v.setup n → IsFlying start v n → old ≡ get_or bs n.to old → IsSameRun old new → Puts None old.flying new.flying n.copy (place_among v.setup.nodes n) None → new.waiting ≡ old.waiting ++ option_to_list (flying_at old n.copy (place_among v.setup.nodes n)) → mark_in start (happened v (Release n)) n ≡ let_go (count_of v n.to) (mark_in start v n) → SameMarksBut start n v (happened v (Release n)) → waiting_in start (happened v (Release n)) n.to ≡ waiting_in start v n.to ++ arrival n (mark_in start v n) → SameWaitingBut start n.to v (happened v (Release n)) → Fits start (happened v (Release n)) (set bs n.to new)
+  pub fits_move : (n : Name) (old new : BufferView) → IsName v.setup n → IsFlying start v n → old ≡ get_or bs n.to old → IsSameRun old new → Puts None old.flying new.flying n.copy (place_among v.setup.nodes n) None → new.waiting ≡ old.waiting ++ option_to_list (flying_at old n.copy (place_among v.setup.nodes n)) → mark_in start (happened v (Release n)) n ≡ let_go (count_of v n.to) (mark_in start v n) → SameMarksBut start n v (happened v (Release n)) → waiting_in start (happened v (Release n)) n.to ≡ waiting_in start v n.to ++ arrival n (mark_in start v n) → SameWaitingBut start n.to v (happened v (Release n)) → Fits start (happened v (Release n)) (set bs n.to new)
   fits_move n old new a fly h r puts d mark marks names waits =
       let a0 = algorithm_of v.program v.setup in
-      let was : stock_at bs n.to ≡ old = stock_read bs n.to old (let s = f.sized in let t = a.to in omega arith) h in
+      let was : buffer_at bs n.to ≡ old = buffer_read bs n.to old (let s = f.sized in let t = a.to in omega arith) h in
       let there = frame_there n old a fly h in
       let released : mark_in start (happened v (Release n)) n ≡ Released (count_of v n.to) = mark ∙ ap (let_go (count_of v n.to)) fly in
       let arrived = arrives a0 v.rows n old.waiting (flying_at old n.copy (place_among v.setup.nodes n)) there in
       fits_mark (Release n) n old new None a h r puts marks
       (flies_same a0 v.rows n (Released (count_of v n.to)) _ None None released refl refl)
-      (ap names_in d ∙ arrived.0 ∙ ap (λ x. x ++ n ∷ []) (ap (λ (b : Stock). names_in b.waiting) (sym was) ∙ f.waiting n.to a.to) ∙ ap (λ x. waiting_in start v n.to ++ arrival n x) (sym fly) ∙ sym names)
-      (All-same (IsGenuine a0 v.rows) _ _ d (arrived.1 (All-same (IsGenuine a0 v.rows) _ _ (ap (λ (b : Stock). b.waiting) (sym was)) (f.genuine n.to a.to))))
+      (ap names_in d ∙ arrived.0 ∙ ap (λ x. x ++ n ∷ []) (ap (λ (b : BufferView). names_in b.waiting) (sym was) ∙ f.waiting n.to a.to) ∙ ap (λ x. waiting_in start v n.to ++ arrival n x) (sym fly) ∙ sym names)
+      (All-same (IsGenuine a0 v.rows) _ _ d (arrived.1 (All-same (IsGenuine a0 v.rows) _ _ (ap (λ (b : BufferView). b.waiting) (sym was)) (f.genuine n.to a.to))))
       waits
 
   -- a copy in flight is lost
-  pub fits_lost : (n : Name) (old new : Stock) → IsName v.setup n → IsFlying start v n → old ≡ get_or bs n.to old → IsSameRun old new → Puts None old.flying new.flying n.copy (place_among v.setup.nodes n) None → new.waiting ≡ old.waiting → mark_in start (happened v (Drop n)) n ≡ dropped (mark_in start v n) → SameMarksBut start n v (happened v (Drop n)) → SameWaiting start v (happened v (Drop n)) → Fits start (happened v (Drop n)) (set bs n.to new)
+  pub fits_lost : (n : Name) (old new : BufferView) → IsName v.setup n → IsFlying start v n → old ≡ get_or bs n.to old → IsSameRun old new → Puts None old.flying new.flying n.copy (place_among v.setup.nodes n) None → new.waiting ≡ old.waiting → mark_in start (happened v (Drop n)) n ≡ dropped (mark_in start v n) → SameMarksBut start n v (happened v (Drop n)) → SameWaiting start v (happened v (Drop n)) → Fits start (happened v (Drop n)) (set bs n.to new)
   fits_lost n old new a fly h r puts d mark marks waits =
       let a0 = algorithm_of v.program v.setup in
-      let was : stock_at bs n.to ≡ old = stock_read bs n.to old (let s = f.sized in let t = a.to in omega arith) h in
+      let was : buffer_at bs n.to ≡ old = buffer_read bs n.to old (let s = f.sized in let t = a.to in omega arith) h in
       let gone : mark_in start (happened v (Drop n)) n ≡ Lost = mark ∙ ap dropped fly in
       fits_mark (Drop n) n old new None a h r puts marks
       (flies_same a0 v.rows n Lost _ None None gone refl refl)
-      (ap names_in d ∙ ap (λ (b : Stock). names_in b.waiting) (sym was) ∙ f.waiting n.to a.to ∙ sym (waits n.to))
-      (All-same (IsGenuine a0 v.rows) _ _ (d ∙ ap (λ (b : Stock). b.waiting) (sym was)) (f.genuine n.to a.to))
+      (ap names_in d ∙ ap (λ (b : BufferView). names_in b.waiting) (sym was) ∙ f.waiting n.to a.to ∙ sym (waits n.to))
+      (All-same (IsGenuine a0 v.rows) _ _ (d ∙ ap (λ (b : BufferView). b.waiting) (sym was)) (f.genuine n.to a.to))
       (λ i apart. waits i)
 
   -- an event that leaves its copy's mark, and each other
@@ -372,9 +372,9 @@ module _ {start : ℕ → ℕ} {v : Log} {bs : List Stock} (f : Fits start v bs)
     flying = λ m b. grown_flies (algorithm_of v.program v.setup) v.rows n.me (end_state n) m (mark_in start v m) _ (omega arith) (f.flying m b);
   }
 
-module _ {start : ℕ → ℕ} {v : Log} {bs : List Stock} (f : Fits start v bs) where
+module _ {start : ℕ → ℕ} {v : Log} {bs : List BufferView} (f : Fits start v bs) where
   -- a send with its frame, from the room that was made for it
-  pub fits_sent : (p : Ready) (n : Name) (o : Option Frame) (frame : Frame) (place : ℕ) (b0 b1 b2 b3 : Stock) → n ≡ p.name → n.copy ≡ 0 → IsName v.setup p.name → IsPrepared (algorithm_of v.program v.setup) p → IsSendFit start v p → round_of v p.name.from ≡ p.name.round → place ≡ place_among v.setup.nodes n → b0 ≡ get_or bs n.to b0 → IsSameRun b0 b1 → SameTables None b0.flying b1.flying → b1.waiting ≡ b0.waiting → o ≡ frame_of p → o ≡ Some frame → b2 ≡ get_or (set bs n.to b1) n.to b2 → IsSameRun b2 b3 → Puts None b2.flying b3.flying 0 place (Some frame) → b3.waiting ≡ b2.waiting → mark_in start (happened v (Step p.name.from)) p.name ≡ spoken p.message → SameMarksBut start p.name v (happened v (Step p.name.from)) → SameWaiting start v (happened v (Step p.name.from)) → Fits start (happened v (Step p.name.from)) (set (set bs n.to b1) n.to b3)
+  pub fits_sent : (p : Ready) (n : Name) (o : Option Frame) (frame : Frame) (place : ℕ) (b0 b1 b2 b3 : BufferView) → n ≡ p.name → n.copy ≡ 0 → IsName v.setup p.name → IsPrepared (algorithm_of v.program v.setup) p → IsSendFit start v p → round_of v p.name.from ≡ p.name.round → place ≡ place_among v.setup.nodes n → b0 ≡ get_or bs n.to b0 → IsSameRun b0 b1 → SameTables None b0.flying b1.flying → b1.waiting ≡ b0.waiting → o ≡ frame_of p → o ≡ Some frame → b2 ≡ get_or (set bs n.to b1) n.to b2 → IsSameRun b2 b3 → Puts None b2.flying b3.flying 0 place (Some frame) → b3.waiting ≡ b2.waiting → mark_in start (happened v (Step p.name.from)) p.name ≡ spoken p.message → SameMarksBut start p.name v (happened v (Step p.name.from)) → SameWaiting start v (happened v (Step p.name.from)) → Fits start (happened v (Step p.name.from)) (set (set bs n.to b1) n.to b3)
   fits_sent p n o frame place b0 b1 b2 b3 en c a work fit round at h0 r0 same wait is some h2 r2 puts d mark marks waits =
       let a0 = algorithm_of v.program v.setup in
       let to : n.to ≡ p.name.to = ap (λ (x : Name). x.to) en in
@@ -390,36 +390,36 @@ module _ {start : ℕ → ℕ} {v : Log} {bs : List Stock} (f : Fits start v bs)
       subst (λ (k : ℕ). Fits start (happened v (Step p.name.from)) (set (set bs n.to b1) k b3)) (sym to) done
 
   -- a send with silence, from the room that was made
-  pub fits_hushed : (p : Ready) (n : Name) (o : Option Frame) (b0 b1 : Stock) → n ≡ p.name → IsName v.setup p.name → b0 ≡ get_or bs n.to b0 → IsSameRun b0 b1 → SameTables None b0.flying b1.flying → b1.waiting ≡ b0.waiting → o ≡ frame_of p → o ≡ None → mark_in start v p.name ≡ Unsent → mark_in start (happened v (Step p.name.from)) p.name ≡ spoken p.message → SameMarksBut start p.name v (happened v (Step p.name.from)) → SameWaiting start v (happened v (Step p.name.from)) → Fits start (happened v (Step p.name.from)) (set bs n.to b1)
+  pub fits_hushed : (p : Ready) (n : Name) (o : Option Frame) (b0 b1 : BufferView) → n ≡ p.name → IsName v.setup p.name → b0 ≡ get_or bs n.to b0 → IsSameRun b0 b1 → SameTables None b0.flying b1.flying → b1.waiting ≡ b0.waiting → o ≡ frame_of p → o ≡ None → mark_in start v p.name ≡ Unsent → mark_in start (happened v (Step p.name.from)) p.name ≡ spoken p.message → SameMarksBut start p.name v (happened v (Step p.name.from)) → SameWaiting start v (happened v (Step p.name.from)) → Fits start (happened v (Step p.name.from)) (set bs n.to b1)
   fits_hushed p n o b0 b1 en a h0 r0 same wait is none before mark marks waits =
       let to : n.to ≡ p.name.to = ap (λ (x : Name). x.to) en in
       fits_silent (fits_kept f n.to b0 b1 (let t = a.to in omega arith) h0 r0 same wait) p.name before (mark ∙ ap spoken (silence p (sym is ∙ none))) marks waits
 
   -- a release of what is in flight, from the room that was made
-  pub fits_moved : (n : Name) (place : ℕ) (b0 b1 b2 b3 : Stock) → IsName v.setup n → IsFlying start v n → place ≡ place_among v.setup.nodes n → b0 ≡ get_or bs n.to b0 → IsSameRun b0 b1 → b1.flying ≡ b0.flying → b1.waiting ≡ b0.waiting → b2 ≡ get_or (set bs n.to b1) n.to b2 → IsSameRun b2 b3 → Puts None b2.flying b3.flying n.copy place None → b3.waiting ≡ b2.waiting ++ option_to_list (flying_at b2 n.copy place) → mark_in start (happened v (Release n)) n ≡ let_go (count_of v n.to) (mark_in start v n) → SameMarksBut start n v (happened v (Release n)) → waiting_in start (happened v (Release n)) n.to ≡ waiting_in start v n.to ++ arrival n (mark_in start v n) → SameWaitingBut start n.to v (happened v (Release n)) → Fits start (happened v (Release n)) (set (set bs n.to b1) n.to b3)
+  pub fits_moved : (n : Name) (place : ℕ) (b0 b1 b2 b3 : BufferView) → IsName v.setup n → IsFlying start v n → place ≡ place_among v.setup.nodes n → b0 ≡ get_or bs n.to b0 → IsSameRun b0 b1 → b1.flying ≡ b0.flying → b1.waiting ≡ b0.waiting → b2 ≡ get_or (set bs n.to b1) n.to b2 → IsSameRun b2 b3 → Puts None b2.flying b3.flying n.copy place None → b3.waiting ≡ b2.waiting ++ option_to_list (flying_at b2 n.copy place) → mark_in start (happened v (Release n)) n ≡ let_go (count_of v n.to) (mark_in start v n) → SameMarksBut start n v (happened v (Release n)) → waiting_in start (happened v (Release n)) n.to ≡ waiting_in start v n.to ++ arrival n (mark_in start v n) → SameWaitingBut start n.to v (happened v (Release n)) → Fits start (happened v (Release n)) (set (set bs n.to b1) n.to b3)
   fits_moved n place b0 b1 b2 b3 a fly at h0 r0 same wait h2 r2 e d mark marks names waits =
       let kept = fits_kept f n.to b0 b1 a.to h0 r0 (λ c k. ap (λ (x : List (List (Option Frame))). read_at None x c k) same) wait in
       fits_move kept n b2 b3 a fly h2 r2 (subst (λ (z : ℕ). Puts None b2.flying b3.flying n.copy z None) at e) (d ∙ ap (λ k. b2.waiting ++ option_to_list (flying_at b2 n.copy k)) at) mark marks names waits
 
   -- the place of what is in flight is in its table
-  pub room_there : (n : Name) (place : ℕ) (b0 b1 b2 : Stock) → IsName v.setup n → IsFlying start v n → place ≡ place_among v.setup.nodes n → b0 ≡ get_or bs n.to b0 → IsSameRun b0 b1 → b1.flying ≡ b0.flying → b1.waiting ≡ b0.waiting → b2 ≡ get_or (set bs n.to b1) n.to b2 → HasPlace b2.flying n.copy place
+  pub room_there : (n : Name) (place : ℕ) (b0 b1 b2 : BufferView) → IsName v.setup n → IsFlying start v n → place ≡ place_among v.setup.nodes n → b0 ≡ get_or bs n.to b0 → IsSameRun b0 b1 → b1.flying ≡ b0.flying → b1.waiting ≡ b0.waiting → b2 ≡ get_or (set bs n.to b1) n.to b2 → HasPlace b2.flying n.copy place
   room_there n place b0 b1 b2 a fly at h0 r0 same wait h2 =
       let kept = fits_kept f n.to b0 b1 a.to h0 r0 (λ c k. ap (λ (x : List (List (Option Frame))). read_at None x c k) same) wait in
       subst (λ (z : ℕ). HasPlace b2.flying n.copy z) (sym at) (there_in (algorithm_of v.program v.setup) v.rows n b2 n.copy (place_among v.setup.nodes n) (frame_there kept n b2 a fly h2))
 
-  pub room_here : (n : Name) (place : ℕ) (b : Stock) → IsName v.setup n → IsFlying start v n → place ≡ place_among v.setup.nodes n → b ≡ get_or bs n.to b → HasPlace b.flying n.copy place
+  pub room_here : (n : Name) (place : ℕ) (b : BufferView) → IsName v.setup n → IsFlying start v n → place ≡ place_among v.setup.nodes n → b ≡ get_or bs n.to b → HasPlace b.flying n.copy place
   room_here n place b a fly at h =
       subst (λ (z : ℕ). HasPlace b.flying n.copy z) (sym at) (there_in (algorithm_of v.program v.setup) v.rows n b n.copy (place_among v.setup.nodes n) (frame_there f n b a fly h))
 
   -- what stands in flight at the place of a name is its frame
-  pub flight_read : (n : Name) (place : ℕ) (b : Stock) (frame : Frame) → IsName v.setup n → place ≡ place_among v.setup.nodes n → b ≡ get_or bs n.to b → flying_at b n.copy place ≡ Some frame → (frame.name ≡ n) × IsGenuine (algorithm_of v.program v.setup) v.rows frame
+  pub flight_read : (n : Name) (place : ℕ) (b : BufferView) (frame : Frame) → IsName v.setup n → place ≡ place_among v.setup.nodes n → b ≡ get_or bs n.to b → flying_at b n.copy place ≡ Some frame → (frame.name ≡ n) × IsGenuine (algorithm_of v.program v.setup) v.rows frame
   flight_read n place b frame a at h is =
-      let was : stock_at bs n.to ≡ b = stock_read bs n.to b (let s = f.sized in let t = a.to in omega arith) h in
-      let there : flying_at (stock_at bs n.to) n.copy (place_among v.setup.nodes n) ≡ Some frame = ap (λ (x : Stock). flying_at x n.copy (place_among v.setup.nodes n)) was ∙ ap (flying_at b n.copy) (sym at) ∙ is in
+      let was : buffer_at bs n.to ≡ b = buffer_read bs n.to b (let s = f.sized in let t = a.to in omega arith) h in
+      let there : flying_at (buffer_at bs n.to) n.copy (place_among v.setup.nodes n) ≡ Some frame = ap (λ (x : BufferView). flying_at x n.copy (place_among v.setup.nodes n)) was ∙ ap (flying_at b n.copy) (sym at) ∙ is in
       flies_some (algorithm_of v.program v.setup) v.rows n (mark_in start v n) frame (flies_same (algorithm_of v.program v.setup) v.rows n (mark_in start v n) (mark_in start v n) _ (Some frame) refl (sym there) (f.flying n a))
 
   -- the frame of a copy, from that of copy 0
-  pub copy_read : (n : Name) (place : ℕ) (b : Stock) (first frame : Frame) → IsName v.setup n → place ≡ place_among v.setup.nodes n → b ≡ get_or bs n.to b → flying_at b 0 place ≡ Some first → frame ≡ copied_as n.copy first → (frame.name ≡ n) × IsGenuine (algorithm_of v.program v.setup) v.rows frame
+  pub copy_read : (n : Name) (place : ℕ) (b : BufferView) (first frame : Frame) → IsName v.setup n → place ≡ place_among v.setup.nodes n → b ≡ get_or bs n.to b → flying_at b 0 place ≡ Some first → frame ≡ copied_as n.copy first → (frame.name ≡ n) × IsGenuine (algorithm_of v.program v.setup) v.rows frame
   copy_read n place b first frame a at h is made =
       let found = flight_read (original n) place b first (original_named v.setup.nodes v.setup.rounds n a) at h is in
       let g = found.1 in (
@@ -428,15 +428,15 @@ module _ {start : ℕ → ℕ} {v : Log} {bs : List Stock} (f : Fits start v bs)
       )
 
   -- a copy of what is in flight, from the room that was made
-  pub fits_made : (n : Name) (frame : Frame) (place : ℕ) (b0 b1 b2 b3 : Stock) → IsName v.setup n → CanCopy start v n → frame.name ≡ n → IsGenuine (algorithm_of v.program v.setup) v.rows frame → place ≡ place_among v.setup.nodes n → b0 ≡ get_or bs n.to b0 → IsSameRun b0 b1 → SameTables None b0.flying b1.flying → b1.waiting ≡ b0.waiting → b2 ≡ get_or (set bs n.to b1) n.to b2 → IsSameRun b2 b3 → Puts None b2.flying b3.flying n.copy place (Some frame) → b3.waiting ≡ b2.waiting → mark_in start (happened v (Copy n)) n ≡ copied (mark_in start v (original n)) (mark_in start v n) → SameMarksBut start n v (happened v (Copy n)) → SameWaiting start v (happened v (Copy n)) → Fits start (happened v (Copy n)) (set (set bs n.to b1) n.to b3)
+  pub fits_made : (n : Name) (frame : Frame) (place : ℕ) (b0 b1 b2 b3 : BufferView) → IsName v.setup n → CanCopy start v n → frame.name ≡ n → IsGenuine (algorithm_of v.program v.setup) v.rows frame → place ≡ place_among v.setup.nodes n → b0 ≡ get_or bs n.to b0 → IsSameRun b0 b1 → SameTables None b0.flying b1.flying → b1.waiting ≡ b0.waiting → b2 ≡ get_or (set bs n.to b1) n.to b2 → IsSameRun b2 b3 → Puts None b2.flying b3.flying n.copy place (Some frame) → b3.waiting ≡ b2.waiting → mark_in start (happened v (Copy n)) n ≡ copied (mark_in start v (original n)) (mark_in start v n) → SameMarksBut start n v (happened v (Copy n)) → SameWaiting start v (happened v (Copy n)) → Fits start (happened v (Copy n)) (set (set bs n.to b1) n.to b3)
   fits_made n frame place b0 b1 b2 b3 a fit named genuine at h0 r0 same wait h2 r2 puts d mark marks waits =
       let now = copied_now (mark_in start v (original n)) (mark_in start v n) fit.0 fit.1 in
       fits_put (fits_kept f n.to b0 b1 a.to h0 r0 same wait) (Copy n) n frame b2 b3 a named genuine h2 r2
       (subst (λ (z : ℕ). Puts None b2.flying b3.flying n.copy z (Some frame)) at puts) d
       (mark ∙ ap (λ (b : Bool). if b then Flying else mark_in start v n) now) marks waits
 
--- what is spelt in the recorded run is so in a stock's
-pub run_spells : {start : ℕ → ℕ} {v : Log} {bs : List Stock} → Fits start v bs → (k : ℕ) (b : Stock) (frame : Frame)
+-- what is spelt in the recorded run is so in a buffer's
+pub run_spells : {start : ℕ → ℕ} {v : Log} {bs : List BufferView} → Fits start v bs → (k : ℕ) (b : BufferView) (frame : Frame)
     → k < v.setup.nodes → b ≡ get_or bs k b → Spells (algorithm_of v.program v.setup) frame → Spells (run_of b) frame
 run_spells {start} {v} {bs} f k b frame l h said =
     let of : IsOfRun v.program v.setup b = subst (IsOfRun v.program v.setup) (sym h) (f.runs k b (let s = f.sized in omega arith)) in
@@ -444,12 +444,12 @@ run_spells {start} {v} {bs} f k b frame l h said =
     (subst (λ s. Spells (algorithm_of v.program s) frame) (sym of.setup) said)
 
 -- also where room was made in it
-pub run_spells_kept : {start : ℕ → ℕ} {v : Log} {bs : List Stock} → Fits start v bs → (k : ℕ) (b0 b1 b2 : Stock) (frame : Frame)
+pub run_spells_kept : {start : ℕ → ℕ} {v : Log} {bs : List BufferView} → Fits start v bs → (k : ℕ) (b0 b1 b2 : BufferView) (frame : Frame)
     → k < v.setup.nodes → b0 ≡ get_or bs k b0 → IsSameRun b0 b1 → b2 ≡ get_or (set bs k b1) k b2
     → Spells (algorithm_of v.program v.setup) frame → Spells (run_of b2) frame
 run_spells_kept {start} {v} {bs} f k b0 b1 b2 frame l h r h2 said =
     let is : b2 ≡ b1 = h2 ∙ get_or-set_same bs k b1 b2 (let s = f.sized in omega arith) in
     let was = run_spells f k b0 frame l h said in
-    subst (λ (b : Stock). Spells (run_of b) frame) (sym is)
+    subst (λ (b : BufferView). Spells (run_of b) frame) (sym is)
     (subst (λ p. Spells (algorithm_of p b1.setup) frame) (sym r.program)
     (subst (λ s. Spells (algorithm_of b0.program s) frame) (sym r.setup) was))

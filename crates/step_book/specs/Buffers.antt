@@ -5,13 +5,13 @@ use Rattle.round_lang.specs.Syntax.{ProgramTree}
 use Rattle.round_meaning.specs.Rounds.{Algorithm, algorithm_of}
 use Rattle.round_meaning.specs.declared.setup.Setup.{Setup}
 use Rattle.step_machine.specs.declared.event.Name.{Name}
-use Rattle.step_machine.specs.Frames.{Frame, Spells, max_copy}
+use Rattle.step_machine.specs.Sealed.{Frame, Spells, max_copy}
 use Rattle.step_book.specs.Agreement.{Row, row}
 use Rattle.step_book.specs.Tables.{read_at}
 
 -- the frames of one node of a run: in flight to it by copy and place, those that wait for it, and
 -- for how many more there is room
-pub record Stock : Type 0 where
+pub record BufferView : Type 0 where
   pub program : ProgramTree
   pub setup : Setup
   pub flying : List (List (Option Frame))
@@ -25,16 +25,16 @@ pub record AreSpelt (a : Algorithm) (flying : List (List (Option Frame)))
   pub waits : All (Spells a) waiting
 
 -- the algorithm of a buffer's run
-abbrev pub run_of : Stock → Algorithm
+abbrev pub run_of : BufferView → Algorithm
 run_of b = algorithm_of b.program b.setup
 
 -- both are of one run
-pub record IsSameRun (old new : Stock) : Type 0 where
+pub record IsSameRun (old new : BufferView) : Type 0 where
   pub program : new.program ≡ old.program
   pub setup : new.setup ≡ old.setup
 
 -- the frame in flight at a place of a copy's table
-abbrev pub flying_at : Stock → ℕ → ℕ → Option Frame
+abbrev pub flying_at : BufferView → ℕ → ℕ → Option Frame
 flying_at b copy place = read_at None b.flying copy place
 
 -- the names of frames
