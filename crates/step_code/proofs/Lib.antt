@@ -4,6 +4,7 @@ pub mod Holding
 pub mod Ops
 pub mod Changing
 pub mod Visiting
+pub mod Logical
 pub mod Finding
 pub mod Asking
 pub mod Correct
