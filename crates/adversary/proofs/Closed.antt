@@ -10,6 +10,7 @@ use Rattle.round_meaning.specs.declared.setup.Setup.{Setup}
 use Rattle.round_meaning.specs.Rounds.{algorithm_of}
 use Rattle.step_book.proofs.Hearing.{held_begins}
 use Rattle.step_book.specs.Agreement.{row}
+use Rattle.step_book.specs.Causes.{EndsAsRecorded, IsDueIn}
 use Rattle.step_book.specs.Work.{AreCarried}
 use Rattle.step_book.specs.World.{earliest}
 use Rattle.step_book.specs.Log.{Log, closed, count_of, end_state, history, round_of, state_before}
@@ -55,6 +56,26 @@ module _ (start : ℕ → ℕ) (v : Log) (n f : NodeView) (turn : IsSameTurn n f
 
   due_own : count_of v f.me ≡ start (round_of v f.me + 1)
   due_own = subst (λ (i : ℕ). count_of v i ≡ start (round_of v i + 1)) (sym turn.me) due
+
+  -- its end isn't refused
+  pub close_due : n.round ≤ v.setup.rounds → IsDueIn start v f
+  close_due last =
+      let own = at_own in
+      let round : n.round ≡ round_of v f.me = own.round in
+      let same : f.round ≡ n.round = turn.round in
+      let over = due_own in
+      ((omega (arith, last, round), omega (arith, over)), sym round ∙ sym same)
+
+  pub close_ended : n.round ≤ v.setup.rounds → EndsAsRecorded start v f
+  close_ended last =
+      let own = at_own in
+      let some = first_own in
+      let round : f.round ≡ round_of v f.me = turn.round ∙ own.round in
+      let here : n.round ≡ round_of v f.me = own.round in
+      let held = own.held 0 (f.round - 1) (omega arith) (omega (arith, some, round)) (omega (arith, some, round, here, last)) in (
+        ap (state_before v f.me) round ∙ sym own.state ∙ sym turn.state,
+        subst (λ x. AreCarried (world_of start v) (history v) f.me (f.round - 1) x) (sym (ap (λ x. get_or x 0 []) turn.held)) held,
+      )
 
   -- settled it is in the next round
   pub node_closed : (r m : NodeView) → IsSameTurn n r → IsEnd r → HasSettled r m → IsNodeOf start (closed v f) n.me m

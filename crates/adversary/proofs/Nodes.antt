@@ -12,8 +12,9 @@ use Rattle.step_book.proofs.Plans.{is_receive_at}
 use Rattle.step_book.proofs.Reading.{nodes_are}
 use Rattle.step_book.specs.Agreed.{IsSaid}
 use Rattle.step_book.specs.Agreement.{IsBuffer, Row, row}
-use Rattle.step_book.specs.Causes.{IsReceiveFit}
-use Rattle.step_book.specs.Log.{IsReceive, Log, count_of, happened, history, round_of, world_of}
+use Rattle.step_book.specs.Causes.{IsReceiveFit, IsSendFit}
+use Rattle.step_book.specs.Log.{IsDue, IsReceive, Log, count_of, happened, history, round_of}
+use Rattle.step_book.specs.Log.{state_before, world_of}
 use Rattle.step_book.specs.Buffers.{IsMail, names_in}
 use Rattle.step_book.specs.Taking.{HasTaken}
 use Rattle.step_book.specs.Trace.{is_step}
@@ -21,7 +22,8 @@ use Rattle.step_book.specs.Work.{AreCarried}
 use Rattle.step_book.specs.World.{IsPlan, World, is_receive, nodes_of}
 use Rattle.step_machine.specs.declared.event.Event.{Event}
 use Rattle.step_machine.specs.declared.event.Event.TheVariants.{Step}
-use Rattle.step_machine.specs.Sealed.{Frame}
+use Rattle.step_machine.specs.declared.event.Name.{Name}
+use Rattle.step_machine.specs.Sealed.{Frame, Ready}
 use Rattle.step_machine.specs.Nodes.{HasPlaces, NodeView, held_of}
 use Rattle.adversary.specs.Driving.{GoesOn, IsInRound, IsNodeOf}
 use Rattle.adversary.proofs.Settled.{newest, not_its_step}
@@ -109,3 +111,22 @@ is_receive_step start v i p r sent =
     let nodes = nodes_are start v in
     is_receive_at (world_of start v) p (round_of v i) (count_of v i) r.first r.last r.begun r.within
     ∙ le-leb (start (round_of v i) + nodes_of (world_of start v)) (count_of v i) (omega arith)
+
+-- and no round of the node is due
+pub not_due : (start : ℕ → ℕ) (v : Log) (i : ℕ) → IsInRound start v i → ¬ IsDue start v i
+not_due start v i r due = omega (arith, r.within, due.1)
+
+-- so the receive isn't refused
+pub receive_fit : (start : ℕ → ℕ) (v : Log) (i : ℕ) → IsPlan (world_of start v) → IsInRound start v i → start (round_of v i) + v.setup.nodes ≤ count_of v i → IsReceiveFit start v i
+receive_fit start v i p r sent = (not_due start v i r, is_receive_step start v i p r sent)
+
+-- nor is what a node of the run has ready for its slot
+pub send_fit : (start : ℕ → ℕ) (v : Log) (i dest : ℕ) (n : NodeView) (p : Ready) → IsInRound start v i → count_of v i ≡ start (round_of v i) + dest → IsNodeOf start v i n → p.name ≡ record { from = n.me; to = dest; round = n.round; copy = 0 } → p.state ≡ n.state → IsSendFit start v p
+send_fit start v i dest n p r slot h name state =
+    let from : p.name.from ≡ i = ap (λ (x : Name). x.from) name ∙ h.me in
+    let round : p.name.round ≡ round_of v i = ap (λ (x : Name). x.round) name ∙ h.round in
+    let to : p.name.to ≡ dest = ap (λ (x : Name). x.to) name in (
+      subst (λ k. ¬ IsDue start v k) (sym from) (not_due start v i r),
+      ap (count_of v) from ∙ slot ∙ ap (λ k. start k + dest) (sym round) ∙ ap (λ k. start p.name.round + k) (sym to),
+      ap (λ k. state_before v k p.name.round) from ∙ ap (state_before v i) round ∙ sym h.state ∙ sym state,
+    )

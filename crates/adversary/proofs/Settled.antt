@@ -125,7 +125,15 @@ settled_rest start old new e quiet is settled j node due =
       omega (arith, due.1, count, ap (λ r. start (r + 1)) round),
     )
 
--- what follows from three facts of a call that went well
+-- what follows from facts of a call that went well
 pub on_ok : {R E A B C D : Type 0} (r : Result R E) → OnOk r A → OnOk r B → OnOk r C → (A → B → C → D) → OnOk r D
 on_ok (Ok x) a b c f = f a b c
 on_ok (Err e) a b c f = tt
+
+pub on_each : {R E A B : Type 0} (r : Result R E) → OnOk r A → (A → B) → OnOk r B
+on_each (Ok x) a f = f a
+on_each (Err e) a f = tt
+
+pub on_four : {R E A B C D F : Type 0} (r : Result R E) → OnOk r A → OnOk r B → OnOk r C → OnOk r D → (A → B → C → D → F) → OnOk r F
+on_four (Ok x) a b c d f = f a b c d
+on_four (Err e) a b c d f = tt

@@ -52,6 +52,12 @@ pub record IsOneMore (old new : Log) (e : Event) : Type 0 where
   pub setup : new.setup ≡ old.setup
   pub trace : new.trace ≡ old.trace ++ e ∷ []
 
+-- the run went on by these events
+pub record AreMore (old new : Log) (events : List Event) : Type 0 where
+  pub program : new.program ≡ old.program
+  pub setup : new.setup ≡ old.setup
+  pub trace : new.trace ≡ old.trace ++ events
+
 -- no round of the node is due and open
 abbrev pub IsSettled : (ℕ → ℕ) → Log → ℕ → Type 0
 IsSettled start v i = ¬ (IsDue start v i)

@@ -8,8 +8,8 @@ ghost use Rattle.step_book.specs.Buffers.{IsMail};
 ghost use Rattle.step_book.specs.Taking.{HasTaken};
 ghost use Rattle.step_machine.specs.Nodes.{HasPlaces, algorithm_in};
 ghost use Rattle.step_machine.specs.declared.event.Event.TheVariants as event;
-ghost use Rattle.adversary.specs.Driving.{AreNodesOf, ClosedAreDue, GoesOn, IsInRound, IsKnown};
-ghost use Rattle.adversary.specs.Driving.{IsNodeOf, IsOneMore, IsSettled};
+ghost use Rattle.adversary.specs.Driving.{AreMore, AreNodesOf, ClosedAreDue, GoesOn, IsDriven};
+ghost use Rattle.adversary.specs.Driving.{IsInRound, IsKnown, IsNodeOf, IsOneMore, IsSettled};
 
 use round_check::Checked;
 use round_lang::NoMemory;
@@ -17,7 +17,6 @@ use round_meaning::Setup;
 use slot_plans::Plan;
 use std::alloc::Global;
 use std::marker::Model;
-use step_book::{CloseFault, IdleFault, ReceiveFault, SendFault};
 use step_journal::Journal;
 use step_machine::{Event, Name, Node, Sealed};
 
@@ -87,12 +86,22 @@ impl<P: Plan> Driver<P> {
             mut journal,
             mut nodes,
         } = self;
-        journal.book().agrees();
-        match event {
-            Event::Step(node) => step(&mut journal, &mut nodes[node as usize], node)?,
-            Event::Release(name) => release(&mut journal, name)?,
-            Event::Drop(name) => lose(&mut journal, name)?,
-            Event::Copy(name) => copy(&mut journal, name)?,
+        act(&mut journal, &mut nodes, event)?;
+        Ok(Driver { journal, nodes })
+    }
+
+    /// The run with these events more, one after the other, each as by [`Driver::act`].
+    pub fn act_all(self, events: &[Event]) -> Result<Driver<P>, NoMemory>
+        requires { All (IsKnown self.log.setup) events.now }
+        ensures plan { IfOk result (λ driver. driver.plan ≡ self.plan) }
+        ensures log { IfOk result (λ driver. AreMore self.log driver.log events.now) }
+    {
+        let Driver {
+            mut journal,
+            mut nodes,
+        } = self;
+        for event in events {
+            act(&mut journal, &mut nodes, *event)?;
         }
         Ok(Driver { journal, nodes })
     }
@@ -119,6 +128,28 @@ fn first_nodes(alloc: Global, program: &Checked, setup: &Setup) -> Result<Vec<No
         nodes.push(Node::new(alloc, program, setup, me)?)?;
     }
     Ok(nodes)
+}
+
+/// One event more.
+fn act<P: Plan>(
+    journal: &mut Journal<P>,
+    nodes: &mut Vec<Node>,
+    event: Event,
+) -> Result<(), NoMemory>
+    requires driven { IsDriven (P.start journal.old.plan) journal.old.log nodes.old.items }
+    requires known { IsKnown journal.old.log.setup event }
+    ensures plan { OnOk result (journal.new.plan ≡ journal.old.plan) }
+    ensures log { OnOk result (IsOneMore journal.old.log journal.new.log event) }
+    ensures driven { OnOk result
+        (IsDriven (P.start journal.new.plan) journal.new.log nodes.new.items) }
+{
+    journal.book().agrees();
+    match event {
+        Event::Step(node) => step(journal, &mut nodes[node as usize], node),
+        Event::Release(name) => release(journal, name),
+        Event::Drop(name) => lose(journal, name),
+        Event::Copy(name) => copy(journal, name),
+    }
 }
 
 /// The network lets a message go.
@@ -190,11 +221,7 @@ fn idle<P: Plan>(journal: &mut Journal<P>, me: u32) -> Result<(), NoMemory>
     ensures log { OnOk result (GoesOn journal.old.log journal.new.log me (event.Step me ∷ [])) }
     ensures row { OnOk result (row journal.new.log.rows me ≡ row journal.old.log.rows me) }
 {
-    match journal.idle_step(me) {
-        Ok(()) => Ok(()),
-        Err(IdleFault::NoMemory) => Err(NoMemory),
-        Err(IdleFault::NotPast) => unreachable!(),
-    }
+    journal.record_idle_step(me)
 }
 
 /// A send step: what the node has for another.
@@ -217,15 +244,11 @@ fn send<P: Plan>(
     ensures node { OnOk result (IsNodeOf (P.start journal.new.plan) journal.new.log me node.new) }
 {
     let prepared = node.prepare(dest)?;
-    match journal.send(prepared) {
-        Ok(()) => Ok(()),
-        Err(refused) => match refused.fault {
-            SendFault::NoMemory => Err(NoMemory),
-            SendFault::NotClosed => unreachable!(),
-            SendFault::NotItsSlot => unreachable!(),
-            SendFault::Stranger => unreachable!(),
-        },
+    match journal.record_send(prepared) {
+        Ok(()) => {}
+        Err(_) => return Err(NoMemory),
     }
+    Ok(())
 }
 
 /// A receive step: the node takes what was handed out.
@@ -241,15 +264,9 @@ fn receive<P: Plan>(journal: &mut Journal<P>, node: &mut Node, me: u32) -> Resul
     ensures row { OnOk result (row journal.new.log.rows me ≡ row journal.old.log.rows me) }
     ensures node { OnOk result (IsNodeOf (P.start journal.new.plan) journal.new.log me node.new) }
 {
-    match journal.receive(me) {
-        Ok(took) => {
-            take_all(node, took.frames);
-            Ok(())
-        }
-        Err(ReceiveFault::NoMemory) => Err(NoMemory),
-        Err(ReceiveFault::NotClosed) => unreachable!(),
-        Err(ReceiveFault::NotItsSlot) => unreachable!(),
-    }
+    let took = journal.record_receive(me)?;
+    take_all(node, took.frames);
+    Ok(())
 }
 
 /// The node takes frames that were sent to it, in their order.
@@ -280,13 +297,7 @@ fn close<P: Plan>(journal: &mut Journal<P>, node: &mut Node) -> Result<(), NoMem
         (IsNodeOf (P.start journal.new.plan) journal.new.log node.old.me node.new) }
 {
     let finished = node.finish();
-    match journal.close(&finished) {
-        Ok(()) => {
-            node.settle();
-            Ok(())
-        }
-        Err(CloseFault::NoMemory) => Err(NoMemory),
-        Err(CloseFault::NotDue) => unreachable!(),
-        Err(CloseFault::Stranger) => unreachable!(),
-    }
+    journal.record_close(&finished)?;
+    node.settle();
+    Ok(())
 }

@@ -103,8 +103,5 @@ fn run<P: Plan>(
 {
     let mut driver = Driver::open(alloc, program, setup, plan)?;
     driver.reserve(events.len())?;
-    for event in events {
-        driver = driver.act(*event)?;
-    }
-    Ok(driver.into_journal())
+    Ok(driver.act_all(events)?.into_journal())
 }
