@@ -9,7 +9,7 @@ returns-in-Ok-clause-node g c =
     let j = c.args.journal.now in
     let start = g.P.Plan.start j.plan in
     let e = c.settle.ensures in
-    let kept = c.finish-finished.follows.holds-at-none in
+    let kept = c.finish.follows.holds-at-none in
     subst (λ (z : Recorded _). IsNodeOf (g.P.Plan.start z.plan) z.log c.args.node.now.me c.settle.new.self) (sym c.in-Ok.ensures.ok)
-    (node_closed start j.log c.args.node.now c.finish-finished.result.node.now c.finish-finished.ensures.ended c.requires.node c.requires.first c.requires.due
-    c.finish-finished.follows.lender-at-none c.settle.new.self kept.0 kept.1 e)
+    (node_closed start j.log c.args.node.now c.finish.result.node.now c.finish.ensures.ended c.requires.node c.requires.first c.requires.due
+    c.finish.follows.lender-at-none c.settle.new.self kept.0 kept.1 e)
