@@ -205,6 +205,9 @@ fn copy_open_until<P: Plan>(book: &Book<P>, name: Name, copy: u32) -> u64
 fn has_receive<P: Plan>(book: &Book<P>, low: u64, high: u64) -> bool
     ensures { IsTrue result ↔ HasReceive (world_of (P.start book.now.plan) book.now.log) low high }
 {
+    if high <= low {
+        return false;
+    }
     book.agrees();
     let plan = book.plan();
     if low >= u64::from(plan.start(book.setup().rounds + 1)) {

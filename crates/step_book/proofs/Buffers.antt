@@ -3,7 +3,7 @@ use Rattle.std.proofs.Common.{◌≡◌, ℕ, zero, suc, ◌+◌, ◌==◌, ◌<
 use Rattle.std.proofs.Common.{[], ◌∷◌, ◌++◌, Option, Some, None, sym, refl, ap, if◌then◌else◌, ◌∙◌}
 use Rattle.std.proofs.Common.{arith, ◌⊎◌, inl, inr, is_some}
 use Rattle.std.specs.List.{count_by}
-use Rattle.std.proofs.lemmas.Bool.{and_left, and_parts, and_right, cases_eq, ne_eqb}
+use Rattle.std.proofs.lemmas.Bool.{and_left, and_parts, cases_eq, ne_eqb}
 use Rattle.std.proofs.lemmas.Grind.{common_steps}
 use Rattle.round_lang.specs.declared.value.Value.{Value}
 use Rattle.step_machine.specs.declared.event.Name.{Name}
@@ -14,7 +14,7 @@ use Rattle.step_book.specs.declared.mark.Mark.{Mark}
 use Rattle.step_book.specs.declared.mark.Mark.TheVariants as mark
 use Rattle.step_book.specs.Fates.{Fate, Unmade, Moving, Waiting, Taken, Lost, after, fate, is_take}
 use Rattle.step_book.specs.Fates.{is_waiting, makes}
-use Rattle.step_book.specs.History.{arrival, arrived, buffer_of, hushed, is_buffered, mark_of}
+use Rattle.step_book.specs.History.{arrival, buffer_of, hushed, is_buffered, mark_of}
 use Rattle.step_book.specs.History.{marked, message}
 use Rattle.step_book.specs.Trace.{is_drop, is_name, is_release, is_step, steps}
 use Rattle.step_book.specs.World.{IsPlan, World, is_receive}

@@ -1,28 +1,27 @@
 -- What a later event leaves of the run in rounds and of each message.
 use Rattle.std.proofs.Common.{◌≡◌, ℕ, zero, suc, ◌+◌, ◌-◌, ◌<◌, ◌≤◌, ◌==◌, Bool, true, false, not}
-use Rattle.std.proofs.Common.{◌&&◌, List, [], ◌∷◌, Option, Some, None, sym, refl, ap, if◌then◌else◌}
-use Rattle.std.proofs.Common.{◌∙◌, arith, add-one, ◌⊎◌, inl, inr}
+use Rattle.std.proofs.Common.{List, ◌∷◌, Option, Some, None, sym, refl, ap, if◌then◌else◌}
+use Rattle.std.proofs.Common.{◌∙◌, arith, add-one}
 use Rattle.std.proofs.lemmas.Bool.{and_right, and_from, eq-eqb, eqb-true, ne_eqb}
 use Rattle.round_lang.specs.declared.value.Value.{Value}
 use Rattle.round_meaning.specs.declared.received.Received.{Received}
 use Rattle.round_meaning.specs.Rounds.{rounds, inbox, received}
 use Rattle.round_meaning.proofs.RoundLaws.{filter_map_same}
 use Rattle.step_machine.specs.declared.event.Event.{Event}
-use Rattle.step_machine.specs.declared.event.Event.TheVariants.{Step, Release, Drop, Copy}
+use Rattle.step_machine.specs.declared.event.Event.TheVariants.{Release, Drop, Copy}
 use Rattle.step_machine.specs.declared.event.Name.{Name}
 use Rattle.step_machine.specs.Sealed.{original}
 use Rattle.step_book.specs.declared.mark.Mark.{Mark}
 use Rattle.step_book.specs.declared.mark.Mark.TheVariants as mark
 use Rattle.step_book.specs.Fates.{Fate, Unmade, Moving, Waiting, Taken, Lost, after, carried, fate}
 use Rattle.step_book.specs.Fates.{is_moving, is_slot, is_take, makes}
-use Rattle.step_book.specs.History.{copied, dropped, hushed, is_copied, is_flying, is_unsent}
+use Rattle.step_book.specs.History.{copied, dropped, hushed, is_flying, is_unsent}
 use Rattle.step_book.specs.History.{let_go, mark_of, marked, message, spoken, state}
-use Rattle.step_book.specs.Names.{IsNameOf}
 use Rattle.step_book.specs.Trace.{is_copy, is_drop, is_release, is_step, steps}
 use Rattle.step_book.specs.World.{World, nodes_of, IsPlan}
 use Rattle.step_book.proofs.Fates.{carried_kept, carried_sent, fate_next, made_sent, unmade_before}
 use Rattle.step_book.proofs.Names.{own_name}
-use Rattle.step_book.proofs.Places.{steps_grow, steps_more}
+use Rattle.step_book.proofs.Places.{steps_more}
 use Rattle.step_book.proofs.Plans.{start_le}
 
 -- an entry of an inbox is the same where it's omitted in both, or the messages are the same

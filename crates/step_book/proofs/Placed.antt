@@ -1,10 +1,10 @@
 -- What a history says of a copy, by places in the list of events.
 use Rattle.std.proofs.Common.{◌≡◌, ℕ, zero, suc, ◌+◌, ◌==◌, ◌<◌, ◌≤◌, Bool, true, false, ◌&&◌, List}
-use Rattle.std.proofs.Common.{[], ◌∷◌, length, Option, Some, None, sym, subst, refl, ap}
+use Rattle.std.proofs.Common.{[], ◌∷◌, length, Option, Some, sym, subst, refl, ap}
 use Rattle.std.proofs.Common.{if◌then◌else◌, ◌∙◌, arith, ◌⊎◌, inl, inr}
 use Rattle.std.specs.Prelude.{reverse}
 use Rattle.std.specs.List.{count_by, slice_get}
-use Rattle.std.proofs.lemmas.Bool.{cases_Bool, cases_lt, and_from, and_parts, lt-ltb, ltb-true}
+use Rattle.std.proofs.lemmas.Bool.{cases_lt, and_from, and_parts, lt-ltb, ltb-true}
 use Rattle.std.proofs.lemmas.Bool.{le-leb, leb-true, eq-eqb, eqb-true, or_cases}
 use Rattle.std.proofs.lemmas.List.{length-reverse}
 use Rattle.std.proofs.lemmas.Option.{same_Some, slice_get_within}
@@ -17,11 +17,11 @@ use Rattle.step_book.specs.Fates.{is_moving, is_slot, is_take, makes, taken_near
 use Rattle.step_book.specs.Places.{Copied, IsCarried, IsCarriedAs, IsCopiedAt, IsCopyAt, IsDropAt}
 use Rattle.step_book.specs.Places.{IsFirstAfter, IsLeftAt, IsMadeAt, IsReceiveAt, IsReceiveOf}
 use Rattle.step_book.specs.Places.{IsReleaseAt, IsSlotAt, IsStepAt, Sent, steps_before}
-use Rattle.step_book.specs.Trace.{is_copy, is_drop, is_name, is_release, is_step, steps}
-use Rattle.step_book.specs.World.{World, earliest, is_receive, lies_near, nodes_of, receives_by}
+use Rattle.step_book.specs.Trace.{is_copy, is_drop, is_release, is_step, steps}
+use Rattle.step_book.specs.World.{World, earliest, is_receive, nodes_of, receives_by}
 use Rattle.step_book.specs.World.{receives_in}
 use Rattle.step_book.proofs.Fates.{carried_by, copy_to, fate_first, fate_next, some_found, some_of}
-use Rattle.step_book.proofs.Moments.{At, Newest, at_steps, at_within, place_at, read_newest}
+use Rattle.step_book.proofs.Moments.{Newest, at_steps, at_within, place_at, read_newest}
 use Rattle.step_book.proofs.Moments.{read_older, step_rises, take_older}
 use Rattle.step_book.proofs.Names.{one_name, own_name}
 use Rattle.step_book.proofs.Plans.{lies_within, receives_by_in}

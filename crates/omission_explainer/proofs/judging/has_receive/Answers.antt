@@ -6,6 +6,9 @@ use Rattle.omission_explainer.proofs.Slots.{receive_first}
 use Rattle.omission_explainer.proofs.judging.has_receive.Goals as goal
 use Rattle.omission_explainer.proofs.judging.has_receive.Goals.{in-Send, in-Receive}
 
+pub returns-then-high-low : goal.returns-then-high-low
+returns-then-high-low g c = (λ h. cc, λ h. let a = h.after in let b = h.before in absurd (omega (arith, c.if-high-low.true)))
+
 pub returns-then-low-from : goal.returns-then-low-from
 returns-then-low-from g c =
     let v = c.args.book.now.log in

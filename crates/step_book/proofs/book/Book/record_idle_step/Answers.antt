@@ -1,11 +1,11 @@
 use Rattle.step_book.specs.Agreed.{KeepsClosed}
 use Rattle.step_book.proofs.Later.{kept_happened}
-use Rattle.std.proofs.Common.{◌<◌, arith, sym, subst}
+use Rattle.std.proofs.Common.{arith, sym, subst}
 use Rattle.step_machine.specs.declared.event.Event.TheVariants.{Step}
-use Rattle.step_book.specs.Log.{Log, SameMarks, SameWaiting, round_of}
+use Rattle.step_book.specs.Log.{Log, SameMarks, SameWaiting}
 use Rattle.step_book.proofs.Events.{count_le, idle, to_fields}
 use Rattle.step_book.proofs.Leaves.{idle_marks, idle_waiting}
-use Rattle.step_book.proofs.Reading.{of_view, nodes_view, rounds_view, trace_view, log_view}
+use Rattle.step_book.proofs.Reading.{of_view, nodes_view, trace_view, log_view}
 use Rattle.step_book.proofs.book.Book.record_idle_step.Goals as goal
 
 pub note_step-requires-clause-counted : goal.note_step-requires-clause-counted
