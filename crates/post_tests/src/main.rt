@@ -14,6 +14,8 @@
 //! memory. Standard output has how each node ended, and the report.
 #![tactic(auto)]
 
+ghost use Rattle.std.specs.Prelude.{◌≡◌};
+
 mod alone;
 mod fault;
 mod forwarding;
