@@ -11,7 +11,7 @@ use round_check::Checked;
 use round_meaning::Setup;
 use slot_plans::Plan;
 use std::alloc::Global;
-use std::sync::atomic::{AtomicBool, AtomicU32, Ordering};
+use std::sync::atomic::{AtomicBool, Ordering};
 use std::sync::{Mutex, Wait};
 use step_machine::Node;
 
@@ -98,7 +98,6 @@ pub fn answer<R: Wait, P: Plan>(
     program: &Checked,
     setup: &Setup,
     plan: P,
-    limit: u32,
 ) -> Result<String, Fault>
     requires lawful { IsLawful program.now.values setup.now }
     requires nodes { P.nodes plan ≡ setup.now.nodes }
@@ -106,14 +105,11 @@ pub fn answer<R: Wait, P: Plan>(
     let mut out = String::new(alloc);
     let (post, seats, relay) = Post::open(alloc, program, setup, plan)?;
     let relay = Mutex::new(relay);
-    let calls = AtomicU32::new(0);
     let has_failed = AtomicBool::new(false);
     let mail = Forwarding {
         rt,
         post: &post,
         relay: &relay,
-        calls: &calls,
-        limit,
         has_failed: &has_failed,
     };
     let seats = run_all(alloc, &mail, program, setup, plan, seats, &mut out)?;

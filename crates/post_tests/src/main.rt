@@ -2,7 +2,7 @@
 //!
 //! ```text
 //! post_tests row SOURCE
-//! post_tests alone SOURCE CALLS
+//! post_tests alone SOURCE
 //! ```
 //!
 //! SOURCE is the file of a program, or `gather:K` for K values. With `row`, standard input is a
@@ -10,8 +10,8 @@
 //! event was answered, whether both answered the same, and the report of the post's journal.
 //!
 //! With `alone`, the nodes of a schedule without events run one after another over calls that
-//! release each message as soon as it was sent, and of which each after the first CALLS is out of
-//! memory. Standard output has how each node ended, and the report.
+//! release each message as soon as it was sent. Standard output has how each node ended, and the
+//! report.
 #![tactic(auto)]
 
 ghost use Rattle.std.specs.Prelude.{◌≡◌};
@@ -63,19 +63,16 @@ fn answer_planned<R: Wait, P: Plan>(
     program: &Checked,
     schedule: &Schedule,
     plan: P,
-    words: &[&str],
+    word: &str,
 ) -> Result<String, Fault>
     requires { P.nodes plan ≡ schedule.now.setup.nodes }
 {
     if !schedule.setup.is_lawful(program) {
         return Err(Fault::Unreadable);
     }
-    match words {
-        ["row"] => row::answer(rt, alloc, program, schedule, plan),
-        ["alone", calls] => {
-            let calls = calls.parse().map_err(|_| Fault::Unreadable)?;
-            alone::answer(rt, alloc, program, &schedule.setup, plan, calls)
-        }
+    match word {
+        "row" => row::answer(rt, alloc, program, schedule, plan),
+        "alone" => alone::answer(rt, alloc, program, &schedule.setup, plan),
         _ => Err(Fault::Unreadable),
     }
 }
@@ -85,18 +82,18 @@ fn answer_text<R: Wait>(
     alloc: Global,
     program: &Checked,
     input: &str,
-    words: &[&str],
+    word: &str,
 ) -> Result<String, Fault> {
     let schedule = read_schedule(alloc, input)?;
     let nodes = schedule.setup.nodes;
     match schedule.plan {
         PlanKind::Known(delta) => {
             let plan = Known::new(nodes, delta).ok_or(Fault::Unreadable)?;
-            answer_planned(rt, alloc, program, &schedule, plan, words)
+            answer_planned(rt, alloc, program, &schedule, plan, word)
         }
         PlanKind::Growing => {
             let plan = Growing::new(nodes).ok_or(Fault::Unreadable)?;
-            answer_planned(rt, alloc, program, &schedule, plan, words)
+            answer_planned(rt, alloc, program, &schedule, plan, word)
         }
     }
 }
@@ -104,19 +101,12 @@ fn answer_text<R: Wait>(
 /// Does what the words say, and gives what is to be printed.
 fn answer<R: Wait>(rt: &HostRuntime, waiter: &R, alloc: Global) -> Result<String, Fault> {
     let words = env::args(rt)?.collect::<Vec<String>>(alloc)?;
-    let [_, kind, source, rest @ ..] = words.as_slice() else {
+    let [_, word, source] = words.as_slice() else {
         return Err(Fault::Unreadable);
     };
     let program = program(rt, alloc, source.as_str())?;
     let input = io::read_to_string(alloc, rt.reader())?;
-    match rest {
-        [] => answer_text(waiter, alloc, &program, &input, &[kind.as_str()]),
-        [calls] => {
-            let words = [kind.as_str(), calls.as_str()];
-            answer_text(waiter, alloc, &program, &input, &words)
-        }
-        _ => Err(Fault::Unreadable),
-    }
+    answer_text(waiter, alloc, &program, &input, word.as_str())
 }
 
 fn run<R: Wait>(rt: &HostRuntime, waiter: &R) -> Result<(), Fault> {
