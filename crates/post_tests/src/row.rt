@@ -1,6 +1,6 @@
 //! One schedule's events, recorded by a journal and by a post.
 ghost use Rattle.std.specs.Prelude.{◌≡◌, ◌<◌, ◌≤◌, All, IfOk, IsTrue};
-ghost use Rattle.round_meaning.specs.Setups.{IsLawful, IsSetup};
+ghost use Rattle.round_meaning.specs.Setups.{IsLawful, IsSetup, max_rounds};
 ghost use Rattle.step_book.specs.Names.{IsName};
 ghost use Rattle.step_book.specs.Buffers.{IsMail};
 ghost use Rattle.step_machine.specs.Nodes.{algorithm_in};
@@ -43,13 +43,21 @@ fn write_name(out: &mut String, name: Name) -> Result<(), Fault> {
     Ok(())
 }
 
-/// The number of a node of at least one.
-fn number_of(node: &mut Node) -> Result<u32, Fault>
-    requires { 0 < node.old.setup.nodes }
+/// The number of a node that the plan has.
+fn number_of<P: Plan>(plan: P, node: &mut Node) -> Result<u32, Fault>
+    requires { P.nodes plan ≡ node.old.setup.nodes }
     ensures me { IfOk result (λ me. me ≡ node.old.me) }
+    ensures within { IfOk result (λ me. me < node.old.setup.nodes) }
     ensures node { node.new ≡ node.old }
 {
-    Ok(node.prepare(0)?.name().from)
+    if plan.nodes() == 0 {
+        return Err(Fault::Unreadable);
+    }
+    let me = node.prepare(0)?.name().from;
+    if me >= plan.nodes() {
+        return Err(Fault::Unreadable);
+    }
+    Ok(me)
 }
 
 /// A send step.
@@ -166,6 +174,7 @@ fn step<P: Plan, C: Recorder>(
 ) -> Result<(), Fault>
     requires nodes { P.nodes plan ≡ node.old.setup.nodes }
     requires rounds { rounds ≡ node.old.setup.rounds }
+    requires few { rounds ≤ max_rounds }
     requires program { node.old.program ≡ C.program recorder.old }
     requires setup { node.old.setup ≡ C.setup recorder.old }
     ensures program { C.program recorder.new ≡ C.program recorder.old }
@@ -178,10 +187,7 @@ fn step<P: Plan, C: Recorder>(
         out.push_str("past its last round")?;
         return Ok(());
     }
-    let me = number_of(node)?;
-    if me >= plan.nodes() {
-        return Err(Fault::Unreadable);
-    }
+    let me = number_of(plan, node)?;
     let offset = recorder
         .steps(me)
         .saturating_sub(u64::from(plan.start(round)));
@@ -190,6 +196,7 @@ fn step<P: Plan, C: Recorder>(
     } else {
         receive(recorder, node, me, out)?;
     }
+    let me = number_of(plan, node)?;
     if node.round() <= rounds && recorder.steps(me) == u64::from(plan.start(round + 1)) {
         close(recorder, node, me, out)?;
     }
@@ -241,6 +248,7 @@ fn act<P: Plan, C: Recorder>(
     out: &mut String,
 ) -> Result<(), Fault>
     requires plan { P.nodes plan ≡ setup.now.nodes }
+    requires few { setup.now.rounds ≤ max_rounds }
     requires setup { setup.now ≡ C.setup recorder.old }
     requires nodes { All (λ n. (n.program ≡ C.program recorder.old) × (n.setup ≡ setup.now))
         nodes.old }
