@@ -17,6 +17,7 @@ use step_machine::{Finished, Name, Prepared, Sealed};
 /// What records the events of a run, of which `program` and `setup` are those.
 pub trait Recorder {
     ghost program: { Self → ProgramTree };
+
     ghost setup: { Self → OneSetup };
 
     /// How many steps of the node are recorded.
@@ -78,6 +79,7 @@ fn as_post(fault: ReceiveFault) -> PostFault {
 
 impl<P: Plan> Recorder for Journal<P> {
     ghost program = { λ journal. journal.log.program };
+
     ghost setup = { λ journal. journal.log.setup };
 
     fn steps(&self, me: u32) -> u64 {
@@ -125,6 +127,7 @@ pub struct Counter<'a, R: Wait, P: Plan> {
 
 impl<'a, R: Wait, P: Plan> Recorder for Counter<'a, R, P> {
     ghost program = { λ counter. counter.post.program };
+
     ghost setup = { λ counter. counter.post.setup };
 
     fn steps(&self, me: u32) -> u64 {
