@@ -243,7 +243,7 @@ fn act<P: Plan, C: Recorder>(
     recorder: &mut C,
     plan: P,
     setup: &Setup,
-    nodes: &mut [Node],
+    nodes: &mut Vec<Node>,
     event: Event,
     out: &mut String,
 ) -> Result<(), Fault>
@@ -251,17 +251,20 @@ fn act<P: Plan, C: Recorder>(
     requires few { setup.now.rounds ≤ max_rounds }
     requires setup { setup.now ≡ C.setup recorder.old }
     requires nodes { All (λ n. (n.program ≡ C.program recorder.old) × (n.setup ≡ setup.now))
-        nodes.old }
+        nodes.old.items }
     ensures program { C.program recorder.new ≡ C.program recorder.old }
     ensures setup { C.setup recorder.new ≡ C.setup recorder.old }
     ensures nodes { All (λ n. (n.program ≡ C.program recorder.old) × (n.setup ≡ setup.now))
-        nodes.new }
+        nodes.new.items }
 {
     match event {
-        Event::Step(node) => match nodes.get_mut(node as usize) {
-            Some(node) => step(recorder, plan, setup.rounds, node, out),
-            None => Err(Fault::Unreadable),
-        },
+        Event::Step(node) => {
+            if node as usize >= nodes.len() {
+                return Err(Fault::Unreadable);
+            }
+            let node = &mut nodes[node as usize];
+            step(recorder, plan, setup.rounds, node, out)
+        }
         _ => happen(recorder, setup, event, out),
     }
 }
