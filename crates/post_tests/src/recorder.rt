@@ -1,0 +1,175 @@
+//! What records a run's events: a journal, or a post with its seats and its relay.
+ghost use Rattle.std.specs.Prelude.{◌≡◌, ◌<◌, All, IfOk};
+ghost use Rattle.round_lang.specs.Syntax.{ProgramTree};
+ghost use Rattle.round_meaning.specs.Rounds.{algorithm_of};
+ghost use Rattle.round_meaning.specs.declared.setup.Setup.{Setup as OneSetup};
+ghost use Rattle.step_book.specs.Names.{IsName};
+ghost use Rattle.step_book.specs.Buffers.{IsMail};
+ghost use Rattle.step_machine.specs.Sealed.{IsPrepared};
+
+use locked_buffers::{OpenGate, Post, PostFault, Relay, RelayFault, Seat};
+use slot_plans::Plan;
+use std::sync::Wait;
+use step_book::{CloseFault, ReceiveFault, SendFault};
+use step_journal::Journal;
+use step_machine::{Finished, Name, Prepared, Sealed};
+
+/// What records the events of a run, of which `program` and `setup` are those.
+pub trait Recorder {
+    ghost program: { Self → ProgramTree };
+
+    ghost setup: { Self → OneSetup };
+
+    /// How many steps of the node are recorded.
+    fn steps(&self, me: u32) -> u64
+        requires { me < (setup self.now).nodes };
+
+    /// A send step of the node.
+    fn send(&mut self, me: u32, prepared: Prepared) -> Result<(), SendFault>
+        requires name { IsName (setup self.old) prepared.name }
+        requires own { prepared.name.from ≡ me }
+        requires work { IsPrepared (algorithm_of (program self.old) (setup self.old)) prepared }
+        ensures program { program self.new ≡ program self.old }
+        ensures setup { setup self.new ≡ setup self.old };
+
+    /// A receive step of the node.
+    fn receive(&mut self, me: u32) -> Result<Vec<Sealed>, PostFault>
+        requires { me < (setup self.old).nodes }
+        ensures mail { IfOk result (λ frames. All (IsMail
+            (algorithm_of (program self.old) (setup self.old)) (setup self.old).nodes me)
+            frames.items) }
+        ensures program { program self.new ≡ program self.old }
+        ensures setup { setup self.new ≡ setup self.old };
+
+    /// Closes the node's due round.
+    fn close(&mut self, me: u32, finished: &Finished<'_>) -> Result<(), CloseFault>
+        requires program { finished.now.node.now.program ≡ program self.old }
+        requires setup { finished.now.node.now.setup ≡ setup self.old }
+        requires own { finished.now.node.now.me ≡ me }
+        ensures program { program self.new ≡ program self.old }
+        ensures setup { setup self.new ≡ setup self.old };
+
+    /// Lets a copy go: whether it was in flight.
+    fn release(&mut self, name: Name) -> Result<bool, RelayFault>
+        requires { IsName (setup self.old) name }
+        ensures program { program self.new ≡ program self.old }
+        ensures setup { setup self.new ≡ setup self.old };
+
+    /// Loses a copy: whether it was in flight.
+    fn lose(&mut self, name: Name) -> Result<bool, RelayFault>
+        requires { IsName (setup self.old) name }
+        ensures program { program self.new ≡ program self.old }
+        ensures setup { setup self.new ≡ setup self.old };
+
+    /// Makes a copy: whether it could be made.
+    fn copy(&mut self, name: Name) -> Result<bool, RelayFault>
+        requires name { IsName (setup self.old) name }
+        requires other { 0 < name.copy }
+        ensures program { program self.new ≡ program self.old }
+        ensures setup { setup self.new ≡ setup self.old };
+}
+
+fn as_post(fault: ReceiveFault) -> PostFault {
+    match fault {
+        ReceiveFault::NotItsSlot => PostFault::NotItsSlot,
+        ReceiveFault::NotClosed => PostFault::NotClosed,
+        ReceiveFault::NoMemory => PostFault::NoMemory,
+    }
+}
+
+impl<P: Plan> Recorder for Journal<P> {
+    ghost program = { λ journal. journal.log.program };
+
+    ghost setup = { λ journal. journal.log.setup };
+
+    fn steps(&self, me: u32) -> u64 {
+        self.book().count_of(me)
+    }
+
+    fn send(&mut self, me: u32, prepared: Prepared) -> Result<(), SendFault> {
+        let _me = me;
+        self.send(prepared).map_err(|refused| refused.fault)
+    }
+
+    fn receive(&mut self, me: u32) -> Result<Vec<Sealed>, PostFault> {
+        match self.receive(me) {
+            Ok(took) => Ok(took.frames),
+            Err(fault) => Err(as_post(fault)),
+        }
+    }
+
+    fn close(&mut self, me: u32, finished: &Finished<'_>) -> Result<(), CloseFault> {
+        let _me = me;
+        self.close(finished)
+    }
+
+    fn release(&mut self, name: Name) -> Result<bool, RelayFault> {
+        Ok(self.release(name)?)
+    }
+
+    fn lose(&mut self, name: Name) -> Result<bool, RelayFault> {
+        Ok(self.drop_frame(name)?)
+    }
+
+    fn copy(&mut self, name: Name) -> Result<bool, RelayFault> {
+        Ok(self.copy_frame(name)?)
+    }
+}
+
+/// A post, with the seats and the relay that its calls are made with.
+#[derive(Drop)]
+pub struct Counter<'a, R: Wait, P: Plan> {
+    pub rt: &'a R,
+    pub post: Post<P>,
+    pub seats: Vec<Seat>,
+    pub relay: Relay,
+}
+
+impl<'a, R: Wait, P: Plan> Recorder for Counter<'a, R, P> {
+    ghost program = { λ counter. counter.post.program };
+
+    ghost setup = { λ counter. counter.post.setup };
+
+    fn steps(&self, me: u32) -> u64 {
+        self.seats.get(me as usize).map_or(0, |seat| seat.steps())
+    }
+
+    fn send(&mut self, me: u32, prepared: Prepared) -> Result<(), SendFault> {
+        match self.seats.get_mut(me as usize) {
+            Some(seat) if seat.node() == me => self
+                .post
+                .send(self.rt, seat, prepared, &OpenGate)
+                .map_err(|refused| refused.fault),
+            _ => Err(SendFault::Stranger),
+        }
+    }
+
+    fn receive(&mut self, me: u32) -> Result<Vec<Sealed>, PostFault> {
+        match self.seats.get_mut(me as usize) {
+            Some(seat) if seat.node() == me => {
+                let took = self.post.receive(self.rt, seat)?;
+                Ok(took.frames)
+            }
+            _ => Err(PostFault::Stranger),
+        }
+    }
+
+    fn close(&mut self, me: u32, finished: &Finished<'_>) -> Result<(), CloseFault> {
+        match self.seats.get_mut(me as usize) {
+            Some(seat) if seat.node() == me => self.post.close(self.rt, seat, finished),
+            _ => Err(CloseFault::Stranger),
+        }
+    }
+
+    fn release(&mut self, name: Name) -> Result<bool, RelayFault> {
+        self.post.release(self.rt, &mut self.relay, name)
+    }
+
+    fn lose(&mut self, name: Name) -> Result<bool, RelayFault> {
+        self.post.drop_frame(self.rt, &mut self.relay, name)
+    }
+
+    fn copy(&mut self, name: Name) -> Result<bool, RelayFault> {
+        self.post.copy_frame(self.rt, &mut self.relay, name)
+    }
+}
