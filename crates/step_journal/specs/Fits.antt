@@ -50,8 +50,8 @@ Flies a rows n Lost o = o ≡ None
 abbrev pub place_among : ℕ → Name → ℕ
 place_among nodes n = (n.round - 1) * nodes + n.from
 
--- the buffers are of the recorded run, one for each node, and their frames are those that the record
--- names
+-- the buffers are of the recorded run, one for each node, and their frames are those that the
+-- record names
 pub record Fits (start : ℕ → ℕ) (v : Log) (bs : List BufferView) : Type 0 where
   pub sized : length bs ≡ v.setup.nodes
   pub runs : All (IsOfRun v.program v.setup) bs

@@ -21,7 +21,8 @@ node_seen s = record {
 
 -- the node is one of its setup's, its state and the room of the next one have the kinds of its
 -- program's states, the frames that it holds are of its round and those after it, what it keeps as
--- its shared state is a copy of its state, and what it keeps as said to all is what it sends to each
+-- its shared state is a copy of its state, and what it keeps as said to all is what it sends to
+-- each
 pub record IsKept (s : Inside) : Type 0 where
   pub setup : IsSetup s.setup
   pub me : s.me < s.setup.nodes
