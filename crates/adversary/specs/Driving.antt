@@ -110,6 +110,13 @@ IsUnknownAt s events (fault.UnknownMessage k) =
     IsFirstAt s events k × ((d : Event) → IsOfMessage (slice_index_or events k d))
 IsUnknownAt s events f = ⊥
 
+-- the fault of an event at this place
+abbrev pub IsFaultOf : Event → ℕ → RunFault → Type 0
+IsFaultOf (Step i) k f = f ≡ fault.UnknownNode k
+IsFaultOf (Release n) k f = f ≡ fault.UnknownMessage k
+IsFaultOf (Drop n) k f = f ≡ fault.UnknownMessage k
+IsFaultOf (Copy n) k f = f ≡ fault.UnknownMessage k
+
 -- why a lawful setup isn't run: the first event that names what the run hasn't;
 -- `NoMemory` goes last
 abbrev pub RunCause : Setup → List Event → RunFault → Type 0

@@ -19,6 +19,10 @@ use std::alloc::Global;
 use std::marker::Model;
 use step_journal::Journal;
 use step_machine::{Event, Name, Node, Sealed};
+use stored_events::StoredEvent;
+
+/// After how many events the memory of those that are recorded is let go.
+const LET_GO: usize = 65_536;
 
 /// A run whose nodes stand where its journal says, and whose due rounds are closed.
 #[derive(Drop)]
@@ -77,6 +81,7 @@ impl<P: Plan> Driver<P> {
 
     /// The run with one event more. A due round is closed at once, and steps past the last round
     /// are idle. Without memory the run is gone.
+    #[inline(always)]
     pub fn act(self, event: Event) -> Result<Driver<P>, NoMemory>
         requires { IsKnown self.log.setup event }
         ensures plan { IfOk result (λ driver. driver.plan ≡ self.plan) }
@@ -106,6 +111,27 @@ impl<P: Plan> Driver<P> {
         Ok(Driver { journal, nodes })
     }
 
+    /// The same with a list that is let go as its events are recorded.
+    pub fn act_out(self, events: Vec<StoredEvent>) -> Result<Driver<P>, NoMemory>
+        requires { All (IsKnown self.log.setup) events.items }
+        ensures plan { IfOk result (λ driver. driver.plan ≡ self.plan) }
+        ensures log { IfOk result (λ driver. AreMore self.log driver.log events.items) }
+    {
+        let Driver {
+            mut journal,
+            mut nodes,
+        } = self;
+        let mut events = events;
+        events.reverse();
+        while let Some(stored) = events.pop() {
+            act(&mut journal, &mut nodes, stored.event())?;
+            if events.len() % LET_GO == 0 {
+                events.shrink_to_fit();
+            }
+        }
+        Ok(Driver { journal, nodes })
+    }
+
     /// The journal of the events.
     pub fn into_journal(self) -> Journal<P>
         ensures same { result ≡ self }
@@ -131,6 +157,7 @@ fn first_nodes(alloc: Global, program: &Checked, setup: &Setup) -> Result<Vec<No
 }
 
 /// One event more.
+#[inline(always)]
 fn act<P: Plan>(
     journal: &mut Journal<P>,
     nodes: &mut Vec<Node>,
@@ -153,6 +180,7 @@ fn act<P: Plan>(
 }
 
 /// The network lets a message go.
+#[inline(always)]
 fn release<P: Plan>(journal: &mut Journal<P>, name: Name) -> Result<(), NoMemory>
     requires { IsName journal.old.log.setup name }
     ensures { OnOk result
@@ -184,6 +212,7 @@ fn copy<P: Plan>(journal: &mut Journal<P>, name: Name) -> Result<(), NoMemory>
 }
 
 /// The node's next step, and the end of its round where that is due.
+#[inline(always)]
 fn step<P: Plan>(journal: &mut Journal<P>, node: &mut Node, me: u32) -> Result<(), NoMemory>
     requires rounds { journal.old.log.setup.rounds ≤ max_rounds }
     requires me { me < journal.old.log.setup.nodes }
@@ -225,6 +254,7 @@ fn idle<P: Plan>(journal: &mut Journal<P>, me: u32) -> Result<(), NoMemory>
 }
 
 /// A send step: what the node has for another.
+#[inline(always)]
 fn send<P: Plan>(
     journal: &mut Journal<P>,
     node: &mut Node,
@@ -252,6 +282,7 @@ fn send<P: Plan>(
 }
 
 /// A receive step: the node takes what was handed out.
+#[inline(always)]
 fn receive<P: Plan>(journal: &mut Journal<P>, node: &mut Node, me: u32) -> Result<(), NoMemory>
     requires nodes { P.nodes journal.old.plan ≡ journal.old.log.setup.nodes }
     requires me { me < journal.old.log.setup.nodes }
@@ -270,6 +301,7 @@ fn receive<P: Plan>(journal: &mut Journal<P>, node: &mut Node, me: u32) -> Resul
 }
 
 /// The node takes frames that were sent to it, in their order.
+#[inline(always)]
 fn take_all(node: &mut Node, frames: Vec<Sealed>)
     requires places { HasPlaces node.old.setup.nodes node.old.held }
     requires mail { All

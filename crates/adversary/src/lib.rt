@@ -4,14 +4,18 @@
 mod asking;
 mod driver;
 mod fault;
+mod read;
 mod running;
+mod trace;
 
 pub use asking::run_policy;
 pub use driver::Driver;
 pub use fault::RunFault;
 pub use policies::{Bounded, Choice, Faulty, Hoard, Policy, Prompt, Script, Table};
+pub use read::run_events;
 pub use running::run_schedule;
 pub use schedule_text::{
     MAX_TEXT, Pace, Schedule, ScheduleFault, Stop, ThreadSetup, read_header, read_schedule,
     read_threads, write_schedule,
 };
+pub use trace::write_trace;

@@ -2,7 +2,7 @@
 ghost use Rattle.std.specs.Prelude.{◌≡◌, ◌↔◌, All, Err, IfErr, IfOk, IfSome, IfNone, IsTrue};
 ghost use Rattle.round_meaning.specs.Setups.{IsLawful};
 ghost use Rattle.step_book.specs.Names.{IsName};
-ghost use Rattle.adversary.specs.Driving.{ClosedAreDue, IsKnown, IsUnknownAt, RunCause};
+ghost use Rattle.adversary.specs.Driving.{ClosedAreDue, IsFaultOf, IsKnown, IsUnknownAt, RunCause};
 
 use crate::driver::Driver;
 use crate::fault::RunFault;
@@ -54,28 +54,35 @@ fn first_unknown(setup: &Setup, events: &[Event]) -> Option<RunFault>
     ensures none { IfNone result (All (IsKnown setup.now) events.now) }
 {
     for (position, event) in events.iter().enumerate() {
-        match event {
-            Event::Step(node) => {
-                if *node >= setup.nodes {
-                    return Some(RunFault::UnknownNode(position));
-                }
-            }
-            Event::Release(name) | Event::Drop(name) => {
-                if !is_known(setup, *name) {
-                    return Some(RunFault::UnknownMessage(position));
-                }
-            }
-            Event::Copy(name) => {
-                if name.copy == 0 || !is_known(setup, *name) {
-                    return Some(RunFault::UnknownMessage(position));
-                }
-            }
+        if !is_known(setup, *event) {
+            return Some(unknown_at(*event, position));
         }
     }
     None
 }
 
-fn is_known(setup: &Setup, name: Name) -> bool
+/// Why an event at this position is refused.
+pub(crate) fn unknown_at(event: Event, position: usize) -> RunFault
+    ensures { IsFaultOf event position result }
+{
+    match event {
+        Event::Step(_) => RunFault::UnknownNode(position),
+        Event::Release(_) | Event::Drop(_) | Event::Copy(_) => RunFault::UnknownMessage(position),
+    }
+}
+
+/// Whether an event names a node or a message of the run.
+pub(crate) fn is_known(setup: &Setup, event: Event) -> bool
+    ensures { IsTrue result ↔ IsKnown setup.now event }
+{
+    match event {
+        Event::Step(node) => node < setup.nodes,
+        Event::Release(name) | Event::Drop(name) => is_name(setup, name),
+        Event::Copy(name) => name.copy != 0 && is_name(setup, name),
+    }
+}
+
+fn is_name(setup: &Setup, name: Name) -> bool
     ensures { IsTrue result ↔ IsName setup.now name }
 {
     name.from < setup.nodes

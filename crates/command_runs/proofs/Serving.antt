@@ -33,30 +33,30 @@ program_of (source.Library name values) files (opened.File q) n t p opens holds 
 -- an answer on a schedule that was read is one on its file
 pub answers_run : (source : Source) (files : Files) (start receives : ℕ → ℕ) (p : ProgramTree) (k : PlanKind) (s : Schedule) (q : Question) (file : Option (List ℕ)) (a : Answer)
     → IsProgramOf source files s.setup.nodes s.setup.faults p → s.plan ≡ k → start ≡ start_of k s.setup.nodes → receives ≡ receives_of k
-    → IfSome file (λ text. IsSchedule text s.setup s.plan s.events.items) → Answered start receives p s q a → AnswersRun source files file q a
+    → IfSome file (λ text. IsSchedule text s.setup s.plan s.events) → Answered start receives p s q a → AnswersRun source files file q a
 answers_run source files start receives p k s (question.Report told) None (answer.Report r shown) is kind starts waits read said = (said.0, tt)
 answers_run source files start receives p k s (question.Report told) (Some text) (answer.Report r shown) is kind starts waits read said = (
   said.0,
   (
     s.setup,
     k,
-    s.events.items,
+    s.events,
     p,
-    subst (λ (l : PlanKind). IsSchedule text s.setup l s.events.items) kind read,
+    subst (λ (l : PlanKind). IsSchedule text s.setup l s.events) kind read,
     is,
-    subst (λ f. IsReportOf f p s.setup s.events.items r) starts said.1,
+    subst (λ f. IsReportOf f p s.setup s.events r) starts said.1,
   ),
 )
 answers_run source files start receives p k s (question.Verdict t) None (answer.Verdict v) is kind starts waits read said = tt
 answers_run source files start receives p k s (question.Verdict t) (Some text) (answer.Verdict v) is kind starts waits read said = (
   s.setup,
   k,
-  s.events.items,
+  s.events,
   p,
-  subst (λ (l : PlanKind). IsSchedule text s.setup l s.events.items) kind read,
+  subst (λ (l : PlanKind). IsSchedule text s.setup l s.events) kind read,
   is,
-  subst (λ f. IsVerdictOf (start_of k s.setup.nodes) f p s.setup s.events.items t.correct.now t.delta t.gst v) waits
-      (subst (λ f. IsVerdictOf f receives p s.setup s.events.items t.correct.now t.delta t.gst v) starts said),
+  subst (λ f. IsVerdictOf (start_of k s.setup.nodes) f p s.setup s.events t.correct.now t.delta t.gst v) waits
+      (subst (λ f. IsVerdictOf f receives p s.setup s.events t.correct.now t.delta t.gst v) starts said),
 )
 answers_run source files start receives p k s (question.Report told) file (answer.Verdict v) is kind starts waits read said = absurd said
 answers_run source files start receives p k s (question.Verdict t) file (answer.Report r shown) is kind starts waits read said = absurd said

@@ -152,9 +152,9 @@ AnswersRun source files file _ _ = ⊥
 -- the same of a schedule that was read, under a plan
 abbrev pub Answered : (start receives : ℕ → ℕ) → ProgramTree → Schedule → Question → Answer → Type 0
 Answered start receives p s (question.Report told) (answer.Report report shown) =
-    (shown ≡ told) × IsReportOf start p s.setup s.events.items report
+    (shown ≡ told) × IsReportOf start p s.setup s.events report
 Answered start receives p s (question.Verdict terms) (answer.Verdict verdict) =
-    IsVerdictOf start receives p s.setup s.events.items terms.correct.now
+    IsVerdictOf start receives p s.setup s.events terms.correct.now
     terms.delta terms.gst verdict
 Answered start receives p s _ _ = ⊥
 

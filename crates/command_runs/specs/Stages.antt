@@ -86,7 +86,7 @@ IsNoReadIn kind (text.Longer bytes) _ = ⊥
 
 -- the schedule, the header and the thread setup of what was read
 abbrev pub IsScheduleIn : Text → Schedule → Type 0
-IsScheduleIn text s = IsReadIn kinds.Schedule text s.setup s.plan s.events.items
+IsScheduleIn text s = IsReadIn kinds.Schedule text s.setup s.plan s.events
 
 abbrev pub IsHeaderIn : Text → Setup × PlanKind → Type 0
 IsHeaderIn text h = IsReadIn kinds.Header text h.0 h.1 tt

@@ -15,9 +15,9 @@ use adversary::{MAX_TEXT, RunFault, Schedule, ScheduleFault, read_schedule};
 use command_words::Source;
 use omission_explainer::{Report, Verdict};
 use round_check::Checked;
+use simdutf8::compat::from_utf8;
 use slot_plans::{Growing, Known, Plan, PlanKind};
 use std::alloc::Global;
-use std::str;
 
 /// A source and the file of a schedule.
 #[derive(Clone, Copy)]
@@ -59,14 +59,14 @@ impl<'a> Run<'a> {
         let schedule = schedule_in(alloc, self.schedule, desk)?;
         let setup = &schedule.setup;
         let program = opened.program(alloc, setup.nodes, setup.faults)?;
-        answer_by(alloc, &program, &schedule, question)
+        answer_by(alloc, &program, schedule, question)
     }
 }
 
 /// The schedule in a file; its text is let go before the run.
 fn schedule_in<D: Desk>(alloc: Global, name: &str, desk: &mut D) -> Result<Schedule, Refusal>
     ensures schedule { IfOk result (λ schedule. IfSome (D.files desk.old name.now)
-        (λ text. IsSchedule text schedule.setup schedule.plan schedule.events.items)) }
+        (λ text. IsSchedule text schedule.setup schedule.plan schedule.events)) }
     ensures refused { IfErr result (IsMissing kinds.Schedule (D.files desk.old name.now)) }
     ensures written { D.written desk.new ≡ D.written desk.old }
 {
@@ -80,7 +80,7 @@ fn schedule_of(alloc: Global, text: Text) -> Result<Schedule, Refusal>
     ensures refused { IfErr result (IsNoReadIn kinds.Schedule text) }
 {
     match text {
-        Text::Whole(bytes) => match str::from_utf8(&bytes) {
+        Text::Whole(bytes) => match from_utf8(&bytes) {
             Ok(text) => Ok(read_schedule(alloc, text)?),
             Err(_) => Err(Refusal::File),
         },
@@ -95,14 +95,14 @@ fn schedule_of(alloc: Global, text: Text) -> Result<Schedule, Refusal>
 fn answer_by(
     alloc: Global,
     program: &Checked,
-    schedule: &Schedule,
+    schedule: Schedule,
     question: Question<'_>,
 ) -> Result<Answer, Refusal>
-    ensures answered { let plan = schedule.now.plan in let nodes = schedule.now.setup.nodes in
-        IfOk result (Answered (start_of plan nodes) (receives_of plan) program.now schedule.now
+    ensures answered { let plan = schedule.plan in let nodes = schedule.setup.nodes in
+        IfOk result (Answered (start_of plan nodes) (receives_of plan) program.now schedule
         question.entry) }
-    ensures refused { let s = schedule.now in
-        IfErr result (IsNotRun program.now s.setup s.plan s.events.items
+    ensures refused { let s = schedule in
+        IfErr result (IsNotRun program.now s.setup s.plan s.events
         (listed_by question.entry)) }
 {
     match schedule.plan {
@@ -120,25 +120,24 @@ fn answer_by(
 fn answer_of<P: Plan>(
     alloc: Global,
     program: &Checked,
-    schedule: &Schedule,
+    schedule: Schedule,
     plan: P,
     question: Question<'_>,
 ) -> Result<Answer, Refusal>
-    requires { P.nodes plan ≡ schedule.now.setup.nodes }
+    requires { P.nodes plan ≡ schedule.setup.nodes }
     ensures answered { IfOk result (Answered (P.start plan) (P.receives plan) program.now
-        schedule.now question.entry) }
-    ensures refused { let s = schedule.now in
-        IfErr result (IsNotRunAs program.now s.setup s.events.items (listed_by question.entry)) }
+        schedule question.entry) }
+    ensures refused { let s = schedule in
+        IfErr result (IsNotRunAs program.now s.setup s.events (listed_by question.entry)) }
 {
-    let setup = &schedule.setup;
-    let events = schedule.events.as_slice();
+    let Schedule { setup, events, .. } = schedule;
     match question {
         Question::Report { decided } => {
-            let report = explained_run(alloc, program, setup, plan, events)?;
+            let report = explained_run(alloc, program, &setup, plan, events)?;
             Ok(Answer::Report { report, decided })
         }
         Question::Verdict(terms) => {
-            let verdict = judged_run(alloc, program, setup, plan, events, terms)?;
+            let verdict = judged_run(alloc, program, &setup, plan, events, terms)?;
             Ok(Answer::Verdict(verdict))
         }
     }

@@ -6,39 +6,39 @@ ghost use Rattle.omission_explainer.specs.Decided.{AreAgreed, AreInputs};
 ghost use Rattle.round_meaning.specs.Agreement.{RunsAlgorithm1};
 ghost use Rattle.round_meaning.specs.Setups.{IsLawful, max_nodes};
 
-use adversary::{RunFault, run_schedule};
+use adversary::{RunFault, run_events};
 use omission_explainer::{Report, Verdict, explain, judge};
 use round_check::Checked;
 use round_lang::NoMemory;
 use round_meaning::{MAX_NODES, NodeSet, Setup};
 use slot_plans::Plan;
 use std::alloc::Global;
-use step_machine::Event;
+use stored_events::Events;
 
 /// The report of running a schedule's events in single steps: the run explained in rounds. Where
 /// the program is Algorithm 1, for a setup with fewer than half of the nodes faulty, all decisions
 /// in it are equal, and each is some node's input.
 ///
-/// Refusals are those of `run_schedule`.
+/// Refusals are those of `run_events`.
 pub fn explained_run<P: Plan>(
     alloc: Global,
     program: &Checked,
     setup: &Setup,
     plan: P,
-    events: &[Event],
+    events: Events,
 ) -> Result<Report, RunFault>
     requires { IsLawful program.now.values setup.now → P.nodes plan ≡ setup.now.nodes }
     ensures bad_setup { (result ≡ Err RunFault.BadSetup)
         ↔ (IsLawful program.now.values setup.now → ⊥) }
-    ensures cause { IfErr result (RunCause setup.now events.now) }
-    ensures known { IfOk result (λ _answer. All (IsKnown setup.now) events.now) }
-    ensures explained { IfOk result (IsReportOf (P.start plan) program.now setup.now events.now) }
+    ensures cause { IfErr result (RunCause setup.now events) }
+    ensures known { IfOk result (λ _answer. All (IsKnown setup.now) events) }
+    ensures explained { IfOk result (IsReportOf (P.start plan) program.now setup.now events) }
     ensures agreement { IfOk result
         (λ report. RunsAlgorithm1 program.now setup.now → AreAgreed report.rows) }
     ensures validity { IfOk result
         (λ report. RunsAlgorithm1 program.now setup.now → AreInputs setup.now report.rows) }
 {
-    let journal = run_schedule(alloc, program, setup, plan, events)?;
+    let journal = run_events(alloc, program, setup, plan, events)?;
     journal.agrees();
     match explain(alloc, &journal) {
         Ok(report) => Ok(report),
@@ -57,29 +57,29 @@ pub struct Terms<'a> {
 
 /// The verdict on running a schedule's events in single steps.
 ///
-/// Refusals are those of `run_schedule`; `BadSetup` is also answered where a node of `correct`
+/// Refusals are those of `run_events`; `BadSetup` is also answered where a node of `correct`
 /// isn't one of the run's.
 pub fn judged_run<P: Plan>(
     alloc: Global,
     program: &Checked,
     setup: &Setup,
     plan: P,
-    events: &[Event],
+    events: Events,
     terms: Terms<'_>,
 ) -> Result<Verdict, RunFault>
     requires { IsLawful program.now.values setup.now → P.nodes plan ≡ setup.now.nodes }
     ensures bad_setup { (result ≡ Err RunFault.BadSetup)
         ↔ (IsLawful program.now.values setup.now
         × All (λ n. n < setup.now.nodes) terms.entry.correct.now → ⊥) }
-    ensures cause { IfErr result (RunCause setup.now events.now) }
-    ensures known { IfOk result (λ _answer. All (IsKnown setup.now) events.now) }
+    ensures cause { IfErr result (RunCause setup.now events) }
+    ensures known { IfOk result (λ _answer. All (IsKnown setup.now) events) }
     ensures judged { IfOk result (IsVerdictOf (P.start plan) (P.receives plan) program.now setup.now
-        events.now terms.entry.correct.now terms.entry.delta terms.entry.gst) }
+        events terms.entry.correct.now terms.entry.delta terms.entry.gst) }
 {
     let Some(correct) = nodes_in(terms.correct, setup.nodes) else {
         return Err(RunFault::BadSetup);
     };
-    let journal = run_schedule(alloc, program, setup, plan, events)?;
+    let journal = run_events(alloc, program, setup, plan, events)?;
     journal.agrees();
     Ok(judge(&journal, correct, terms.delta, terms.gst))
 }

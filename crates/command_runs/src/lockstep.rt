@@ -12,16 +12,16 @@ use crate::explained::nodes_in;
 use crate::refusal::Refusal;
 use crate::sources::Opened;
 use crate::texts::{Text, begin_utf8};
-use adversary::{MAX_TEXT, RunFault, ScheduleFault, read_header, write_schedule};
+use adversary::{MAX_TEXT, RunFault, ScheduleFault, read_header, write_trace};
 use command_words::Source;
 use lockstep_runs::run_lockstep;
 use policies::Bounded;
 use round_check::Checked;
 use round_lang::NoMemory;
 use round_meaning::Setup;
+use simdutf8::compat::from_utf8;
 use slot_plans::{Growing, Known, Plan, PlanKind};
 use std::alloc::Global;
-use std::str;
 
 /// What a run in lockstep is made by: the correct nodes, the delays of the messages and the orders
 /// of the steps, and how many ticks there are, where it isn't as many as all rounds have steps.
@@ -79,7 +79,7 @@ fn header_of(alloc: Global, text: Text) -> Result<(Setup, PlanKind), Refusal>
     ensures refused { IfErr result (IsNoReadIn kinds.Header text) }
 {
     match text {
-        Text::Whole(bytes) => match str::from_utf8(&bytes) {
+        Text::Whole(bytes) => match from_utf8(&bytes) {
             Ok(text) => Ok(read_header(alloc, text)?),
             Err(_) => Err(Refusal::File),
         },
@@ -165,7 +165,7 @@ pub fn lockstep_text<P: Plan>(
     let ticks = ticks_of(plan, setup, pacing.ticks);
     let journal = run_lockstep(alloc, program, setup, plan, correct, pacing.bounded, ticks)?;
     journal.agrees();
-    match write_schedule(alloc, setup, kind, journal.book().trace()) {
+    match write_trace(alloc, setup, kind, journal.book().trace()) {
         Ok(text) => Ok(text),
         Err(NoMemory) => Err(RunFault::NoMemory),
     }

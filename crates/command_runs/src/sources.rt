@@ -14,8 +14,8 @@ use algorithm_library::{count_votes, dls1, gather};
 use command_words::Source;
 use round_check::{Checked, check};
 use round_lang::{LangFault, MAX_TEXT, parse};
+use simdutf8::compat::from_utf8;
 use std::alloc::Global;
-use std::str;
 
 /// A source that was opened: the program of a file, or where the library has one. What the library
 /// refuses is refused later than what a file has.
@@ -73,7 +73,7 @@ fn program_of(alloc: Global, text: Text) -> Result<Checked, Refusal>
     ensures refused { IfErr result (IsNoProgramIn text) }
 {
     match text {
-        Text::Whole(bytes) => match str::from_utf8(&bytes) {
+        Text::Whole(bytes) => match from_utf8(&bytes) {
             Ok(text) => checked(alloc, text),
             Err(_) => Err(Refusal::File),
         },

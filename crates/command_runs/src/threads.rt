@@ -16,7 +16,7 @@ use crate::desk::Desk;
 use crate::refusal::Refusal;
 use crate::sources::Opened;
 use crate::texts::{Text, begin_utf8};
-use adversary::{MAX_TEXT, RunFault, ScheduleFault, ThreadSetup, read_threads, write_schedule};
+use adversary::{MAX_TEXT, RunFault, ScheduleFault, ThreadSetup, read_threads, write_trace};
 use command_words::Source;
 use locked_buffers::OpenGate;
 use node_threads::{Ended, run_threads};
@@ -24,9 +24,9 @@ use omission_explainer::{Report, explain};
 use policies::Prompt;
 use round_check::Checked;
 use round_lang::NoMemory;
+use simdutf8::compat::from_utf8;
 use slot_plans::{Growing, Known, Plan, PlanKind};
 use std::alloc::Global;
-use std::str;
 use std::sync::Wait;
 use std::thread::Threads;
 
@@ -90,7 +90,7 @@ fn setup_of(alloc: Global, text: Text) -> Result<ThreadSetup, Refusal>
     ensures refused { IfErr result (IsNoReadIn kinds.Threads text) }
 {
     match text {
-        Text::Whole(bytes) => match str::from_utf8(&bytes) {
+        Text::Whole(bytes) => match from_utf8(&bytes) {
             Ok(text) => Ok(read_threads(alloc, text)?),
             Err(_) => Err(Refusal::File),
         },
@@ -178,7 +178,7 @@ pub fn explained_threads<R: Threads + Wait + Sync, P: Plan + Send + Sync>(
         Ok(report) => report,
         Err(NoMemory) => return Err(RunFault::NoMemory),
     };
-    let trace = match write_schedule(alloc, numbers, setup.plan, journal.book().trace()) {
+    let trace = match write_trace(alloc, numbers, setup.plan, journal.book().trace()) {
         Ok(trace) => trace,
         Err(NoMemory) => return Err(RunFault::NoMemory),
     };

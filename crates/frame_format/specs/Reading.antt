@@ -25,6 +25,7 @@ field_at kind.Flag bytes = Flag (slice_index bytes 0 == 1)
 field_at kind.Set bytes = of_set (big_number 8 bytes)
 field_at (kind.Row n) bytes = Row (numbers n bytes)
 
+-- fields of these kinds, one behind the other
 abbrev pub fields_at : List Kind → List ℕ → List Value
 fields_at [] bytes = []
 fields_at (kind ∷ kinds) bytes = field_at kind bytes ∷ fields_at kinds (drop (width kind) bytes)

@@ -124,7 +124,8 @@ impl Layout {
     pub fn len(&self, round: u32) -> usize
         requires first { 1 ≤ round }
         requires last { round ≤ 4096 }
-        ensures { result ≡ 13 + size (kinds_at self.now round) }
+        ensures value { result ≡ 13 + size (kinds_at self.now round) }
+        ensures limit { result ≤ 2061 }
     {
         13 + self.size(round)
     }

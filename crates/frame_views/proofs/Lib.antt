@@ -1,3 +1,4 @@
 pub mod Located
 pub mod Inboxes
 pub mod Entries
+pub mod Rounds

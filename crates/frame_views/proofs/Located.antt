@@ -9,7 +9,7 @@ use Rattle.round_lang.specs.declared.value.Value.{Value}
 use Rattle.round_lang.specs.declared.value.Value.TheVariants.{Num}
 use Rattle.round_lang.specs.Values.{at}
 use Rattle.frame_format.specs.Formats.{Format, kinds_at, size, width}
-use Rattle.frame_format.specs.Places.{round_at}
+use Rattle.frame_format.specs.Places.{head_at, round_at}
 use Rattle.frame_format.specs.Reading.{field_at, fields_at, frame_at, numbers}
 use Rattle.frame_views.specs.Views.{seen_as}
 
@@ -68,3 +68,7 @@ unfolding frame_at
 seen_again s bytes copied kinds rest c e =
     let front : take (length kinds) (copied ++ rest) ≡ kinds = ap (λ (x : List Kind). take (length kinds) (x ++ rest)) c ∙ take_at kinds rest (length kinds) refl in
     rw (front, e) refl
+
+pub fields_seen : (s : Format) (bytes body : List ℕ) (kinds : List Kind) → kinds ≡ kinds_at s (round_at bytes) → body ≡ drop (head_at bytes) bytes → fields_at kinds body ≡ (frame_at s bytes).message
+unfolding frame_at
+fields_seen s bytes body kinds e b = rw (e, b) refl

@@ -28,6 +28,11 @@ pub record IsSeen (bytes : List ℕ) (kinds : List Kind) (count : ℕ) : Type 0 
   pub few : count ≤ 8
   pub count_is : length kinds ≡ count
 
+-- the bytes begin with fields of these kinds
+pub record HasFields (kinds : List Kind) (bytes : List ℕ) : Type 0 where
+  pub block : IsBlock kinds
+  pub room : size kinds ≤ length bytes
+
 -- what is read at a place that was found, the number 0 where none was
 abbrev pub spot_value : Option (Kind × Bor (List ℕ)) → Value
 spot_value None = Num 0

@@ -1,19 +1,17 @@
 //! Frames that are read where they lie.
-ghost use Rattle.std.specs.Prelude.{◌≡◌, ◌≤◌, length, IfOk, IfErr, IfSome, MatchResult, None, Some};
+ghost use Rattle.std.specs.Prelude.{◌≡◌, IfOk, IfErr, MatchResult, None, Some};
 ghost use Rattle.std.specs.Prelude.{slice_index};
 ghost use Rattle.round_lang.specs.Values.{at, flag, num, row, set};
 ghost use Rattle.frame_format.specs.Faults.{first_fault};
-ghost use Rattle.frame_format.specs.Formats.{size, width, IsBlock};
-ghost use Rattle.frame_format.specs.Reading.{fields_at, frame_at, IsFrame};
+ghost use Rattle.frame_format.specs.Reading.{frame_at, IsFrame};
 ghost use Rattle.frame_format.specs.Spelling.{Spells};
 ghost use Rattle.frame_format.specs.declared.frame.Frame.{Frame};
-ghost use Rattle.frame_views.specs.Views.{spot_value};
 
-use crate::row::{RowView, from_place};
-use byteorder::{BigEndian, ByteOrder};
+use crate::fields::FieldsView;
+use crate::row::RowView;
 use frame_format::{
-    FrameFault, FrameVersion, Layout, copy_of, fields_in, first_fault, from_of, round_of, size_of,
-    to_of, version_of,
+    FrameFault, FrameVersion, Layout, copy_of, fields_in, first_fault, from_of, round_of, to_of,
+    version_of,
 };
 use round_lang::{Kind, ValueSet};
 use std::marker::Model;
@@ -52,8 +50,8 @@ impl<'a> FrameView<'a> {
         }
     }
 
-    /// The frame of bytes that have no fault.
-    pub(crate) fn over(layout: &Layout, bytes: &'a [u8]) -> FrameView<'a>
+    /// The frame of bytes that have no fault, which are not looked through again.
+    pub fn over(layout: &Layout, bytes: &'a [u8]) -> FrameView<'a>
         requires { IsFrame layout.now bytes.now }
         ensures { result ≡ frame_at layout.now bytes.now }
     {
@@ -102,75 +100,45 @@ impl<'a> FrameView<'a> {
         copy_of(self.bytes)
     }
 
-    /// The kind of a field, and the bytes from its first one on.
-    fn spot(&self, place: usize) -> Option<(Kind, &'a [u8])>
-        ensures value { spot_value result ≡ at self.now.message place }
-        ensures room { IfSome result (λ s. width s.0 ≤ length s.1.now) }
+    /// The fields of its message.
+    pub fn fields(&self) -> FieldsView<'_, 'a>
+        ensures { result ≡ self.now.message }
     {
-        spot_in(fields_in(self.bytes), &self.kinds[..self.count], place)
+        FieldsView::over(&self.kinds[..self.count], fields_in(self.bytes))
     }
 
     /// The number that field `place` is, 0 where it is none.
     pub fn num(&self, place: usize) -> u32
         ensures { result ≡ num (at self.now.message place) }
     {
-        match self.spot(place) {
-            Some((Kind::Num, bytes)) => BigEndian::read_u32(bytes),
-            _ => 0,
-        }
+        self.fields().num(place)
     }
 
     /// The truth value that field `place` is, false where it is none.
     pub fn flag(&self, place: usize) -> bool
         ensures { result ≡ flag (at self.now.message place) }
     {
-        match self.spot(place) {
-            Some((Kind::Flag, bytes)) => bytes[0] == 1,
-            _ => false,
-        }
+        self.fields().flag(place)
     }
 
     /// The set that field `place` is, the empty one where it is none.
     pub fn set(&self, place: usize) -> ValueSet
         ensures { result.bits ≡ set (at self.now.message place) }
     {
-        match self.spot(place) {
-            Some((Kind::Set, bytes)) => ValueSet {
-                bits: BigEndian::read_u64(bytes),
-            },
-            _ => ValueSet::empty(),
-        }
+        self.fields().set(place)
     }
 
     /// The row that field `place` is, one of no entries where it is none.
     pub fn row(&self, place: usize) -> RowView<'a>
         ensures { result ≡ row (at self.now.message place) }
     {
-        match self.spot(place) {
-            Some((Kind::Row(entries), bytes)) => RowView::over(bytes, entries),
-            _ => RowView::over(&[], 0),
-        }
+        self.fields().row(place)
     }
 
     /// The entry of a value in the row that field `place` is, 0 from K on.
     pub fn entry(&self, place: usize, value: u32) -> u32
         ensures { result ≡ slice_index (row (at self.now.message place)) value }
     {
-        self.row(place).at(value)
-    }
-}
-
-/// The kind of a field, and the bytes from its first one on, among fields of these kinds.
-fn spot_in<'a>(bytes: &'a [u8], kinds: &[Kind], place: usize) -> Option<(Kind, &'a [u8])>
-    requires block { IsBlock kinds.now }
-    requires room { size kinds.now ≤ length bytes.now }
-    ensures value { spot_value result ≡ at (fields_at kinds.now bytes.now) place }
-    ensures room { IfSome result (λ s. width s.0 ≤ length s.1.now) }
-{
-    if place < kinds.len() {
-        let first = size_of(&kinds[..place]);
-        Some((kinds[place], from_place(bytes, first)))
-    } else {
-        None
+        self.fields().entry(place, value)
     }
 }

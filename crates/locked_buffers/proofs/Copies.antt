@@ -7,12 +7,12 @@ use Rattle.step_book.specs.Buffers.{AreSpelt, IsSameRun, BufferView, flying_at, 
 
 copied_spelt : (a : Algorithm) (k : ℕ) (o : Option Frame) → IfSome o (Spells a) → IfSome (option_map (copied_as k) o) (Spells a)
 copied_spelt a k None h = tt
-copied_spelt a k (Some f) h = record { says = h.says; kinds = h.kinds }
+copied_spelt a k (Some f) h = record { says = h.says; types = h.types }
 
 -- what was copied of a frame of a buffer may go to that buffer, whatever room was made in it
-pub spelt_made : (old new : BufferView) (copy place : ℕ) (o : Option Frame) (frame : Frame) → AreSpelt (run_of old) old.flying old.waiting
-    → o ≡ option_map (copied_as copy) (flying_at old 0 place) → o ≡ Some frame → IsSameRun old new → Spells (run_of new) frame
-spelt_made old new copy place o frame all made some run =
-    let said = subst (λ x. IfSome x (Spells (run_of old))) (sym made ∙ some) (copied_spelt (run_of old) copy (flying_at old 0 place) (all.flies 0 place)) in
+pub spelt_made : (old new : BufferView) (copy round place : ℕ) (o : Option Frame) (frame : Frame) → AreSpelt (run_of old) old.flying old.waiting
+    → o ≡ option_map (copied_as copy) (flying_at old round place) → o ≡ Some frame → IsSameRun old new → Spells (run_of new) frame
+spelt_made old new copy round place o frame all made some run =
+    let said = subst (λ x. IfSome x (Spells (run_of old))) (sym made ∙ some) (copied_spelt (run_of old) copy (flying_at old round place) (all.flies round place)) in
     subst (λ p. Spells (algorithm_of p new.setup) frame) (sym run.program)
     (subst (λ s. Spells (algorithm_of old.program s) frame) (sym run.setup) said)

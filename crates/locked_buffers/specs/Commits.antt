@@ -29,22 +29,22 @@ pub record SameBuffer (old new : BufferView) : Type 0 where
   pub waiting : new.waiting ≡ old.waiting
 
 -- this stands in flight at one place, and the rest is as it was
-pub record PutsFrame (copy place : ℕ) (o : Option Frame) (old new : BufferView) : Type 0 where
+pub record PutsFrame (round place : ℕ) (o : Option Frame) (old new : BufferView) : Type 0 where
   pub run : IsSameRun old new
-  pub flying : Puts None old.flying new.flying copy place o
+  pub flying : Puts None old.flying new.flying round place o
   pub waiting : new.waiting ≡ old.waiting
 
 -- what was in flight at one place waits, after what waited
-pub record LetsGo (copy place : ℕ) (old new : BufferView) : Type 0 where
+pub record LetsGo (round place : ℕ) (old new : BufferView) : Type 0 where
   pub run : IsSameRun old new
-  pub flying : Puts None old.flying new.flying copy place None
-  pub waiting : new.waiting ≡ old.waiting ++ option_to_list (flying_at old copy place)
+  pub flying : Puts None old.flying new.flying round place None
+  pub waiting : new.waiting ≡ old.waiting ++ option_to_list (flying_at old round place)
 
 -- where a copy was made, copy 0's frame stands in flight at its place too, and else nothing changed
-abbrev pub AddsCopy : ℕ → ℕ → BufferView → BufferView → Bool → Type 0
-AddsCopy copy place old new true = PutsFrame copy place (option_map (copied_as copy) (flying_at old
-    0 place)) old new
-AddsCopy copy place old new false = SameBuffer old new
+abbrev pub AddsCopy : ℕ → Name → BufferView → BufferView → Bool → Type 0
+AddsCopy nodes n old new true = PutsFrame n.round (place_among nodes n)
+    (option_map (copied_as n.copy) (flying_at old n.round (place_among nodes (original n)))) old new
+AddsCopy nodes n old new false = SameBuffer old new
 
 -- what the network was told, with one event more and its answer
 abbrev pub told_with : Told → Event → Bool → Told
@@ -58,21 +58,21 @@ pub record TakesAll (old new : BufferView) : Type 0 where
 
 -- the book is of the run, so is the buffer, and it has a frame under this name just where the book
 -- says that it's in flight
-pub record Agrees {P : Type 0} (start : P → ℕ → ℕ) (r : Run P) (s : BufferView) (b : Recorded P) (n :
-    Name)
+pub record Agrees {P : Type 0} (start : P → ℕ → ℕ) (r : Run P) (s : BufferView)
+    (b : Recorded P) (n : Name)
     : Type 0 where
   pub book : IsBookOfRun r b
   pub buffer : IsOfRun r.program r.setup s
   pub frame : HoldsAt b.log.rows n (mark_in (start b.plan) b.log n)
-      (flying_at s n.copy (place_among b.log.setup.nodes n))
+      (flying_at s n.round (place_among b.log.setup.nodes n))
 
 -- they agree, and the book takes the send
 abbrev pub TakesSend : {P : Type 0} → (P → ℕ → ℕ) → Run P → BufferView → Recorded P → Ready → Type 0
 TakesSend start r s b p = Agrees start r s b p.name × IsSendFit (start b.plan) b.log p
 
 -- both are of the run, the frames that wait are those that the book names, and it takes the receive
-pub record TakesReceive {P : Type 0} (start : P → ℕ → ℕ) (r : Run P) (s : BufferView) (b : Recorded P) (i
-    : ℕ)
+pub record TakesReceive {P : Type 0} (start : P → ℕ → ℕ) (r : Run P) (s : BufferView)
+    (b : Recorded P) (i : ℕ)
     : Type 0 where
   pub book : IsBookOfRun r b
   pub buffer : IsOfRun r.program r.setup s
@@ -87,20 +87,38 @@ pub record TakesClose {P : Type 0} (start : P → ℕ → ℕ) (r : Run P) (b : 
   pub known : EndsAsRecorded (start b.plan) b.log n
 
 -- they agree on the copy and on copy 0
-abbrev pub AgreesTwice : {P : Type 0} → (P → ℕ → ℕ) → Run P → BufferView → Recorded P → Name → Type 0
+abbrev pub AgreesTwice : {P : Type 0} → (P → ℕ → ℕ) → Run P → BufferView → Recorded P → Name
+    → Type 0
 AgreesTwice start r s b n = Agrees start r s b n × Agrees start r s b (original n)
 
+-- why a buffer isn't read for a receive
+abbrev pub IsUnread : {P : Type 0} → Run P → BufferView → PostFault → Type 0
+IsUnread r s post.NotClosed = ⊥
+IsUnread r s post.NotItsSlot = ⊥
+IsUnread r s post.Stranger = ¬ IsOfRun r.program r.setup s
+IsUnread r s post.NoMemory = IsOfRun r.program r.setup s
+
+-- the fault of a send whose buffer isn't ready
+abbrev pub send_fault : RelayFault → SendFault
+send_fault relay.Stranger = send.Stranger
+send_fault relay.NoMemory = send.NoMemory
+
+-- why a buffer isn't made ready for a call
+abbrev pub IsUnready : {P : Type 0} → Run P → BufferView → RelayFault → Type 0
+IsUnready r s relay.Stranger = ¬ IsOfRun r.program r.setup s
+IsUnready r s relay.NoMemory = IsOfRun r.program r.setup s
+
 -- why a send that the seat allows is refused: under the locks it doesn't go, or there is no memory
-abbrev pub SendFails : {P : Type 0} → (P → ℕ → ℕ) → Run P → BufferView → Recorded P → Ready → SendFault →
-    Type 0
+abbrev pub SendFails : {P : Type 0} → (P → ℕ → ℕ) → Run P → BufferView → Recorded P → Ready
+    → SendFault → Type 0
 SendFails start r s b p send.NotClosed = ⊥
 SendFails start r s b p send.NotItsSlot = ⊥
 SendFails start r s b p send.Stranger = ¬ TakesSend start r s b p
 SendFails start r s b p send.NoMemory = TakesSend start r s b p
 
 -- why a receive is
-abbrev pub ReceiveFails : {P : Type 0} → (P → ℕ → ℕ) → Run P → BufferView → Recorded P → ℕ → PostFault →
-    Type 0
+abbrev pub ReceiveFails : {P : Type 0} → (P → ℕ → ℕ) → Run P → BufferView → Recorded P → ℕ
+    → PostFault → Type 0
 ReceiveFails start r s b i post.NotClosed = ⊥
 ReceiveFails start r s b i post.NotItsSlot = ⊥
 ReceiveFails start r s b i post.Stranger = ¬ TakesReceive start r s b i
@@ -114,13 +132,13 @@ CloseFails start r b n close.Stranger = ¬ TakesClose start r b n
 CloseFails start r b n close.NoMemory = IsBookOfRun r b
 
 -- why a release or a drop is
-abbrev pub RelayFails : {P : Type 0} → (P → ℕ → ℕ) → Run P → BufferView → Recorded P → Name → RelayFault
-    → Type 0
+abbrev pub RelayFails : {P : Type 0} → (P → ℕ → ℕ) → Run P → BufferView → Recorded P → Name
+    → RelayFault → Type 0
 RelayFails start r s b n relay.Stranger = ¬ Agrees start r s b n
 RelayFails start r s b n relay.NoMemory = Agrees start r s b n
 
 -- why a copy is
-abbrev pub CopyFails : {P : Type 0} → (P → ℕ → ℕ) → Run P → BufferView → Recorded P → Name → RelayFault →
-    Type 0
+abbrev pub CopyFails : {P : Type 0} → (P → ℕ → ℕ) → Run P → BufferView → Recorded P → Name
+    → RelayFault → Type 0
 CopyFails start r s b n relay.Stranger = ¬ AgreesTwice start r s b n
 CopyFails start r s b n relay.NoMemory = AgreesTwice start r s b n

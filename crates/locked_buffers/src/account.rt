@@ -14,7 +14,7 @@ use crate::seat::{Relay, Seat};
 use round_lang::Vars;
 use slot_plans::Plan;
 use std::sync::Arc;
-use step_book::{Book, Buffer, Mail};
+use step_book::{Book, Buffer, Mail, StoredEvent, StoredName};
 use step_journal::Journal;
 use step_machine::{Event, Name};
 
@@ -108,13 +108,14 @@ fn is_told<P: Plan>(book: &Book<P>, relay: &Relay) -> bool
 }
 
 /// Whether these are the network's events of a trace.
-fn are_events(trace: &[Event], events: &[Event]) -> bool
+fn are_events(trace: &[StoredEvent], events: &[Event]) -> bool
     ensures { IsTrue result ↔ (events.now ≡ network_events trace.now) }
 {
     let mut told = 0;
-    for event in trace {
-        if is_of_network(*event) {
-            if told >= events.len() || events[told] != *event {
+    for stored in trace {
+        let event = stored.event();
+        if is_of_network(event) {
+            if told >= events.len() || events[told] != event {
                 return false;
             }
             told += 1;
@@ -134,10 +135,25 @@ fn is_of_network(event: Event) -> bool
 }
 
 /// Whether both are the same names, in the same order.
-fn are_same_names(left: &[Name], right: &[Name]) -> bool
+fn are_same_names(left: &[Name], right: &[StoredName]) -> bool
     ensures { IsTrue result ↔ (left.now ≡ right.now) }
 {
-    left == right
+    if left.len() != right.len() {
+        return false;
+    }
+    for (place, name) in left.iter().enumerate() {
+        if !is_same_name(name, &right[place]) {
+            return false;
+        }
+    }
+    true
+}
+
+/// Whether both are the same name.
+fn is_same_name(left: &Name, right: &StoredName) -> bool
+    ensures { IsTrue result ↔ (left.now ≡ right.now) }
+{
+    *left == right.name()
 }
 
 /// Whether both are the same answers, in the same order.

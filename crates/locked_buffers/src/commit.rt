@@ -1,27 +1,28 @@
 //! What is recorded under the locks. Each call records the whole of it or nothing: all room is made
-//! before the book is called, and from then on nothing can fail.
+//! before the book is called, and from then on nothing can fail. The buffer was made ready before
+//! the book's lock was taken.
 ghost use Rattle.std.specs.Prelude.{◌≡◌, ◌+◌, ◌^◌, ◌<◌, ◌∷◌, ◌++◌, [], All, IfErr, IfOk, OnErr};
 ghost use Rattle.std.specs.Prelude.{OnOk};
 ghost use Rattle.step_book.specs.Log.{closed, end_state, happened};
 ghost use Rattle.step_book.specs.Names.{IsName};
 ghost use Rattle.step_book.specs.Buffers.{IsMail, names_in};
-ghost use Rattle.step_journal.specs.Fits.{place_among};
+ghost use Rattle.step_book.specs.Tables.{HasPlace};
+ghost use Rattle.step_journal.specs.Fits.{IsOfRun, place_among};
 ghost use Rattle.step_machine.specs.Sealed.{IsPrepared, frame_of};
 ghost use Rattle.step_machine.specs.declared.event.Event.TheVariants as event;
-ghost use Rattle.locked_buffers.specs.Commits.{CloseFails, PutsFrame, ReceiveFails, SameBuffer};
+ghost use Rattle.locked_buffers.specs.Commits.{CloseFails, PutsFrame, ReceiveFails};
 ghost use Rattle.locked_buffers.specs.Commits.{SendFails, TakesAll, TakesClose, TakesReceive};
 ghost use Rattle.locked_buffers.specs.Commits.{TakesSend};
 ghost use Rattle.locked_buffers.specs.Runs.{algorithm_by};
 
 use crate::fault::PostFault;
-use crate::room::{names_of, room};
+use crate::room::room;
 use crate::run::Run;
 use crate::seat::Seat;
 use slot_plans::Plan;
-use std::alloc::Global;
 use step_book::{Book, Buffer, CloseFault, ReceiveFault, Refused, SendFault};
-use step_journal::{Took, are_named, holds, place};
-use step_machine::{Finished, Prepared};
+use step_journal::{Took, are_named, holds};
+use step_machine::{Finished, Name, Prepared};
 
 /// A send that the seat allows.
 pub(crate) fn commit_send<P: Plan>(
@@ -34,6 +35,9 @@ pub(crate) fn commit_send<P: Plan>(
     requires name { IsName run.now.setup prepared.name }
     requires work { IsPrepared (algorithm_by run.now) prepared }
     requires small { seat.old.steps < 2 ^ 33 }
+    requires of_run { IsOfRun run.now.program run.now.setup buffer.old }
+    requires place { HasPlace buffer.old.flying prepared.name.round
+        (place_among run.now.setup.nodes prepared.name) }
     ensures recorded { OnOk result (book.new ≡ record book.old {
       log = happened book.old.log
           (event.Step prepared.name.from);
@@ -41,16 +45,16 @@ pub(crate) fn commit_send<P: Plan>(
     ensures kept { OnErr result (book.new ≡ book.old) }
     ensures seat { OnOk result (seat.new ≡ record seat.old { steps = seat.old.steps + 1 }) }
     ensures unseated { OnErr result (seat.new ≡ seat.old) }
-    ensures frame { OnOk result (PutsFrame 0 (place_among run.now.setup.nodes prepared.name)
-        (frame_of prepared) buffer.old buffer.new) }
-    ensures unchanged { OnErr result (SameBuffer buffer.old buffer.new) }
+    ensures frame { OnOk result (PutsFrame prepared.name.round
+        (place_among run.now.setup.nodes prepared.name) (frame_of prepared) buffer.old buffer.new) }
+    ensures unchanged { OnErr result (buffer.new ≡ buffer.old) }
     ensures taken { OnOk result (TakesSend P.start run.now buffer.old book.old prepared) }
     ensures cause { IfErr result (λ refused. SendFails P.start run.now buffer.old book.old prepared
         refused.fault) }
     ensures back { IfErr result (λ refused. refused.prepared ≡ prepared) }
 {
     let name = prepared.name();
-    if !run.has_book(book) || !run.has_buffer(buffer) || !holds(book, buffer, name) {
+    if !run.has_book(book) || !holds(book, buffer, name) {
         return Err(Refused {
             fault: SendFault::Stranger,
             prepared,
@@ -66,32 +70,30 @@ pub(crate) fn commit_send<P: Plan>(
             });
         }
     }
-    let place = place(book, name);
-    match buffer.reserve_flying(0, place) {
-        Ok(()) => {}
-        Err(_) => return Err(Refused::memory(prepared)),
-    }
+    let place = run.place(name);
     match book.record_send(&prepared) {
         Ok(()) => {}
         Err(_) => return Err(Refused::memory(prepared)),
     }
     seat.steps += 1;
     if let Some(frame) = prepared.into_sealed() {
-        buffer.put(0, place, frame);
+        buffer.put(name.round, place, frame);
     }
     Ok(())
 }
 
 /// A receive that the seat allows: the frames that wait, whose names the seat notes.
 pub(crate) fn commit_receive<P: Plan>(
-    alloc: Global,
     run: &Run<P>,
     seat: &mut Seat,
     buffer: &mut Buffer,
     book: &mut Book<P>,
+    names: Vec<Name>,
 ) -> Result<Took, PostFault>
     requires node { seat.old.node < run.now.setup.nodes }
     requires small { seat.old.steps < 2 ^ 33 }
+    requires of_run { IsOfRun run.now.program run.now.setup buffer.old }
+    requires names { names.items ≡ names_in buffer.old.waiting }
     ensures recorded { OnOk result (book.new ≡ record book.old {
       log = happened book.old.log
           (event.Step seat.old.node);
@@ -111,15 +113,11 @@ pub(crate) fn commit_receive<P: Plan>(
         seat.old.node) took.frames.items) }
 {
     let node = seat.node;
-    if !run.has_book(book)
-        || !run.has_buffer(buffer)
-        || !are_named(book, buffer.waiting(), book.waiting(node))
-    {
+    if !run.has_book(book) || !are_named(book, buffer.waiting(), book.waiting(node)) {
         return Err(PostFault::Stranger);
     }
     book.agrees();
     buffer.spelt();
-    let names = names_of(alloc, book.waiting(node))?;
     room(&mut seat.handed)?;
     match book.receive(node) {
         Ok(()) => {}

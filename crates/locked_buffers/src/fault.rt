@@ -1,10 +1,12 @@
 //! Why a post refuses what isn't a send or a close.
 ghost use Rattle.std.specs.Prelude.{◌≡◌};
+ghost use Rattle.locked_buffers.specs.Commits.{send_fault};
 ghost use Rattle.locked_buffers.specs.declared.fault.PostFault.TheVariants as post;
 ghost use Rattle.locked_buffers.specs.declared.fault.RelayFault.TheVariants as relay;
 
 use round_lang::NoMemory;
 use std::fmt;
+use step_book::SendFault;
 use thiserror::Error;
 
 /// Why a receive is refused. `Stranger`: what stands under the locks is of another run, or refuses
@@ -43,6 +45,17 @@ impl From<NoMemory> for RelayFault {
 
     fn from(_error: NoMemory) -> RelayFault {
         RelayFault::NoMemory
+    }
+}
+
+impl From<RelayFault> for SendFault {
+    ghost from_gives = { λ fault told. told ≡ send_fault fault };
+
+    fn from(fault: RelayFault) -> SendFault {
+        match fault {
+            RelayFault::Stranger => SendFault::Stranger,
+            RelayFault::NoMemory => SendFault::NoMemory,
+        }
     }
 }
 

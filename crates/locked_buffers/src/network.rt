@@ -3,29 +3,30 @@ ghost use Rattle.std.specs.Prelude.{◌≡◌, ◌<◌, ◌∷◌, ◌++◌, ◌
 ghost use Rattle.std.specs.Prelude.{OnOk, option_map};
 ghost use Rattle.step_book.specs.Log.{CanCopy, IsFlying, happened};
 ghost use Rattle.step_book.specs.Names.{IsName};
-ghost use Rattle.step_journal.specs.Fits.{place_among};
 ghost use Rattle.step_book.specs.Buffers.{flying_at};
+ghost use Rattle.step_book.specs.Tables.{HasPlace};
+ghost use Rattle.step_journal.specs.Fits.{IsOfRun, place_among};
 ghost use Rattle.step_machine.specs.Sealed.{copied_as, original};
 ghost use Rattle.step_machine.specs.declared.event.Event.TheVariants as event;
 ghost use Rattle.locked_buffers.specs.Commits.{AddsCopy, Agrees, AgreesTwice, CopyFails, LetsGo};
-ghost use Rattle.locked_buffers.specs.Commits.{PutsFrame, RelayFails, SameBuffer, told_with};
+ghost use Rattle.locked_buffers.specs.Commits.{PutsFrame, RelayFails, told_with};
 
 use crate::fault::RelayFault;
 use crate::room::room;
 use crate::run::Run;
 use crate::seat::Relay;
-use round_lang::NoMemory;
 use slot_plans::Plan;
 use step_book::{Book, Buffer};
-use step_journal::{holds, place};
+use step_journal::holds;
 use step_machine::{Event, Name, Sealed};
 
-/// Whether buffer and book are of the run and agree on this copy.
+/// Whether the book is of the run, as the buffer is, and both agree on this copy.
 fn agree<P: Plan>(run: &Run<P>, buffer: &Buffer, book: &Book<P>, name: Name) -> bool
-    requires { IsName run.now.setup name }
+    requires name { IsName run.now.setup name }
+    requires of_run { IsOfRun run.now.program run.now.setup buffer.now }
     ensures { IsTrue result ↔ Agrees P.start run.now buffer.now book.now name }
 {
-    run.has_book(book) && run.has_buffer(buffer) && holds(book, buffer, name)
+    run.has_book(book) && holds(book, buffer, name)
 }
 
 /// A release: true where a copy went from flight to those that wait.
@@ -36,7 +37,9 @@ pub(crate) fn commit_release<P: Plan>(
     book: &mut Book<P>,
     name: Name,
 ) -> Result<bool, RelayFault>
-    requires { IsName run.now.setup name }
+    requires name { IsName run.now.setup name }
+    requires of_run { IsOfRun run.now.program run.now.setup buffer.old }
+    requires room { 0 < buffer.old.spare }
     ensures recorded { OnOk result (book.new ≡ record book.old {
       log = happened book.old.log
           (event.Release name);
@@ -47,9 +50,9 @@ pub(crate) fn commit_release<P: Plan>(
     ensures told { IfOk result (λ moved. relay.new ≡ told_with relay.old (event.Release name)
         moved) }
     ensures untold { OnErr result (relay.new ≡ relay.old) }
-    ensures frame { OnOk result (LetsGo name.copy (place_among run.now.setup.nodes name) buffer.old
+    ensures frame { OnOk result (LetsGo name.round (place_among run.now.setup.nodes name) buffer.old
         buffer.new) }
-    ensures unchanged { OnErr result (SameBuffer buffer.old buffer.new) }
+    ensures unchanged { OnErr result (buffer.new ≡ buffer.old) }
     ensures taken { OnOk result (Agrees P.start run.now buffer.old book.old name) }
     ensures cause { IfErr result (RelayFails P.start run.now buffer.old book.old name) }
 {
@@ -58,10 +61,9 @@ pub(crate) fn commit_release<P: Plan>(
     }
     room(&mut relay.events)?;
     room(&mut relay.answers)?;
-    buffer.reserve_waiting()?;
     let moved = book.release(name)?;
     if moved {
-        buffer.let_go(name.copy, place(book, name));
+        buffer.let_go(name.round, run.place(name));
     }
     relay.events.push_reserved(Event::Release(name));
     relay.answers.push_reserved(moved);
@@ -76,7 +78,8 @@ pub(crate) fn commit_drop<P: Plan>(
     book: &mut Book<P>,
     name: Name,
 ) -> Result<bool, RelayFault>
-    requires { IsName run.now.setup name }
+    requires name { IsName run.now.setup name }
+    requires of_run { IsOfRun run.now.program run.now.setup buffer.old }
     ensures recorded { OnOk result (book.new ≡ record book.old {
       log = happened book.old.log
           (event.Drop name);
@@ -86,9 +89,9 @@ pub(crate) fn commit_drop<P: Plan>(
         name) }
     ensures told { IfOk result (λ lost. relay.new ≡ told_with relay.old (event.Drop name) lost) }
     ensures untold { OnErr result (relay.new ≡ relay.old) }
-    ensures frame { OnOk result (PutsFrame name.copy (place_among run.now.setup.nodes name) None
+    ensures frame { OnOk result (PutsFrame name.round (place_among run.now.setup.nodes name) None
         buffer.old buffer.new) }
-    ensures unchanged { OnErr result (SameBuffer buffer.old buffer.new) }
+    ensures unchanged { OnErr result (buffer.new ≡ buffer.old) }
     ensures taken { OnOk result (Agrees P.start run.now buffer.old book.old name) }
     ensures cause { IfErr result (RelayFails P.start run.now buffer.old book.old name) }
 {
@@ -97,37 +100,34 @@ pub(crate) fn commit_drop<P: Plan>(
     }
     room(&mut relay.events)?;
     room(&mut relay.answers)?;
-    let place = place(book, name);
+    let place = run.place(name);
     let lost = book.drop_copy(name)?;
     if lost {
-        buffer.remove(name.copy, place);
+        buffer.remove(name.round, place);
     }
     relay.events.push_reserved(Event::Drop(name));
     relay.answers.push_reserved(lost);
     Ok(lost)
 }
 
-/// The frame in flight as copy 0, as another copy.
-fn copy_of(buffer: &Buffer, copy: u32, place: usize) -> Result<Option<Sealed>, NoMemory>
-    ensures { IfOk result (λ o. o ≡ option_map (copied_as copy) (flying_at buffer.now 0 place)) }
-{
-    match buffer.flying(0, place) {
-        Some(frame) => Ok(Some(frame.copied(copy)?)),
-        None => Ok(None),
-    }
-}
-
 /// A copy: true where copy 0 was in flight and this one, 1 to 3, was never made; its frame, the
-/// same message, is in flight.
+/// same message, is in flight. The frame was copied before, where there is one.
 pub(crate) fn commit_copy<P: Plan>(
     run: &Run<P>,
     relay: &mut Relay,
     buffer: &mut Buffer,
     book: &mut Book<P>,
     name: Name,
+    frame: Option<Sealed>,
 ) -> Result<bool, RelayFault>
     requires name { IsName run.now.setup name }
     requires other { 0 < name.copy }
+    requires of_run { IsOfRun run.now.program run.now.setup buffer.old }
+    requires place { HasPlace buffer.old.flying name.round
+        (place_among run.now.setup.nodes name) }
+    requires copied { frame ≡ option_map (copied_as name.copy)
+        (flying_at buffer.old name.round
+        (place_among run.now.setup.nodes (original name))) }
     ensures recorded { OnOk result (book.new ≡ record book.old {
       log = happened book.old.log
           (event.Copy name);
@@ -137,9 +137,9 @@ pub(crate) fn commit_copy<P: Plan>(
         name) }
     ensures told { IfOk result (λ made. relay.new ≡ told_with relay.old (event.Copy name) made) }
     ensures untold { OnErr result (relay.new ≡ relay.old) }
-    ensures frame { IfOk result (λ made. AddsCopy name.copy (place_among run.now.setup.nodes name)
-        buffer.old buffer.new made) }
-    ensures unchanged { OnErr result (SameBuffer buffer.old buffer.new) }
+    ensures frame { IfOk result (λ made. AddsCopy run.now.setup.nodes name buffer.old buffer.new
+        made) }
+    ensures unchanged { OnErr result (buffer.new ≡ buffer.old) }
     ensures taken { OnOk result (AgreesTwice P.start run.now buffer.old book.old name) }
     ensures cause { IfErr result (CopyFails P.start run.now buffer.old book.old name) }
 {
@@ -148,14 +148,11 @@ pub(crate) fn commit_copy<P: Plan>(
     }
     room(&mut relay.events)?;
     room(&mut relay.answers)?;
-    let place = place(book, name);
     buffer.spelt();
-    let frame = copy_of(buffer, name.copy, place)?;
-    buffer.reserve_flying(name.copy, place)?;
     let made = book.make_copy(name)?;
     if made {
         if let Some(frame) = frame {
-            buffer.put(name.copy, place, frame);
+            buffer.put(name.round, run.place(name), frame);
         }
     }
     relay.events.push_reserved(Event::Copy(name));

@@ -19,7 +19,9 @@ use crate::account::joined;
 use crate::commit::{commit_close, commit_receive, commit_send};
 use crate::fault::{PostFault, RelayFault, Unmatched};
 use crate::gate::{Gate, Point};
+use crate::locking::take;
 use crate::network::{commit_copy, commit_drop, commit_release};
+use crate::ready::{copy_of, make_place, make_room, names_in};
 use crate::refusals::{may_close, refuses_receive, refuses_send};
 use crate::run::Run;
 use crate::seat::{Relay, Seat};
@@ -30,7 +32,7 @@ use slot_plans::Plan;
 use std::alloc::Global;
 use std::marker::Model;
 use std::sync::{Mutex, Wait};
-use step_book::{Book, Buffer, CloseFault, Refused};
+use step_book::{Book, Buffer, CloseFault, Refused, SendFault, add_names};
 use step_journal::{Journal, Took};
 use step_machine::{Finished, InFlight, Name, Prepared};
 
@@ -40,7 +42,8 @@ use step_machine::{Finished, InFlight, Name, Prepared};
 pub struct Post<P: Plan> {
     alloc: Global,
     run: Run<P>,
-    book: Mutex<Book<P>>,
+    /// By itself, so that reading the run shares no cache line with what is written under the lock.
+    book: Box<Mutex<Book<P>>>,
     buffers: Vec<Mutex<Buffer>>,
     returned: Vec<Buffer>,
 }
@@ -118,7 +121,7 @@ impl<P: Plan> Post<P> {
         let post = Post {
             alloc,
             run: Run::new(program, setup, plan)?,
-            book: Mutex::new(book),
+            book: Box::new(alloc, Mutex::new(book))?,
             buffers,
             returned: Vec::with_capacity(alloc, setup.nodes as usize)?,
         };
@@ -148,9 +151,15 @@ impl<P: Plan> Post<P> {
         if let Some(fault) = refuses_send(&self.run, seat, name) {
             return Err(Refused { fault, prepared });
         }
-        let mut buffer = self.buffers[name.to as usize].lock(rt);
+        let mut buffer = take(rt, &self.buffers[name.to as usize]);
         gate.pass(Point::Send(name));
-        let mut book = self.book.lock(rt);
+        if let Err(fault) = make_place(&self.run, &mut buffer, name) {
+            return Err(Refused {
+                fault: SendFault::from(fault),
+                prepared,
+            });
+        }
+        let mut book = take(rt, &self.book);
         commit_send(&self.run, seat, &mut buffer, &mut book, prepared)
     }
 
@@ -174,9 +183,10 @@ impl<P: Plan> Post<P> {
             return Err(fault);
         }
         let node = seat.node();
-        let mut buffer = self.buffers[node as usize].lock(rt);
-        let mut book = self.book.lock(rt);
-        commit_receive(self.alloc, &self.run, seat, &mut buffer, &mut book)
+        let mut buffer = take(rt, &self.buffers[node as usize]);
+        let names = names_in(self.alloc, &self.run, &buffer)?;
+        let mut book = take(rt, &self.book);
+        commit_receive(&self.run, seat, &mut buffer, &mut book, names)
     }
 
     /// Closes the node's due round, which it finished.
@@ -203,7 +213,7 @@ impl<P: Plan> Post<P> {
         if !may_close(&self.run, seat, finished.round()) {
             return Err(CloseFault::NotDue);
         }
-        let mut book = self.book.lock(rt);
+        let mut book = take(rt, &self.book);
         commit_close(&self.run, seat, &mut book, finished)
     }
 
@@ -219,8 +229,9 @@ impl<P: Plan> Post<P> {
             moved) }
         ensures err { OnErr result (relay.new ≡ relay.old) }
     {
-        let mut buffer = self.buffers[name.to as usize].lock(rt);
-        let mut book = self.book.lock(rt);
+        let mut buffer = take(rt, &self.buffers[name.to as usize]);
+        make_room(&self.run, &mut buffer)?;
+        let mut book = take(rt, &self.book);
         commit_release(&self.run, relay, &mut buffer, &mut book, name)
     }
 
@@ -235,8 +246,11 @@ impl<P: Plan> Post<P> {
         ensures ok { IfOk result (λ lost. relay.new ≡ told_with relay.old (event.Drop name) lost) }
         ensures err { OnErr result (relay.new ≡ relay.old) }
     {
-        let mut buffer = self.buffers[name.to as usize].lock(rt);
-        let mut book = self.book.lock(rt);
+        let mut buffer = take(rt, &self.buffers[name.to as usize]);
+        if !self.run.has_buffer(&buffer) {
+            return Err(RelayFault::Stranger);
+        }
+        let mut book = take(rt, &self.book);
         commit_drop(&self.run, relay, &mut buffer, &mut book, name)
     }
 
@@ -253,9 +267,11 @@ impl<P: Plan> Post<P> {
         ensures ok { IfOk result (λ made. relay.new ≡ told_with relay.old (event.Copy name) made) }
         ensures err { OnErr result (relay.new ≡ relay.old) }
     {
-        let mut buffer = self.buffers[name.to as usize].lock(rt);
-        let mut book = self.book.lock(rt);
-        commit_copy(&self.run, relay, &mut buffer, &mut book, name)
+        let mut buffer = take(rt, &self.buffers[name.to as usize]);
+        make_place(&self.run, &mut buffer, name)?;
+        let frame = copy_of(&self.run, &buffer, name)?;
+        let mut book = take(rt, &self.book);
+        commit_copy(&self.run, relay, &mut buffer, &mut book, name, frame)
     }
 
     /// The copies in flight, in the order of their messages' serials and then of the copy numbers,
@@ -263,7 +279,7 @@ impl<P: Plan> Post<P> {
     pub fn flight<R: Wait>(&self, rt: &R) -> Result<(Vec<InFlight>, usize), NoMemory>
         ensures { IfOk result (λ o. IsFlightOfOne P.start o.0.items o.1) }
     {
-        let book = self.book.lock(rt);
+        let book = take(rt, &self.book);
         let flight = book.flight(self.alloc)?;
         Ok((flight, book.trace().len()))
     }
@@ -281,9 +297,9 @@ impl<P: Plan> Post<P> {
             count) }
         ensures err { OnErr result (sent.new.items ≡ sent.old.items) }
     {
-        let book = self.book.lock(rt);
+        let book = take(rt, &self.book);
         if let Some(rest) = book.messages().get(known..) {
-            sent.extend_from_slice(rest)?;
+            add_names(sent, rest)?;
         }
         Ok(book.trace().len())
     }
@@ -295,7 +311,7 @@ impl<P: Plan> Post<P> {
         ensures ok { IfOk result (IsNextCopyInOne P.start name) }
         ensures known { IfOk result (λ copied. IfSome copied (IsName self.now.setup)) }
     {
-        let book = self.book.lock(rt);
+        let book = take(rt, &self.book);
         if !self.run.setup.same(book.setup()) {
             return Err(RelayFault::Stranger);
         }
@@ -321,6 +337,7 @@ impl<P: Plan> Post<P> {
         for buffer in buffers {
             returned.push_reserved(buffer.into_inner());
         }
-        joined(&run, book.into_inner(), returned, &seats, &relay)
+        let book = Box::into_inner(book).into_inner();
+        joined(&run, book, returned, &seats, &relay)
     }
 }

@@ -1,9 +1,10 @@
 //! Room that is made before anything is recorded.
 ghost use Rattle.std.specs.Prelude.{◌≡◌, ◌<◌, IfOk, OnOk, vec_capacity, vec_len};
+ghost use Rattle.step_book.specs.Buffers.{names_in};
 
 use round_lang::NoMemory;
 use std::alloc::Global;
-use step_machine::Name;
+use step_machine::{Name, Sealed};
 
 /// Makes room for one item more.
 pub(crate) fn room<T>(items: &mut Vec<T>) -> Result<(), NoMemory>
@@ -14,9 +15,13 @@ pub(crate) fn room<T>(items: &mut Vec<T>) -> Result<(), NoMemory>
     Ok(())
 }
 
-/// The names, to be kept.
-pub(crate) fn names_of(alloc: Global, names: &[Name]) -> Result<Vec<Name>, NoMemory>
-    ensures { IfOk result (λ copied. copied.items ≡ names.now) }
+/// The names of frames, to be kept.
+pub(crate) fn names_of(alloc: Global, frames: &[Sealed]) -> Result<Vec<Name>, NoMemory>
+    ensures { IfOk result (λ names. names.items ≡ names_in frames.now) }
 {
-    Ok(Vec::from_slice(alloc, names)?)
+    let mut names = Vec::with_capacity(alloc, frames.len())?;
+    for frame in frames {
+        names.push(frame.name())?;
+    }
+    Ok(names)
 }

@@ -1,7 +1,8 @@
 //! A run, and whether what stands under a lock is of it.
 ghost use Rattle.std.specs.Prelude.{◌≡◌, ◌↔◌, IfOk, IsTrue};
 ghost use Rattle.round_meaning.specs.Setups.{IsLawful};
-ghost use Rattle.step_journal.specs.Fits.{IsOfRun};
+ghost use Rattle.step_book.specs.Names.{IsName};
+ghost use Rattle.step_journal.specs.Fits.{IsOfRun, place_among};
 ghost use Rattle.locked_buffers.specs.Runs.{IsBookOfRun, IsSound};
 
 use round_check::Checked;
@@ -10,6 +11,7 @@ use round_meaning::Setup;
 use slot_plans::Plan;
 use std::marker::Model;
 use step_book::{Book, Buffer};
+use step_machine::Name;
 
 /// The program, setup and plan of a run.
 #[derive(Drop)]
@@ -77,5 +79,14 @@ impl<P: Plan> Run<P> {
         ensures { IsTrue result ↔ IsOfRun self.now.program self.now.setup buffer.now }
     {
         self.program.same(buffer.program()) && self.setup.same(buffer.setup())
+    }
+
+    /// The place of a copy of a message among those of its round to its receiver.
+    pub(crate) fn place(&self, name: Name) -> usize
+        requires { IsName self.now.setup name }
+        ensures { result ≡ place_among self.now.setup.nodes name }
+    {
+        let nodes = self.setup.nodes as usize;
+        name.copy as usize * nodes + name.from as usize
     }
 }

@@ -10,7 +10,7 @@
 
 mod fault;
 
-use adversary::{RunFault, write_schedule};
+use adversary::{RunFault, write_trace};
 use fault::Fault;
 use lockstep_runs::run_lockstep;
 use policies::{Bounded, Table};
@@ -111,7 +111,7 @@ fn schedule(alloc: Global, words: &[&str]) -> Result<String, Fault> {
     ) {
         Ok(journal) => {
             let events = journal.book().trace();
-            Ok(write_schedule(alloc, &setup, PlanKind::Known(receives), events)?)
+            Ok(write_trace(alloc, &setup, PlanKind::Known(receives), events)?)
         }
         Err(RunFault::NoMemory) => Err(Fault::NoMemory),
         Err(_) => Ok(String::from_str(alloc, "refused\n")?),

@@ -18,13 +18,15 @@ use Rattle.round_lang.specs.contracts.program.Program as program
 use Rattle.round_check.specs.contracts.checked.Checked as checked
 use Rattle.round_lang.proofs.vars.Vars.TheSendSync as vars
 use Rattle.round_meaning.proofs.setup.Setup.TheSendSync as setup
+use Rattle.frame_format.proofs.layout.Layout.TheSendSync as layout
 use Rattle.step_code.proofs.block_code.BlockCode.TheSendSync as block_code
 use Rattle.step_code.proofs.instr.Instr.TheSendSync as instr
 use Rattle.step_code.proofs.room.Room.TheSendSync as room
 use Rattle.step_machine.proofs.event.Name.TheSendSync as name
 use Rattle.step_machine.proofs.held.Held.TheSendSync as held
-use Rattle.step_machine.proofs.said.Said.TheSendSync as said
+use Rattle.step_machine.proofs.origin.Origin.TheSendSync as origin
 use Rattle.step_machine.proofs.sealed.Sealed.TheSendSync as sealed
+use Rattle.step_machine.proofs.spoken.Spoken.TheSendSync as spoken
 use Rattle.step_machine.specs.contracts.node.Node as node
 use Rattle.step_machine.proofs.event.Event.TheSendSync as event
 use Rattle.step_machine.proofs.event.InFlight.TheSendSync as in_flight
@@ -100,8 +102,11 @@ node_send = search (
   setup.the_sync,
   held.the_send,
   held.the_sync,
-  said.the_send,
-  said.the_sync,
+  layout.the_send,
+  layout.the_sync,
+  origin.the_send,
+  origin.the_sync,
+  spoken.the_send,
   vars.the_send,
   vars.the_sync,
   instr.the_send,

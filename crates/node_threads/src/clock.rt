@@ -71,9 +71,13 @@ impl Clock {
         }
     }
 
-    /// Tells the network of a step, where it isn't told of one already.
+    /// Tells the network of a step, where it isn't told of one already. Most steps only look, so
+    /// that the nodes share the cache line.
     fn tell<R: Wait>(&self, rt: &R, steps: u64) {
-        if steps == 0 || self.is_new.swap(true, Ordering::SeqCst) {
+        if steps == 0 || self.is_new.load(Ordering::SeqCst) {
+            return;
+        }
+        if self.is_new.swap(true, Ordering::SeqCst) {
             return;
         }
         let _count = self.count.lock(rt);

@@ -98,11 +98,12 @@ pub size_small : (s : ℕ) → size s ≤ 64
 unfolding members
 size_small s = filter_short (is_in s) 0 64
 
--- what a loop over members has left at place i, and the texts that it made of the others
-pub record Writing (ms : List ℕ) (i rest : ℕ) (text : List ℕ) : Type 0 where
-  pub written : text ≡ numbers_text (take i ms)
+-- what a loop over members has left at place i, and the texts that it made of the others, behind
+-- what stood there first
+pub record Writing (first ms : List ℕ) (i rest : ℕ) (text : List ℕ) : Type 0 where
+  pub written : text ≡ first ++ numbers_text (take i ms)
   pub left : members rest ≡ drop i ms
-  pub short : length text ≤ 3 * i
+  pub short : length text ≤ length first + 3 * i
 
 separator_some : (ms : List ℕ) (i : ℕ) → 0 < i → i < length ms → separator_after (take i ms) ≡ 44 ∷ []
 separator_some [] i some below = absurd (omega (arith, below))
@@ -112,7 +113,7 @@ separator_some (m ∷ ms) (suc i) some below = refl
 separator_none : (ms : List ℕ) (i : ℕ) → i ≡ 0 → separator_after (take i ms) ≡ []
 separator_none ms i e = ap (λ k. separator_after (take k ms)) e
 
-module _ (ms : List ℕ) (i rest : ℕ) (text : List ℕ) (before : Writing ms i rest text) (below : i < length ms) where
+module _ (first ms : List ℕ) (i rest : ℕ) (text : List ℕ) (before : Writing first ms i rest text) (below : i < length ms) where
   -- a comma, but for the first
   pub with_comma : (next : List ℕ) → 0 < i → next ≡ text ++ 44 ∷ [] → next ≡ text ++ separator_after (take i ms)
   with_comma next some e = e ∙ ap (λ s. text ++ s) (sym (separator_some ms i some below))
@@ -122,7 +123,7 @@ module _ (ms : List ℕ) (i rest : ℕ) (text : List ℕ) (before : Writing ms i
       e ∙ sym (append-nil text) ∙ ap (λ s. text ++ s) (sym (separator_none ms i none))
 
   -- the member that is next, and the members without it
-  pub one_more : (m after : ℕ) (next new : List ℕ) → m ≡ least 64 rest → after ≡ minus rest (only 64 m) → next ≡ text ++ separator_after (take i ms) → new ≡ next ++ decimal m → length new ≤ 3 * (i + 1) → Writing ms (i + 1) after new
+  pub one_more : (m after : ℕ) (next new : List ℕ) → m ≡ least 64 rest → after ≡ minus rest (only 64 m) → next ≡ text ++ separator_after (take i ms) → new ≡ next ++ decimal m → length new ≤ length first + 3 * (i + 1) → Writing first ms (i + 1) after new
   one_more m after next new m-is after-is next-is new-is short =
       let now = drop_more ms i 64 below in
       let is : m ≡ get_or ms i 64 = m-is ∙ ap (first_or 64) (before.left ∙ now) in
@@ -130,8 +131,9 @@ module _ (ms : List ℕ) (i rest : ℕ) (text : List ℕ) (before : Writing ms i
         written =
             new-is ∙ ap (λ t. t ++ decimal m) next-is ∙ append_assoc text (separator_after (take i ms)) (decimal m)
             ∙ ap (λ t. t ++ (separator_after (take i ms) ++ decimal m)) before.written
-            ∙ sym (with_commas-push decimal (take i ms) m) ∙ ap (λ x. numbers_text (take i ms ++ x ∷ [])) is
-            ∙ ap numbers_text (sym (take_more ms i 64 below));
+            ∙ append_assoc first (numbers_text (take i ms)) _
+            ∙ ap (λ l. first ++ l) (sym (with_commas-push decimal (take i ms) m) ∙ ap (λ x. numbers_text (take i ms ++ x ∷ [])) is
+            ∙ ap numbers_text (sym (take_more ms i 64 below)));
         left = ap members after-is ∙ members_but_first rest m m-is ∙ ap (drop 1) (before.left ∙ now);
         short = short;
       }

@@ -2,10 +2,8 @@
 use Rattle.std.proofs.Common.{◌≡◌, ℕ, zero, suc, ◌+◌, Bool, true, false, cond, List, [], ◌∷◌, ◌++◌}
 use Rattle.std.proofs.Common.{Option, map, refl, sym, ap, ◌∙◌, subst, append_assoc, append-nil}
 use Rattle.std.proofs.Common.{length, length-take-le, take, get_or, ◌<◌, add-zero, add-one, arith}
-use Rattle.std.specs.Prelude.{◌≢◌, slice_index, codes}
+use Rattle.std.specs.Prelude.{◌≢◌, slice_index, codes, if◌then◌else◌}
 use Rattle.std.specs.Fmt.{decimal}
-use denote.Text.{Utf8}
-use denote.Shadow.{shadow}
 use Rattle.std.specs.List.{range_with_len, filter, flat_map}
 use Rattle.std.specs.Io.KnownBytes.{Appends}
 use Rattle.std.proofs.KnownBytes.{Appends-trans}
@@ -14,9 +12,11 @@ use Rattle.std.proofs.lemmas.List.{take_more, flat_map_more}
 use Rattle.std.proofs.lemmas.Grind.{flat_map-append}
 use Rattle.std.proofs.lemmas.Bool.Decides.{nat_tests}
 use Rattle.omission_explainer.specs.Report.{with_commas, entry_text, is_entered, count_text}
-use Rattle.omission_explainer.specs.Report.{counts_text, decision_text, nodes_text, row_text}
+use Rattle.omission_explainer.specs.Report.{counts_text, decision_text, entries_text, nodes_text}
+use Rattle.omission_explainer.specs.Report.{row_text}
 use Rattle.omission_explainer.specs.Report.{state_text, type_at, value_text, variable_text}
 use Rattle.omission_explainer.specs.Rows.{ClosedRound}
+use Rattle.omission_explainer.specs.Short.{Tells}
 use Rattle.omission_explainer.specs.declared.report.Report.{Report}
 use Rattle.round_lang.specs.declared.expr.Ty.{Ty}
 use Rattle.round_lang.specs.declared.value.Value.{Value}
@@ -65,49 +65,76 @@ filter_passed p i h =
     ap (filter p) (range_more i) ∙ filter-append p (range_with_len 0 i) (i ∷ [])
     ∙ ap (λ b. filter p (range_with_len 0 i) ++ cond b (i ∷ []) []) h ∙ append-nil _
 
--- a loop wrote the texts of the numbers below i that pass, with commas, and has the next separator
-pub record WritesPassing (old new : Option (List ℕ)) (f : ℕ → List ℕ) (p : ℕ → Bool) (i : ℕ) (separator : List ℕ) : Type 0 where
-  pub wrote : Appends old new (with_commas (map f (filter p (range_with_len 0 i))))
-  pub separated : separator ≡ separator_after (filter p (range_with_len 0 i))
+-- what was told before and after, together
+pub Tells-trans : (a b c : Option (List ℕ)) (s t u xs ys : List ℕ) → Tells a s b t xs → Tells b t c u ys → Tells a s c u (xs ++ ys)
+Tells-trans a b c s t u xs ys first next = record {
+  gone = first.gone ++ next.gone;
+  wrote = Appends-trans a b c first.gone next.gone first.wrote next.wrote;
+  joined =
+      append_assoc first.gone next.gone u ∙ ap (λ l. first.gone ++ l) next.joined
+      ∙ sym (append_assoc first.gone t ys) ∙ ap (λ l. l ++ ys) first.joined ∙ append_assoc s xs ys;
+}
 
--- a number that passes was written after its separator
-pub passing_taken : (old mid new : Option (List ℕ)) (f : ℕ → List ℕ) (p : ℕ → Bool) (i : ℕ) (separator next : List ℕ) → WritesPassing old mid f p i separator → p i ≡ true → Appends mid new (separator ++ f i) → next ≡ 44 ∷ [] → WritesPassing old new f p (i + 1) next
-passing_taken old mid new f p i separator next before h more comma = record {
-  wrote =
+-- what is kept back got more
+pub tells_pushed : (a b : Option (List ℕ)) (s t u bs : List ℕ) → Tells a s b t [] → u ≡ t ++ bs → Tells a s b u bs
+tells_pushed a b s t u bs before e = record {
+  gone = before.gone;
+  wrote = before.wrote;
+  joined =
+      ap (λ l. before.gone ++ l) e ∙ sym (append_assoc before.gone t bs)
+      ∙ ap (λ l. l ++ bs) (before.joined ∙ append-nil s);
+}
+
+-- nothing was told
+pub tells_nothing : (a : Option (List ℕ)) (s : List ℕ) → Appends a a [] → Tells a s a s []
+tells_nothing a s same = record { gone = []; wrote = same; joined = sym (append-nil s) }
+
+-- what was kept back went out
+pub tells_gone : (a b : Option (List ℕ)) (s : List ℕ) → Appends a b s → Tells a s b [] []
+tells_gone a b s wrote = record { gone = s; wrote = wrote; joined = refl }
+
+-- all went out
+pub all_told : (a b c : Option (List ℕ)) (t bs : List ℕ) → Tells a [] b t bs → Appends b c t → Appends a c bs
+all_told a b c t bs told rest =
+    subst (Appends a c) told.joined (Appends-trans a b c told.gone t told.wrote rest)
+
+-- a loop told the texts of the numbers below i that pass, with commas, and knows whether there was one
+pub record TellsPassing (old : Option (List ℕ)) (kept : List ℕ) (new : Option (List ℕ)) (kept_now : List ℕ) (f : ℕ → List ℕ) (p : ℕ → Bool) (i : ℕ) (has_some : Bool) : Type 0 where
+  pub told : Tells old kept new kept_now (codes "[" ++ with_commas (map f (filter p (range_with_len 0 i))))
+  pub separated : (if has_some then codes "," else []) ≡ separator_after (filter p (range_with_len 0 i))
+
+-- a number that passes was told after its separator
+pub passing_taken : (old mid new : Option (List ℕ)) (s t u : List ℕ) (f : ℕ → List ℕ) (p : ℕ → Bool) (i : ℕ) (has_some : Bool) → TellsPassing old s mid t f p i has_some → p i ≡ true → Tells mid t new u ((if has_some then codes "," else []) ++ f i) → TellsPassing old s new u f p (i + 1) true
+passing_taken old mid new s t u f p i has_some before h more = record {
+  told =
       let taken = filter p (range_with_len 0 i) in
-      let e : with_commas (map f taken) ++ (separator ++ f i) ≡ with_commas (map f (filter p (range_with_len 0 (i + 1)))) =
-      ap (λ s. with_commas (map f taken) ++ (s ++ f i)) before.separated
-      ∙ sym (with_commas-push f taken i) ∙ ap (λ l. with_commas (map f l)) (sym (filter_taken p i h)) in
-      subst (Appends old new) e (Appends-trans old mid new _ _ before.wrote more);
+      let e : (codes "[" ++ with_commas (map f taken)) ++ ((if has_some then codes "," else []) ++ f i) ≡ codes "[" ++ with_commas (map f (filter p (range_with_len 0 (i + 1)))) =
+      append_assoc (codes "[") (with_commas (map f taken)) _ ∙ ap (λ l. codes "[" ++ l) (ap (λ c. with_commas (map f taken) ++ (c ++ f i)) before.separated
+      ∙ sym (with_commas-push f taken i) ∙ ap (λ l. with_commas (map f l)) (sym (filter_taken p i h))) in
+      subst (Tells old s new u) e (Tells-trans old mid new s t u _ _ before.told more);
   separated =
-      comma ∙ sym (ap separator_after (filter_taken p i h) ∙ separator_after-push (filter p (range_with_len 0 i)) i);
+      sym (ap separator_after (filter_taken p i h) ∙ separator_after-push (filter p (range_with_len 0 i)) i);
 }
 
 -- a number that doesn't pass changed nothing
-pub passing_passed : (old mid new : Option (List ℕ)) (f : ℕ → List ℕ) (p : ℕ → Bool) (i : ℕ) (separator next : List ℕ) → WritesPassing old mid f p i separator → p i ≡ false → new ≡ mid → next ≡ separator → WritesPassing old new f p (i + 1) next
-passing_passed old mid new f p i separator next before h same kept = record {
-  wrote =
-      subst (λ o. Appends old o (with_commas (map f (filter p (range_with_len 0 (i + 1)))))) (sym same)
-      (subst (λ l. Appends old mid (with_commas (map f l))) (sym (filter_passed p i h)) before.wrote);
-  separated = kept ∙ before.separated ∙ ap separator_after (sym (filter_passed p i h));
+pub passing_passed : (old mid : Option (List ℕ)) (s t : List ℕ) (f : ℕ → List ℕ) (p : ℕ → Bool) (i : ℕ) (has_some : Bool) → TellsPassing old s mid t f p i has_some → p i ≡ false → TellsPassing old s mid t f p (i + 1) has_some
+passing_passed old mid s t f p i has_some before h = record {
+  told = subst (λ l. Tells old s mid t (codes "[" ++ with_commas (map f l))) (sym (filter_passed p i h)) before.told;
+  separated = before.separated ∙ ap separator_after (sym (filter_passed p i h));
 }
 
--- a comma is text
-pub comma_is_text : (s : List ℕ) → s ≡ 44 ∷ [] → shadow (Utf8 s)
-unfolding lib.Utf8.encode
-comma_is_text s e = subst (λ t. shadow (Utf8 t)) (sym e) (44 ∷ [], (refl, refl))
-
--- what equals a text is text
-pub same_is_text : (s t : List ℕ) → s ≡ t → shadow (Utf8 t) → shadow (Utf8 s)
-same_is_text s t e h = subst (λ u. shadow (Utf8 u)) (sym e) h
+-- all numbers below k were told, and then the closing bracket
+pub passing_all : (old mid new : Option (List ℕ)) (s t u entries : List ℕ) (i k : ℕ) (has_some : Bool) → i ≡ k → TellsPassing old s mid t (entry_text entries) (is_entered entries) i has_some → Tells mid t new u (codes "]") → Tells old s new u (entries_text k entries)
+passing_all old mid new s t u entries i k has_some e before last =
+    subst (λ n. Tells old s new u (entries_text n entries)) e (Tells-trans old mid new s t u _ _ before.told last)
 
 -- one text more of a row of texts
-pub flat_map_below : (old mid new : Option (List ℕ)) (f : ℕ → List ℕ) (i : ℕ) → Appends old mid (flat_map f (range_with_len 0 i)) → Appends mid new (f i) → Appends old new (flat_map f (range_with_len 0 (i + 1)))
-flat_map_below old mid new f i before more =
+pub flat_map_below : (old mid new : Option (List ℕ)) (s t u front : List ℕ) (f : ℕ → List ℕ) (i : ℕ) → Tells old s mid t (front ++ flat_map f (range_with_len 0 i)) → Tells mid t new u (f i) → Tells old s new u (front ++ flat_map f (range_with_len 0 (i + 1)))
+flat_map_below old mid new s t u front f i before more =
     let e : flat_map f (range_with_len 0 i) ++ f i ≡ flat_map f (range_with_len 0 (i + 1)) =
     ap (λ l. flat_map f (range_with_len 0 i) ++ l) (sym (append-nil (f i)))
     ∙ sym (flat_map-append f (range_with_len 0 i) (i ∷ [])) ∙ ap (flat_map f) (sym (range_more i)) in
-    subst (Appends old new) e (Appends-trans old mid new _ _ before more)
+    subst (Tells old s new u) (append_assoc front (flat_map f (range_with_len 0 i)) (f i) ∙ ap (λ l. front ++ l) e) (Tells-trans old mid new s t u _ _ before more)
 
 -- the lines of the nodes, and the next node's
 counts_text-push : (node : ℕ) (counts : List (ℕ × ℕ)) (count : ℕ × ℕ) → counts_text node (counts ++ count ∷ []) ≡ counts_text node counts ++ count_text (node + length counts) count
@@ -119,13 +146,13 @@ counts_text-push node (first ∷ counts) count =
     ∙ sym (append_assoc (count_text node first) (counts_text (node + 1) counts) _)
 
 -- one node's line more
-pub counts_more : (old mid new : Option (List ℕ)) (counts : List (ℕ × ℕ)) (i : ℕ) (d : ℕ × ℕ) → i < length counts → Appends old mid (counts_text 0 (take i counts)) → Appends mid new (count_text i (get_or counts i d)) → Appends old new (counts_text 0 (take (i + 1) counts))
-counts_more old mid new counts i d h before more =
+pub counts_more : (old mid new : Option (List ℕ)) (s t u : List ℕ) (counts : List (ℕ × ℕ)) (i : ℕ) (d : ℕ × ℕ) → i < length counts → Tells old s mid t (counts_text 0 (take i counts)) → Tells mid t new u (count_text i (get_or counts i d)) → Tells old s new u (counts_text 0 (take (i + 1) counts))
+counts_more old mid new s t u counts i d h before more =
     let short : 0 + length (take i counts) ≡ i = omega (arith, length-take-le i counts) in
     let e : counts_text 0 (take i counts) ++ count_text i (get_or counts i d) ≡ counts_text 0 (take (i + 1) counts) =
     ap (λ n. counts_text 0 (take i counts) ++ count_text n (get_or counts i d)) (sym short)
     ∙ sym (counts_text-push 0 (take i counts) (get_or counts i d)) ∙ ap (counts_text 0) (sym (take_more counts i d h)) in
-    subst (Appends old new) e (Appends-trans old mid new _ _ before more)
+    subst (Tells old s new u) e (Tells-trans old mid new s t u _ _ before more)
 
 -- what the test of an entry says
 pub entry_there : (entries : List ℕ) (i e : ℕ) → e ≡ slice_index entries i → e ≢ 0 → is_entered entries i ≡ true
@@ -136,36 +163,33 @@ pub entry_absent : (entries : List ℕ) (i e : ℕ) → e ≡ slice_index entrie
 entry_absent entries i e same none = grind (arith, nat_tests)
 
 -- an entry after its separator
-pub entry_written : (old new : Option (List ℕ)) (entries separator : List ℕ) (i e : ℕ) → e ≡ slice_index entries i → Appends old new (separator ++ (decimal i ++ 58 ∷ decimal e)) → Appends old new (separator ++ entry_text entries i)
-entry_written old new entries separator i e same wrote =
-    let parts : separator ++ (decimal i ++ 58 ∷ decimal e) ≡ separator ++ entry_text entries i =
-    ap (λ n. separator ++ (decimal i ++ 58 ∷ decimal n)) same
-    ∙ ap (λ l. separator ++ l) (sym (append_assoc (decimal i) (58 ∷ []) (decimal (slice_index entries i)))) in
-    subst (Appends old new) parts wrote
+pub entry_told : (mid new : Option (List ℕ)) (t u : List ℕ) (entries separator : List ℕ) (i e : ℕ) → e ≡ slice_index entries i → Tells mid t new u (separator ++ (decimal i ++ codes ":" ++ decimal e)) → Tells mid t new u (separator ++ entry_text entries i)
+entry_told mid new t u entries separator i e same told =
+    subst (λ n. Tells mid t new u (separator ++ (decimal i ++ codes ":" ++ decimal n))) same told
 
 -- one item's text more
-pub items_more : {X : Type 0} (old mid new : Option (List ℕ)) (f : X → List ℕ) (xs : List X) (i : ℕ) (x : X) → i < length xs → x ≡ get_or xs i x → Appends old mid (flat_map f (take i xs)) → Appends mid new (f x) → Appends old new (flat_map f (take (i + 1) xs))
-items_more old mid new f xs i x h is before more =
+pub items_more : {X : Type 0} (old mid new : Option (List ℕ)) (s t u : List ℕ) (f : X → List ℕ) (xs : List X) (i : ℕ) (x : X) → i < length xs → x ≡ get_or xs i x → Tells old s mid t (flat_map f (take i xs)) → Tells mid t new u (f x) → Tells old s new u (flat_map f (take (i + 1) xs))
+items_more old mid new s t u f xs i x h is before more =
     let e : flat_map f (take i xs) ++ f x ≡ flat_map f (take (i + 1) xs) =
     flat_map_more f [] (take i xs) x ∙ ap (λ y. flat_map f (take i xs ++ y ∷ [])) is ∙ ap (flat_map f) (sym (take_more xs i x h)) in
-    subst (Appends old new) e (Appends-trans old mid new _ _ before more)
+    subst (Tells old s new u) e (Tells-trans old mid new s t u _ _ before more)
 
 -- a variable in the form of its type
-pub variable_written : (old mid new : Option (List ℕ)) (report : Report) (state : List Value) (i : ℕ) (name : List ℕ) (ty : Ty) → name ≡ get_or report.names i [] → ty ≡ type_at report.types i → Appends old mid (32 ∷ (name ++ 61 ∷ [])) → Appends mid new (value_text report.values ty (at state i)) → Appends old new (variable_text report state i)
-variable_written old mid new report state i name ty named typed label value =
-    let e : (32 ∷ (name ++ 61 ∷ [])) ++ value_text report.values ty (at state i) ≡ variable_text report state i =
-    ap (λ n. (32 ∷ (n ++ 61 ∷ [])) ++ value_text report.values ty (at state i)) named
-    ∙ ap (λ t. (32 ∷ (get_or report.names i [] ++ 61 ∷ [])) ++ value_text report.values t (at state i)) typed in
-    subst (Appends old new) e (Appends-trans old mid new _ _ label value)
+pub variable_told : (old mid new : Option (List ℕ)) (s t u : List ℕ) (report : Report) (state : List Value) (i : ℕ) (name : List ℕ) (ty : Ty) → name ≡ get_or report.names i [] → ty ≡ type_at report.types i → Tells old s mid t (codes " " ++ name ++ codes "=") → Tells mid t new u (value_text report.values ty (at state i)) → Tells old s new u (variable_text report state i)
+variable_told old mid new s t u report state i name ty named typed label value =
+    let e : (codes " " ++ name ++ codes "=") ++ value_text report.values ty (at state i) ≡ variable_text report state i =
+    ap (λ n. codes " " ++ n ++ codes "=" ++ value_text report.values ty (at state i)) named
+    ∙ ap (λ k. codes " " ++ get_or report.names i [] ++ codes "=" ++ value_text report.values k (at state i)) typed in
+    subst (Tells old s new u) e (Tells-trans old mid new s t u _ _ label value)
 
 -- a closed round's line, piece by piece
-pub row_written : (a b c d e f g : Option (List ℕ)) (report : Report) (r : ClosedRound)
-    → Appends a b (codes "round " ++ decimal r.round ++ codes " node " ++ decimal r.node)
-    → Appends b c (codes " heard " ++ nodes_text r.heard)
-    → Appends c d (codes " silent " ++ nodes_text r.silent)
-    → Appends d e (codes " omitted " ++ nodes_text r.omitted)
-    → Appends e f (state_text report r.state)
-    → Appends f g (codes " decision " ++ decision_text r.decision ++ codes "\n")
-    → Appends a g (row_text report r)
-row_written a b c d e f g report r start heard silent omitted state decision =
-    Appends-trans a f g _ _ (Appends-trans a e f _ _ (Appends-trans a d e _ _ (Appends-trans a c d _ _ (Appends-trans a b c _ _ start heard) silent) omitted) state) decision
+pub row_told : (a b c d e f g : Option (List ℕ)) (s t u v w x y : List ℕ) (report : Report) (r : ClosedRound)
+    → Tells a s b t (codes "round " ++ decimal r.round ++ codes " node " ++ decimal r.node)
+    → Tells b t c u (codes " heard " ++ nodes_text r.heard)
+    → Tells c u d v (codes " silent " ++ nodes_text r.silent)
+    → Tells d v e w (codes " omitted " ++ nodes_text r.omitted)
+    → Tells e w f x (state_text report r.state)
+    → Tells f x g y (codes " decision " ++ decision_text r.decision ++ codes "\n")
+    → Tells a s g y (row_text report r)
+row_told a b c d e f g s t u v w x y report r start heard silent omitted state decision =
+    Tells-trans a f g s x y _ _ (Tells-trans a e f s w x _ _ (Tells-trans a d e s v w _ _ (Tells-trans a c d s u v _ _ (Tells-trans a b c s t u _ _ start heard) silent) omitted) state) decision

@@ -78,12 +78,12 @@ pub fn judge<P: Plan>(journal: &Journal<P>, correct: NodeSet, delta: u32, gst: u
     let mut lockstep = true;
     let mut bound = true;
     for event in book.trace() {
-        match event {
+        match event.event() {
             Event::Step(node) => {
-                if correct.contains(*node) {
-                    lockstep = lockstep && keeps_pace(correct, &counts, *node);
-                    bound = bound && keeps_bound(book, terms, &counts, *node);
-                    counts[*node as usize] += 1;
+                if correct.contains(node) {
+                    lockstep = lockstep && keeps_pace(correct, &counts, node);
+                    bound = bound && keeps_bound(book, terms, &counts, node);
+                    counts[node as usize] += 1;
                 }
             }
             Event::Release(_) => {}

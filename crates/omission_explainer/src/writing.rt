@@ -1,98 +1,189 @@
 //! A report's text.
-ghost use Rattle.std.specs.Prelude.{◌≡◌, ◌+◌, ◌<◌, ◌≤◌, ◌++◌, OnOk, codes, length};
+ghost use Rattle.std.specs.Prelude.{◌≡◌, ◌+◌, ◌<◌, ◌≤◌, ◌++◌, [], OnOk, codes, length};
+ghost use Rattle.std.specs.Prelude.{if◌then◌else◌};
 ghost use Rattle.std.specs.Fmt.{decimal};
 ghost use Rattle.std.specs.Io.KnownBytes.{Appends};
 ghost use Rattle.std.specs.List.{flat_map};
 ghost use Rattle.round_lang.specs.Sets.{members};
 ghost use Rattle.round_lang.specs.Values.{at, row};
-ghost use Rattle.omission_explainer.specs.Short.{room};
-ghost use Rattle.omission_explainer.specs.Report.{counts_text, decision_text, entries_text};
-ghost use Rattle.omission_explainer.specs.Report.{nodes_text, numbers_text, report_text, row_text};
-ghost use Rattle.omission_explainer.specs.Report.{set_text, state_text, type_at, value_text};
+ghost use Rattle.omission_explainer.specs.Short.{Tells, piece, room};
+ghost use Rattle.omission_explainer.specs.Report.{count_text, counts_text, decision_text};
+ghost use Rattle.omission_explainer.specs.Report.{entries_text, nodes_text, numbers_text};
+ghost use Rattle.omission_explainer.specs.Report.{report_text, row_text, set_text, state_text};
+ghost use Rattle.omission_explainer.specs.Report.{type_at, value_text, variable_text};
 
 use crate::report::{Report, ReportRow};
-use crate::short_text::ShortText;
+use crate::short_text::{ROOM, ShortText};
+use itoa::Buffer;
 use round_lang::{Ty, ValueSet, Vars};
 use round_meaning::NodeSet;
 use std::io;
 use std::io::Write;
 
+/// How many bytes are added to a text at once, at most: 64 members below 64 take two digits and a
+/// comma each.
+const PIECE: usize = 256;
+
 /// Writes a report's text: a line for each of its rows, and then a line for each node, each with
 /// LF.
 ///
-/// It takes no memory, and writes in small pieces, so a file's or a terminal's writer is best
-/// buffered. The first fault of the writer is answered as it came; the writer then has the text up
-/// to there.
+/// It takes no memory, and writes in pieces of some hundred bytes, so a file's or a terminal's
+/// writer is best buffered. The first fault of the writer is answered as it came; the writer then
+/// has a beginning of the text.
 pub fn write_report<W: Write>(report: &Report, out: &mut W) -> io::Result<()>
     ensures { OnOk result
         (Appends (W.contents out.old) (W.contents out.new) (report_text report.now)) }
 {
-    write_rows(report, out)?;
-    write_counts(report.counts.as_slice(), out)
+    let mut text = ShortText::new();
+    write_rows(report, &mut text, out)?;
+    write_counts(report.counts.as_slice(), &mut text, out)?;
+    out.write_all(text.as_slice())
 }
 
-fn write_rows<W: Write>(report: &Report, out: &mut W) -> io::Result<()>
-    ensures { OnOk result (Appends (W.contents out.old) (W.contents out.new)
+/// Makes room for a piece: where too little is left, what was kept back goes out.
+fn make_room<W: Write>(text: &mut ShortText, out: &mut W) -> io::Result<()>
+    ensures same { OnOk result
+        (Tells (W.contents out.old) text.old (W.contents out.new) text.new []) }
+    ensures room { OnOk result (length text.new + piece ≤ room) }
+{
+    if text.len() > ROOM - PIECE {
+        out.write_all(text.as_slice())?;
+        text.clear();
+    }
+    Ok(())
+}
+
+fn write_rows<W: Write>(report: &Report, text: &mut ShortText, out: &mut W) -> io::Result<()>
+    ensures { OnOk result (Tells (W.contents out.old) text.old (W.contents out.new) text.new
         (flat_map (row_text report.now) report.now.rows)) }
 {
     for row in report.rows.as_slice() {
-        write_row(report, row, out)?;
+        write_row(report, row, text, out)?;
     }
     Ok(())
 }
 
-fn write_counts<W: Write>(counts: &[(u64, u64)], out: &mut W) -> io::Result<()>
-    ensures { OnOk result
-        (Appends (W.contents out.old) (W.contents out.new) (counts_text 0 counts.now)) }
+fn write_counts<W: Write>(
+    counts: &[(u64, u64)],
+    text: &mut ShortText,
+    out: &mut W,
+) -> io::Result<()>
+    ensures { OnOk result (Tells (W.contents out.old) text.old (W.contents out.new) text.new
+        (counts_text 0 counts.now)) }
 {
-    for (node, (steps, rounds)) in counts.iter().enumerate() {
-        writeln!(out, "node {node} steps {steps} rounds {rounds}")?;
+    for (node, count) in counts.iter().enumerate() {
+        make_room(text, out)?;
+        push_count(node as u64, *count, text);
     }
     Ok(())
 }
 
-fn write_row<W: Write>(report: &Report, row: &ReportRow, out: &mut W) -> io::Result<()>
-    ensures { OnOk result
-        (Appends (W.contents out.old) (W.contents out.new) (row_text report.now row.now)) }
+/// Appends the line of a node's steps and closed rounds.
+fn push_count(node: u64, count: (u64, u64), text: &mut ShortText)
+    requires { length text.old + piece ≤ room }
+    ensures { text.new ≡ text.old ++ count_text node count }
 {
-    write!(out, "round {} node {}", row.round, row.node)?;
-    write_nodes(" heard ", row.heard, out)?;
-    write_nodes(" silent ", row.silent, out)?;
-    write_nodes(" omitted ", row.omitted, out)?;
-    write_state(report, &row.state, out)?;
-    write_decision(row.decision, out)
+    let (steps, rounds) = count;
+    text.push_all(b"node ");
+    push_number(node, text);
+    text.push_all(b" steps ");
+    push_number(steps, text);
+    text.push_all(b" rounds ");
+    push_number(rounds, text);
+    text.push(b'\n');
+}
+
+fn write_row<W: Write>(
+    report: &Report,
+    row: &ReportRow,
+    text: &mut ShortText,
+    out: &mut W,
+) -> io::Result<()>
+    ensures { OnOk result (Tells (W.contents out.old) text.old (W.contents out.new) text.new
+        (row_text report.now row.now)) }
+{
+    make_room(text, out)?;
+    push_head(row.round, row.node, text);
+    write_nodes(b" heard ", row.heard, text, out)?;
+    write_nodes(b" silent ", row.silent, text, out)?;
+    write_nodes(b" omitted ", row.omitted, text, out)?;
+    write_state(report, &row.state, text, out)?;
+    make_room(text, out)?;
+    push_decision(row.decision, text);
+    Ok(())
+}
+
+/// Appends what a row begins with.
+fn push_head(round: u32, node: u32, text: &mut ShortText)
+    requires { length text.old + piece ≤ room }
+    ensures { text.new
+        ≡ text.old ++ (codes "round " ++ decimal round ++ codes " node " ++ decimal node) }
+{
+    text.push_all(b"round ");
+    push_number(u64::from(round), text);
+    text.push_all(b" node ");
+    push_number(u64::from(node), text);
+}
+
+/// Appends the decision, or `-`, and the line's end.
+fn push_decision(decision: Option<u32>, text: &mut ShortText)
+    requires { length text.old + piece ≤ room }
+    ensures { text.new
+        ≡ text.old ++ (codes " decision " ++ decision_text decision ++ codes "\n") }
+{
+    text.push_all(b" decision ");
+    match decision {
+        Some(value) => push_number(u64::from(value), text),
+        None => text.push(b'-'),
+    }
+    text.push(b'\n');
 }
 
 /// A set of nodes after its label: in rising order with commas, or `-`.
-fn write_nodes<W: Write>(label: &str, nodes: NodeSet, out: &mut W) -> io::Result<()>
-    ensures { OnOk result (Appends (W.contents out.old) (W.contents out.new)
+fn write_nodes<W: Write>(
+    label: &[u8],
+    nodes: NodeSet,
+    text: &mut ShortText,
+    out: &mut W,
+) -> io::Result<()>
+    requires { length label.now ≤ 16 }
+    ensures { OnOk result (Tells (W.contents out.old) text.old (W.contents out.new) text.new
         (label.now ++ nodes_text nodes.bits)) }
 {
-    out.write_all(label.as_bytes())?;
+    make_room(text, out)?;
+    text.push_all(label);
+    push_nodes(nodes, text);
+    Ok(())
+}
+
+/// Appends the nodes in rising order with commas, or `-`.
+fn push_nodes(nodes: NodeSet, text: &mut ShortText)
+    requires { length text.old + 192 ≤ room }
+    ensures { text.new ≡ text.old ++ nodes_text nodes.bits }
+{
     let set = ValueSet { bits: nodes.bits };
     if set.size() == 0 {
-        out.write_all(b"-")
+        text.push(b'-');
     } else {
-        write_members(set, out)
+        push_members(set, text);
     }
 }
 
-/// The members in rising order with commas, whose text is made whole before it goes out.
-fn write_members<W: Write>(set: ValueSet, out: &mut W) -> io::Result<()>
-    ensures { OnOk result (Appends (W.contents out.old) (W.contents out.new)
-        (numbers_text (members set.bits))) }
+/// Appends the members in rising order with commas.
+fn push_members(set: ValueSet, text: &mut ShortText)
+    requires { length text.old + 192 ≤ room }
+    ensures text { text.new ≡ text.old ++ numbers_text (members set.bits) }
+    ensures short { length text.new ≤ length text.old + 192 }
 {
-    let mut text = ShortText::new();
     let mut rest = set;
     for place in 0..set.size() {
         if place > 0 {
             text.push(b',');
         }
         let member = rest.least(64);
-        push_member(member, &mut text);
+        push_member(member, text);
         rest = rest.minus(ValueSet::single(64, member));
     }
-    out.write_all(text.as_slice())
 }
 
 /// Appends a number of two digits at most.
@@ -108,18 +199,56 @@ fn push_member(member: u32, text: &mut ShortText)
     text.push(b'0' + (member % 10) as u8);
 }
 
-fn write_state<W: Write>(report: &Report, state: &Vars, out: &mut W) -> io::Result<()>
-    ensures { OnOk result (Appends (W.contents out.old) (W.contents out.new)
+/// Appends a number.
+fn push_number(number: u64, text: &mut ShortText)
+    requires { length text.old + 20 ≤ room }
+    ensures text { text.new ≡ text.old ++ decimal number }
+    ensures short { length text.new ≤ length text.old + 20 }
+{
+    if number < 100 {
+        push_member(number as u32, text);
+    } else {
+        let mut digits = Buffer::new();
+        text.push_all(digits.format(number).as_bytes());
+    }
+}
+
+fn write_state<W: Write>(
+    report: &Report,
+    state: &Vars,
+    text: &mut ShortText,
+    out: &mut W,
+) -> io::Result<()>
+    ensures { OnOk result (Tells (W.contents out.old) text.old (W.contents out.new) text.new
         (state_text report.now state.now)) }
 {
-    write!(out, " state")?;
-    let names = report.names.as_slice();
-    for place in 0..names.len() {
-        write!(out, " {}=", names[place].as_str())?;
-        let ty = type_at(report.types.as_slice(), place);
-        write_value(report.values, ty, state, place, out)?;
+    make_room(text, out)?;
+    text.push_all(b" state");
+    for place in 0..report.names.as_slice().len() {
+        write_variable(report, state, place, text, out)?;
     }
     Ok(())
+}
+
+/// A variable's name and its value.
+fn write_variable<W: Write>(
+    report: &Report,
+    state: &Vars,
+    place: usize,
+    text: &mut ShortText,
+    out: &mut W,
+) -> io::Result<()>
+    requires { place < length report.now.names }
+    ensures { OnOk result (Tells (W.contents out.old) text.old (W.contents out.new) text.new
+        (variable_text report.now state.now place)) }
+{
+    let names = report.names.as_slice();
+    make_room(text, out)?;
+    text.push(b' ');
+    text.push_all(names[place].as_str().as_bytes());
+    text.push(b'=');
+    let ty = type_at(report.types.as_slice(), place);
+    write_value(report.values, ty, state, place, text, out)
 }
 
 /// The type of the variable at a place, num where there is none.
@@ -137,51 +266,77 @@ fn write_value<W: Write>(
     ty: Ty,
     state: &Vars,
     place: usize,
+    text: &mut ShortText,
     out: &mut W,
 ) -> io::Result<()>
-    ensures { OnOk result (Appends (W.contents out.old) (W.contents out.new)
+    ensures { OnOk result (Tells (W.contents out.old) text.old (W.contents out.new) text.new
         (value_text values ty (at state.now place))) }
 {
+    make_room(text, out)?;
     match ty {
-        Ty::Num => write!(out, "{}", state.num(place)),
-        Ty::Bool => write!(out, "{}", state.flag(place)),
-        Ty::Set => write_set(state.set(place), out),
-        Ty::Row => write_entries(values, state, place, out),
+        Ty::Num => push_number(u64::from(state.num(place)), text),
+        Ty::Bool => push_flag(state.flag(place), text),
+        Ty::Set => push_set(state.set(place), text),
+        Ty::Row => return write_entries(values, state, place, text, out),
     }
+    Ok(())
 }
 
-fn write_set<W: Write>(set: ValueSet, out: &mut W) -> io::Result<()>
-    ensures { OnOk result (Appends (W.contents out.old) (W.contents out.new) (set_text set.bits)) }
+/// Appends a truth value.
+fn push_flag(flag: bool, text: &mut ShortText)
+    requires { length text.old + piece ≤ room }
+    ensures { text.new ≡ text.old ++ (if flag then codes "true" else codes "false") }
 {
-    out.write_all(b"{")?;
-    write_members(set, out)?;
-    out.write_all(b"}")
+    text.push_all(if flag { b"true" } else { b"false" });
+}
+
+/// Appends a set of values in braces.
+fn push_set(set: ValueSet, text: &mut ShortText)
+    requires { length text.old + piece ≤ room }
+    ensures { text.new ≡ text.old ++ set_text set.bits }
+{
+    text.push(b'{');
+    push_members(set, text);
+    text.push(b'}');
 }
 
 /// A row's entries other than 0.
-fn write_entries<W: Write>(values: u32, state: &Vars, place: usize, out: &mut W) -> io::Result<()>
-    ensures { OnOk result (Appends (W.contents out.old) (W.contents out.new)
+fn write_entries<W: Write>(
+    values: u32,
+    state: &Vars,
+    place: usize,
+    text: &mut ShortText,
+    out: &mut W,
+) -> io::Result<()>
+    ensures { OnOk result (Tells (W.contents out.old) text.old (W.contents out.new) text.new
         (entries_text values (row (at state.now place)))) }
 {
-    write!(out, "[")?;
-    let mut separator = "";
+    make_room(text, out)?;
+    text.push(b'[');
+    let mut has_entry = false;
     for value in 0..values {
         let entry = state.entry(place, value);
         if entry != 0 {
-            write!(out, "{separator}{value}:{entry}")?;
-            separator = ",";
+            make_room(text, out)?;
+            push_entry(has_entry, value, entry, text);
+            has_entry = true;
         }
     }
-    write!(out, "]")
+    make_room(text, out)?;
+    text.push(b']');
+    Ok(())
 }
 
-/// The decision, or `-`, and the line's end.
-fn write_decision<W: Write>(decision: Option<u32>, out: &mut W) -> io::Result<()>
-    ensures { OnOk result (Appends (W.contents out.old) (W.contents out.new)
-        (codes " decision " ++ decision_text decision ++ codes "\n")) }
+/// Appends an entry, behind a comma where it isn't the first.
+fn push_entry(is_next: bool, value: u32, entry: u32, text: &mut ShortText)
+    requires { length text.old + piece ≤ room }
+    ensures { text.new ≡ text.old
+        ++ ((if is_next then codes "," else []) ++ (decimal value ++ codes ":" ++ decimal entry)) }
 {
-    match decision {
-        Some(value) => writeln!(out, " decision {value}"),
-        None => writeln!(out, " decision -"),
+    if is_next {
+        text.push(b',');
     }
+    push_number(u64::from(value), text);
+    text.push(b':');
+    push_number(u64::from(entry), text);
 }

@@ -2,7 +2,7 @@
 use crate::chosen::Chosen;
 use crate::fault::Fault;
 use crate::reading::{comma_numbers, number};
-use adversary::{RunFault, run_policy, write_schedule};
+use adversary::{RunFault, run_policy, write_trace};
 use round_check::{Checked, check};
 use round_lang::parse;
 use round_meaning::{Inputs, NodeSet, Setup};
@@ -58,7 +58,7 @@ pub fn schedule(alloc: Global, words: &[String]) -> Result<String, Fault> {
     match run_policy(alloc, &program, &setup, plan, correct, &mut policy, ticks) {
         Ok(journal) => {
             let events = journal.book().trace();
-            Ok(write_schedule(alloc, &setup, PlanKind::Known(receives), events)?)
+            Ok(write_trace(alloc, &setup, PlanKind::Known(receives), events)?)
         }
         Err(RunFault::NoMemory) => Err(Fault::NoMemory),
         Err(_) => Ok(String::from_str(alloc, "refused\n")?),

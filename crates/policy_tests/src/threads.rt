@@ -17,6 +17,7 @@ use std::alloc::Global;
 use std::io::Write;
 use std::sync::Wait;
 use std::thread::Threads;
+use step_book::events_of;
 use step_journal::Journal;
 
 /// How much of a run is printed.
@@ -101,8 +102,8 @@ impl<'a> Asked<'a> {
                 writeln!(out, "{line}")?;
             }
         }
-        let events = journal.book().trace();
-        match run_schedule(alloc, self.program, self.setup, plan, events) {
+        let events = events_of(alloc, journal.book().trace())?;
+        match run_schedule(alloc, self.program, self.setup, plan, &events) {
             Ok(again) if report(alloc, &again)? == text => out.push_str("the same again\n")?,
             Ok(_) => out.push_str("another report\n")?,
             Err(RunFault::NoMemory) => return Err(Fault::NoMemory),

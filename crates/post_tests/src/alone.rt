@@ -13,6 +13,7 @@ use slot_plans::Plan;
 use std::alloc::Global;
 use std::sync::atomic::{AtomicBool, Ordering};
 use std::sync::{Mutex, Wait};
+use step_journal::Journal;
 use step_machine::Node;
 
 /// Nodes that needn't wait.
@@ -91,14 +92,14 @@ fn run_all<R: Wait, P: Plan>(
     Ok(after)
 }
 
-/// How each node ended, and the report.
-pub fn answer<R: Wait, P: Plan>(
+/// How each node ended, and the run's journal, none where its accounts don't agree.
+fn ended<R: Wait, P: Plan>(
     rt: &R,
     alloc: Global,
     program: &Checked,
     setup: &Setup,
     plan: P,
-) -> Result<String, Fault>
+) -> Result<(String, Option<Journal<P>>), Fault>
     requires lawful { IsLawful program.now.values setup.now }
     requires nodes { P.nodes plan ≡ setup.now.nodes }
 {
@@ -116,10 +117,24 @@ pub fn answer<R: Wait, P: Plan>(
     if has_failed.load(Ordering::SeqCst) {
         return Err(Fault::NoMemory);
     }
-    let Ok(journal) = post.into_journal(seats, relay.into_inner()) else {
-        out.push_str("UNMATCHED\n")?;
-        return Ok(out);
-    };
-    out.push_str(report(alloc, &journal)?.as_str())?;
+    Ok((out, post.into_journal(seats, relay.into_inner()).ok()))
+}
+
+/// How each node ended, and the report.
+pub fn answer<R: Wait, P: Plan>(
+    rt: &R,
+    alloc: Global,
+    program: &Checked,
+    setup: &Setup,
+    plan: P,
+) -> Result<String, Fault>
+    requires lawful { IsLawful program.now.values setup.now }
+    requires nodes { P.nodes plan ≡ setup.now.nodes }
+{
+    let (mut out, journal) = ended(rt, alloc, program, setup, plan)?;
+    match journal {
+        Some(journal) => out.push_str(report(alloc, &journal)?.as_str())?,
+        None => out.push_str("UNMATCHED\n")?,
+    }
     Ok(out)
 }

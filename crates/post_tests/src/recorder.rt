@@ -8,11 +8,13 @@ ghost use Rattle.step_book.specs.Buffers.{IsMail};
 ghost use Rattle.step_machine.specs.Sealed.{IsPrepared};
 
 use locked_buffers::{OpenGate, Post, PostFault, Relay, RelayFault, Seat};
+use round_lang::NoMemory;
 use slot_plans::Plan;
+use std::alloc::Global;
 use std::sync::Wait;
 use step_book::{CloseFault, ReceiveFault, SendFault};
 use step_journal::Journal;
-use step_machine::{Finished, Name, Prepared, Sealed};
+use step_machine::{Finished, InFlight, Name, Prepared, Sealed};
 
 /// What records the events of a run, of which `program` and `setup` are those.
 pub trait Recorder {
@@ -67,6 +69,9 @@ pub trait Recorder {
         requires other { 0 < name.copy }
         ensures program { program self.new ≡ program self.old }
         ensures setup { setup self.new ≡ setup self.old };
+
+    /// The copies in flight, and how many events are recorded.
+    fn flight(&self, alloc: Global) -> Result<(Vec<InFlight>, usize), NoMemory>;
 }
 
 fn as_post(fault: ReceiveFault) -> PostFault {
@@ -113,6 +118,10 @@ impl<P: Plan> Recorder for Journal<P> {
 
     fn copy(&mut self, name: Name) -> Result<bool, RelayFault> {
         Ok(self.copy_frame(name)?)
+    }
+
+    fn flight(&self, alloc: Global) -> Result<(Vec<InFlight>, usize), NoMemory> {
+        Ok((self.flight(alloc)?, self.book().trace().len()))
     }
 }
 
@@ -171,5 +180,10 @@ impl<'a, R: Wait, P: Plan> Recorder for Counter<'a, R, P> {
 
     fn copy(&mut self, name: Name) -> Result<bool, RelayFault> {
         self.post.copy_frame(self.rt, &mut self.relay, name)
+    }
+
+    fn flight(&self, alloc: Global) -> Result<(Vec<InFlight>, usize), NoMemory> {
+        let _alloc = alloc;
+        self.post.flight(self.rt)
     }
 }

@@ -43,23 +43,6 @@ fn write_name(out: &mut String, name: Name) -> Result<(), Fault> {
     Ok(())
 }
 
-/// The number of a node that the plan has.
-fn number_of<P: Plan>(plan: P, node: &mut Node) -> Result<u32, Fault>
-    requires { P.nodes plan ≡ node.old.setup.nodes }
-    ensures me { IfOk result (λ me. me ≡ node.old.me) }
-    ensures within { IfOk result (λ me. me < node.old.setup.nodes) }
-    ensures node { node.new ≡ node.old }
-{
-    if plan.nodes() == 0 {
-        return Err(Fault::Unreadable);
-    }
-    let me = node.prepare(0)?.name().from;
-    if me >= plan.nodes() {
-        return Err(Fault::Unreadable);
-    }
-    Ok(me)
-}
-
 /// A send step.
 fn send<C: Recorder>(
     recorder: &mut C,
@@ -187,7 +170,7 @@ fn step<P: Plan, C: Recorder>(
         out.push_str("past its last round")?;
         return Ok(());
     }
-    let me = number_of(plan, node)?;
+    let me = node.number();
     let offset = recorder
         .steps(me)
         .saturating_sub(u64::from(plan.start(round)));
@@ -196,7 +179,7 @@ fn step<P: Plan, C: Recorder>(
     } else {
         receive(recorder, node, me, out)?;
     }
-    let me = number_of(plan, node)?;
+    let me = node.number();
     if node.round() <= rounds && recorder.steps(me) == u64::from(plan.start(round + 1)) {
         close(recorder, node, me, out)?;
     }
@@ -269,7 +252,19 @@ fn act<P: Plan, C: Recorder>(
     }
 }
 
-/// What a recorder answers to each event, a line for each.
+/// What is in flight after all events, each copy with its sender's step number and its serial.
+fn tell_flight<C: Recorder>(alloc: Global, recorder: &C, out: &mut String) -> Result<(), Fault> {
+    let (flight, events) = recorder.flight(alloc)?;
+    write!(out, "in flight after {events}:")?;
+    for copy in &flight {
+        write_name(out, copy.name)?;
+        write!(out, " {} {}", copy.sent_at, copy.serial)?;
+    }
+    out.push_str("\n")?;
+    Ok(())
+}
+
+/// What a recorder answers to each event, a line for each, and what is in flight in the end.
 fn answers<P: Plan, C: Recorder>(
     alloc: Global,
     recorder: &mut C,
@@ -285,15 +280,97 @@ fn answers<P: Plan, C: Recorder>(
     let setup = &schedule.setup;
     let mut nodes = all_nodes(alloc, program, setup)?;
     let mut out = String::new(alloc);
-    for event in &schedule.events {
+    for event in &schedule.events.to_vec(alloc)? {
         act(recorder, plan, setup, &mut nodes, *event, &mut out)?;
         out.push_str("\n")?;
     }
+    tell_flight(alloc, recorder, &mut out)?;
     Ok(out)
 }
 
-/// The answers of a post, whether a journal answers the same, and the report of the post's journal,
-/// which must be the other's.
+/// What a journal answers to the events, and what it is in the end.
+fn by_journal<P: Plan>(
+    alloc: Global,
+    program: &Checked,
+    schedule: &Schedule,
+    plan: P,
+) -> Result<(String, Journal<P>), Fault>
+    requires lawful { IsLawful program.now.values schedule.now.setup }
+    requires nodes { P.nodes plan ≡ schedule.now.setup.nodes }
+{
+    let mut journal = Journal::open(alloc, program, &schedule.setup, plan)?;
+    let out = answers(alloc, &mut journal, plan, program, schedule)?;
+    Ok((out, journal))
+}
+
+/// What a post answers to them, and its journal in the end, none where its accounts don't agree.
+fn by_post<R: Wait, P: Plan>(
+    rt: &R,
+    alloc: Global,
+    program: &Checked,
+    schedule: &Schedule,
+    plan: P,
+) -> Result<(String, Option<Journal<P>>), Fault>
+    requires lawful { IsLawful program.now.values schedule.now.setup }
+    requires nodes { P.nodes plan ≡ schedule.now.setup.nodes }
+{
+    let (post, seats, relay) = Post::open(alloc, program, &schedule.setup, plan)?;
+    let mut counter = Counter {
+        rt,
+        post,
+        seats,
+        relay,
+    };
+    let out = answers(alloc, &mut counter, plan, program, schedule)?;
+    let Counter {
+        rt: _,
+        post,
+        seats,
+        relay,
+    } = counter;
+    Ok((out, post.into_journal(seats, relay).ok()))
+}
+
+/// The answers of a post, whether a journal answered the same, and the report of the post's
+/// journal, which must be the other's.
+fn compared<P: Plan>(
+    alloc: Global,
+    answered: String,
+    wanted: &str,
+    posted: Option<Journal<P>>,
+    journal: &Journal<P>,
+) -> Result<String, Fault> {
+    let is_same = answered.as_str() == wanted;
+    let mut out = answered;
+    out.push_str(if is_same {
+        "the journal answers the same\n"
+    } else {
+        "THE JOURNAL ANSWERS OTHERWISE\n"
+    })?;
+    let Some(posted) = posted else {
+        out.push_str("UNMATCHED\n")?;
+        return Ok(out);
+    };
+    add_report(alloc, &posted, journal, &mut out)?;
+    Ok(out)
+}
+
+/// Adds the report of a post's journal, which must be the other's.
+fn add_report<P: Plan>(
+    alloc: Global,
+    posted: &Journal<P>,
+    journal: &Journal<P>,
+    out: &mut String,
+) -> Result<(), Fault> {
+    let text = report(alloc, posted)?;
+    out.push_str(text.as_str())?;
+    if report(alloc, journal)? != text {
+        out.push_str("THE JOURNAL REPORTS OTHERWISE\n")?;
+    }
+    Ok(())
+}
+
+/// What a post answers to the events of a schedule, beside a journal.
 pub fn answer<R: Wait, P: Plan>(
     rt: &R,
     alloc: Global,
@@ -304,36 +381,7 @@ pub fn answer<R: Wait, P: Plan>(
     requires lawful { IsLawful program.now.values schedule.now.setup }
     requires nodes { P.nodes plan ≡ schedule.now.setup.nodes }
 {
-    let setup = &schedule.setup;
-    let mut journal = Journal::open(alloc, program, setup, plan)?;
-    let wanted = answers(alloc, &mut journal, plan, program, schedule)?;
-    let (post, seats, relay) = Post::open(alloc, program, setup, plan)?;
-    let mut counter = Counter {
-        rt,
-        post,
-        seats,
-        relay,
-    };
-    let mut out = answers(alloc, &mut counter, plan, program, schedule)?;
-    out.push_str(if out == wanted {
-        "the journal answers the same\n"
-    } else {
-        "THE JOURNAL ANSWERS OTHERWISE\n"
-    })?;
-    let Counter {
-        rt: _,
-        post,
-        seats,
-        relay,
-    } = counter;
-    let Ok(posted) = post.into_journal(seats, relay) else {
-        out.push_str("UNMATCHED\n")?;
-        return Ok(out);
-    };
-    let text = report(alloc, &posted)?;
-    out.push_str(text.as_str())?;
-    if report(alloc, &journal)? != text {
-        out.push_str("THE JOURNAL REPORTS OTHERWISE\n")?;
-    }
-    Ok(out)
+    let (wanted, journal) = by_journal(alloc, program, schedule, plan)?;
+    let (answered, posted) = by_post(rt, alloc, program, schedule, plan)?;
+    compared(alloc, answered, wanted.as_str(), posted, &journal)
 }

@@ -4,3 +4,4 @@ pub mod Starts
 pub mod OneMeanings
 pub mod Sites
 pub mod ToldApart
+pub mod BytesApart

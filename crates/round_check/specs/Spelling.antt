@@ -1,6 +1,7 @@
 -- How a program is spelled as numbers, by which programs are told apart; contracts that a reader
 -- must believe don't speak of it.
-use Rattle.std.specs.Prelude.{ℕ, suc, List, [], ◌∷◌}
+use Rattle.std.specs.Prelude.{ℕ, suc, List, [], ◌∷◌, nat_lt, ◌/◌, ◌%◌, if◌then◌else◌}
+use Rattle.std.specs.List.{flat_map}
 use Rattle.round_lang.specs.declared.block.Assignment.{Assignment}
 use Rattle.round_lang.specs.declared.block.Field.{Field}
 use Rattle.round_lang.specs.declared.expr.BinaryOperator.{BinaryOperator}
@@ -124,3 +125,13 @@ program_then p rest = p.values ∷ p.period ∷ list_then variable_then p.variab
 -- a program as numbers
 abbrev pub spelled : ProgramTree → List ℕ
 spelled p = program_then p []
+
+-- a number as bytes: itself where it is below 255, else 255 and its own bytes, the lowest first
+abbrev pub number_bytes : ℕ → List ℕ
+number_bytes n =
+    if nat_lt n 255 then n ∷ []
+    else 255 ∷ n % 256 ∷ n / 256 % 256 ∷ n / 256 / 256 % 256 ∷ n / 256 / 256 / 256 ∷ []
+
+-- numbers as bytes
+abbrev pub packed : List ℕ → List ℕ
+packed = flat_map number_bytes

@@ -6,6 +6,7 @@ mod checked;
 mod fault;
 mod laws;
 mod names;
+mod packing;
 mod rules;
 mod shapes;
 mod spelling;

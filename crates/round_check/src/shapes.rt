@@ -1,8 +1,9 @@
 //! The shapes of a program's states and messages.
 ghost use Rattle.std.specs.Prelude.{◌≡◌, IfOk};
 ghost use Rattle.round_check.specs.Shapes.{block_kinds, message_kinds, state_kinds};
-ghost use Rattle.round_check.specs.Spelling.{spelled};
+ghost use Rattle.round_check.specs.Spelling.{packed, spelled};
 
+use crate::packing::pack;
 use crate::spelling::spell;
 use crate::types::kind_type;
 use round_lang::{Block, Kind, NoMemory, Program, Shape};
@@ -14,10 +15,11 @@ pub(crate) struct ShapedProgram {
     pub(crate) program: Program,
     pub(crate) state: Shape,
     pub(crate) messages: Vec<Shape>,
-    pub(crate) spelling: Vec<u32>,
+    /// As bytes, of which many are compared at once.
+    pub(crate) spelling: Vec<u8>,
     ghost state_is: { state ≡ state_kinds program },
     ghost messages_are: { messages.items ≡ message_kinds program },
-    ghost spelling_is: { spelling.items ≡ spelled program },
+    ghost spelling_is: { spelling.items ≡ packed (spelled program) },
 }
 
 impl ShapedProgram {
@@ -26,7 +28,7 @@ impl ShapedProgram {
     {
         let state = state_shape(alloc, &program)?;
         let messages = message_shapes(alloc, &program)?;
-        let spelling = spell(alloc, &program)?;
+        let spelling = pack(alloc, &spell(alloc, &program)?)?;
         Ok(ShapedProgram {
             program,
             state,

@@ -18,8 +18,8 @@ fn show_header(setup: &Setup, plan: PlanKind, out: &mut String) -> Result<(), Fa
 }
 
 /// All that a schedule says, on one line.
-fn show(schedule: &Schedule, out: &mut String) -> Result<(), Fault> {
-    let events = schedule.events.as_slice();
+fn show(alloc: Global, schedule: &Schedule, out: &mut String) -> Result<(), Fault> {
+    let events = schedule.events.to_vec(alloc)?;
     show_header(&schedule.setup, schedule.plan, out)?;
     writeln!(out, " {events:?}")?;
     Ok(())
@@ -34,22 +34,26 @@ fn tell_fault(fault: ScheduleFault, out: &mut String) -> Result<(), Fault> {
     Ok(())
 }
 
-fn is_same(one: &Schedule, other: &Schedule) -> bool {
-    one.setup.same(&other.setup)
-        && one.plan == other.plan
-        && one.events.as_slice() == other.events.as_slice()
+fn is_same(alloc: Global, one: &Schedule, other: &Schedule) -> Result<bool, Fault> {
+    let ours = one.events.to_vec(alloc)?;
+    let theirs = other.events.to_vec(alloc)?;
+    Ok(
+        one.setup.same(&other.setup)
+            && one.plan == other.plan
+            && ours.as_slice() == theirs.as_slice(),
+    )
 }
 
 /// Writes the schedule, and says whether that is read as the same.
 fn write_back(alloc: Global, schedule: &Schedule, out: &mut String) -> Result<(), Fault> {
-    let events = schedule.events.as_slice();
-    let text = write_schedule(alloc, &schedule.setup, schedule.plan, events)?;
+    let events = schedule.events.to_vec(alloc)?;
+    let text = write_schedule(alloc, &schedule.setup, schedule.plan, &events)?;
     out.push_str(text.as_str())?;
     let again = match read_schedule(alloc, text.as_str()) {
         Ok(again) => again,
         Err(fault) => return tell_fault(fault, out),
     };
-    let answer = if is_same(schedule, &again) {
+    let answer = if is_same(alloc, schedule, &again)? {
         "it is read back the same\n"
     } else {
         "READ BACK AS ANOTHER\n"
@@ -62,7 +66,7 @@ fn write_back(alloc: Global, schedule: &Schedule, out: &mut String) -> Result<()
 pub fn write_again(alloc: Global, input: &str, out: &mut String) -> Result<(), Fault> {
     match read_schedule(alloc, input) {
         Ok(schedule) => {
-            show(&schedule, out)?;
+            show(alloc, &schedule, out)?;
             write_back(alloc, &schedule, out)
         }
         Err(fault) => tell_fault(fault, out),

@@ -12,3 +12,4 @@ pub mod Places
 pub mod Sound
 pub mod OneReading
 pub mod Answered
+pub mod Decimals

@@ -24,7 +24,7 @@ abbrev pub state_of : Draft → State
 state_of d = record {
   stage = d.stage;
   inputs = d.inputs.items;
-  events = d.events.items;
+  events = d.events;
   stops = d.stops.items;
 }
 
@@ -80,7 +80,7 @@ IsReadOf kind show text (Err e) = IsReadingOf kind text (Err e)
 
 -- what a schedule says, without where it lies in memory
 abbrev pub schedule_read : Schedule → ReadOf kinds.Schedule
-schedule_read s = (s.setup, s.plan, s.events.items)
+schedule_read s = (s.setup, s.plan, s.events)
 
 -- what a thread setup says
 abbrev pub threads_read : ThreadSetup → ReadOf kinds.Threads

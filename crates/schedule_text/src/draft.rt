@@ -12,7 +12,7 @@ use round_lang::NoMemory;
 use round_meaning::{Inputs, Setup};
 use slot_plans::PlanKind;
 use std::alloc::Global;
-use step_machine::Event;
+use stored_events::Events;
 
 /// How far the header and the pace behind it have come: what their lines say so far, but for the
 /// inputs.
@@ -32,7 +32,7 @@ pub enum Stage {
 pub struct Draft {
     pub stage: Stage,
     pub inputs: Vec<u32>,
-    pub events: Vec<Event>,
+    pub events: Events,
     pub stops: Vec<Stop>,
 }
 
@@ -50,7 +50,7 @@ impl Draft {
         Ok(Draft {
             stage: Stage::Start,
             inputs: Vec::new(alloc),
-            events: Vec::with_capacity(alloc, events)?,
+            events: Events::new(alloc, events)?,
             stops: Vec::new(alloc),
         })
     }

@@ -1,5 +1,6 @@
 //! Why a text is no schedule.
 
+use round_lang::NoMemory;
 use std::alloc::AllocFailed;
 use thiserror::Error;
 
@@ -43,6 +44,17 @@ impl LineFault {
             LineFault::Large => ScheduleFault::NumberTooLarge(number),
             LineFault::NoMemory => ScheduleFault::NoMemory,
         }
+    }
+}
+
+impl From<NoMemory> for LineFault {
+    ghost use Rattle.std.specs.Prelude.{◌≡◌};
+    ghost use Rattle.schedule_text.specs.declared.fault.LineFault.TheVariants as line;
+
+    ghost from_gives = { λ _ e. e ≡ line.NoMemory };
+
+    fn from(_error: NoMemory) -> LineFault {
+        LineFault::NoMemory
     }
 }
 

@@ -9,6 +9,7 @@ use step_machine::{Event, Name};
 
 /// The event of a first line that LF ends, and what follows it; `None` where the line is no plain
 /// step or release of a message's copy 0.
+#[inline(always)]
 pub fn front_event(text: &[u8]) -> Option<(Event, &[u8])>
     ensures { IfSome result (λ r. IsFrontEvent text.now r.0 r.1.now) }
 {
@@ -19,6 +20,7 @@ pub fn front_event(text: &[u8]) -> Option<(Event, &[u8])>
     }
 }
 
+#[inline(always)]
 fn front_step(text: &[u8]) -> Option<(Event, &[u8])>
     ensures { IfSome result (λ r. IsFrontEvent (codes "step " ++ text.now) r.0 r.1.now) }
 {
@@ -26,6 +28,7 @@ fn front_step(text: &[u8]) -> Option<(Event, &[u8])>
     Some((Event::Step(node), rest))
 }
 
+#[inline(always)]
 fn front_release(text: &[u8]) -> Option<(Event, &[u8])>
     ensures { IfSome result (λ r. IsFrontEvent (codes "release " ++ text.now) r.0 r.1.now) }
 {

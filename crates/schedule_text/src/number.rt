@@ -54,6 +54,7 @@ pub fn first_number(text: &[u8]) -> Option<Front<'_>>
 
 /// The number that stands before this byte at the front of a text, and what follows the byte;
 /// `None` also where the number is above the largest.
+#[inline(always)]
 pub fn number_before(text: &[u8], end: u8) -> Option<(u32, &[u8])>
     ensures { IfSome result (λ r. IsNumberBefore text.now end r.0 r.1.now) }
 {
@@ -68,6 +69,7 @@ const SHORT: usize = 5;
 
 /// The same where the number ends within the first bytes, and more bytes follow: then nothing has
 /// to be tested at each digit but that it is one.
+#[inline(always)]
 fn short_number_before(text: &[u8], end: u8) -> Option<(u32, &[u8])>
     ensures { IfSome result (λ r. IsNumberBefore text.now end r.0 r.1.now) }
 {

@@ -15,14 +15,14 @@ use crate::pace::{Pace, Stop};
 use round_meaning::Setup;
 use slot_plans::PlanKind;
 use std::alloc::Global;
-use step_machine::Event;
+use stored_events::Events;
 
 /// What a schedule's text says.
 #[derive(Drop)]
 pub struct Schedule {
     pub setup: Setup,
     pub plan: PlanKind,
-    pub events: Vec<Event>,
+    pub events: Events,
 }
 
 /// What a thread setup's text says.

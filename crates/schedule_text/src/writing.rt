@@ -1,5 +1,6 @@
 //! Writing a schedule's text.
-ghost use Rattle.std.specs.Prelude.{◌≡◌, ◌<◌, ◌≤◌, ◌∷◌, ◌++◌, codes, length, All, IfOk, OnOk};
+ghost use Rattle.std.specs.Prelude.{◌≡◌, ◌+◌, ◌<◌, ◌≤◌, ◌∷◌, ◌++◌, [], codes, length, All, IfOk};
+ghost use Rattle.std.specs.Prelude.{OnOk};
 ghost use Rattle.std.specs.Fmt.{decimal};
 ghost use Rattle.std.specs.List.{flat_map};
 ghost use Rattle.std.specs.String.{string_bytes};
@@ -66,7 +67,27 @@ fn write_number(text: &mut String, start: &str, number: u32) -> Result<(), NoMem
     ensures small { IsSmall number }
 {
     text.push_str(start)?;
-    writeln!(text, "{number}")?;
+    push_number(text, number)?;
+    text.push('\n')?;
+    Ok(())
+}
+
+/// A number's digits. A trace has millions of numbers, which the formatter takes longer to write.
+fn push_number(text: &mut String, number: u32) -> Result<(), NoMemory>
+    ensures { OnOk result (string_bytes text.new ≡ string_bytes text.old ++ decimal number) }
+{
+    if number < 10 {
+        return push_digit(text, number);
+    }
+    push_number(text, number / 10)?;
+    push_digit(text, number % 10)
+}
+
+fn push_digit(text: &mut String, digit: u32) -> Result<(), NoMemory>
+    requires { digit < 10 }
+    ensures { OnOk result (string_bytes text.new ≡ string_bytes text.old ++ (48 + digit) ∷ []) }
+{
+    text.push(char::from(b'0' + digit as u8))?;
     Ok(())
 }
 
@@ -119,14 +140,8 @@ fn write_name(text: &mut String, start: &str, name: Name) -> Result<(), NoMemory
     if name.copy != 0 {
         return write_whole_name(text, start, name);
     }
-    let Name {
-        from,
-        to,
-        round,
-        ..
-    } = name;
-    text.push_str(start)?;
-    writeln!(text, "{from} {to} {round}")?;
+    push_name(text, start, name)?;
+    text.push('\n')?;
     Ok(())
 }
 
@@ -136,13 +151,22 @@ fn write_whole_name(text: &mut String, start: &str, name: Name) -> Result<(), No
         ≡ string_bytes text.old ++ line_text (name_line start.now name ++ 32 ∷ decimal name.copy)) }
     ensures small { IsSmallName name }
 {
-    let Name {
-        from,
-        to,
-        round,
-        copy,
-    } = name;
-    text.push_str(start)?;
-    writeln!(text, "{from} {to} {round} {copy}")?;
+    push_name(text, start, name)?;
+    text.push(' ')?;
+    push_number(text, name.copy)?;
+    text.push('\n')?;
     Ok(())
+}
+
+/// This beginning, and a message's sender, receiver and round.
+fn push_name(text: &mut String, start: &str, name: Name) -> Result<(), NoMemory>
+    ensures { OnOk result
+        (string_bytes text.new ≡ string_bytes text.old ++ name_line start.now name) }
+{
+    text.push_str(start)?;
+    push_number(text, name.from)?;
+    text.push(' ')?;
+    push_number(text, name.to)?;
+    text.push(' ')?;
+    push_number(text, name.round)
 }

@@ -1,12 +1,12 @@
 -- Tables as they grow and as a place of one is written.
 use Rattle.std.proofs.Common.{◌≡◌, ◌≢◌, ℕ, ◌<◌, ◌≤◌, List, [], ◌∷◌, ◌++◌, length, get_or, set, sym}
 use Rattle.std.proofs.Common.{subst, ap, ◌∙◌, arith, refl, ◌⊎◌, inl, inr}
-use Rattle.std.specs.Prelude.{Err, Ok, OnOk, Result, Vec}
+use Rattle.std.specs.Prelude.{All, Err, Ok, OnOk, Result, Vec}
 use Rattle.std.proofs.lemmas.Bool.{cases_lt, cases_eq}
 use Rattle.std.proofs.lemmas.List.{get_or-set_same, get_or-set_other, get_or_append_left}
 use Rattle.std.proofs.lemmas.List.{get_or_default, get_or_push, get_or_past, length_push}
 use Rattle.std.proofs.lemmas.List.{length-set, map-set, get_or-map, length-map}
-use Rattle.step_book.specs.Tables.{HasPlace, Puts, SameTable, SameTables, read_at, tables_of}
+use Rattle.step_book.specs.Tables.{HasPlace, Puts, PutsAt, SameTable, SameTables, read_at, tables_of}
 
 push_at : {A : Type 0} (d : A) (xs : List A) (k : ℕ) → (k < length xs) ⊎ (length xs ≤ k) → (k ≡ length xs) ⊎ (k ≡ length xs → ⊥) → get_or (xs ++ d ∷ []) k d ≡ get_or xs k d
 push_at d xs k (inl low) c = get_or_append_left xs (d ∷ []) d k low
@@ -76,6 +76,48 @@ has_place_by d ts c p h (inr far) b = absurd (h (ap (λ t. get_or t p d) (get_or
 
 pub has_place : {A : Type 0} (d : A) (ts : List (List A)) (c p : ℕ) → (read_at d ts c p ≡ d → ⊥) → HasPlace ts c p
 has_place d ts c p h = has_place_by d ts c p h (cases_lt _ _) (cases_lt _ _)
+
+-- a place of one table is written
+pub puts_at_set : {A : Type 0} (d : A) (xs : List A) (p : ℕ) (x : A) → p < length xs → PutsAt d xs (set xs p x) p x
+puts_at_set d xs p x l = record {
+  there = get_or-set_same xs p x d l;
+  others = λ k apart. (let ne : k ≢ p = apart in get_or-set_other xs p k x d ne);
+}
+
+-- and then the table goes, if no place has anything
+none_at : {A : Type 0} (d : A) (xs : List A) (k : ℕ) → All (λ x. x ≡ d) xs → (k < length xs) ⊎ (length xs ≤ k) → get_or xs k d ≡ d
+none_at d xs k all (inl low) = all k d low
+none_at d xs k all (inr high) = get_or_past xs k d high
+
+pub same_gone : {A : Type 0} (d : A) (xs : List A) → All (λ x. x ≡ d) xs → SameTable d xs []
+same_gone d xs all = λ k. get_or_past [] k d (omega arith) ∙ sym (none_at d xs k all (cases_lt _ _))
+
+pub puts_at_then : {A : Type 0} (d : A) (xs ys zs : List A) (p : ℕ) (x : A) → PutsAt d xs ys p x → SameTable d ys zs → PutsAt d xs zs p x
+puts_at_then d xs ys zs p x h same = record {
+  there = same p ∙ h.there;
+  others = λ k apart. same k ∙ h.others k apart;
+}
+
+-- one table among others is written
+puts_among : {A : Type 0} (d : A) (ts : List (List A)) (v w : List A) (c p b k : ℕ) (x : A) → c < length ts → get_or ts c [] ≡ v → PutsAt d v w p x → ((b ≡ c) × (k ≡ p) → ⊥) → (b ≡ c) ⊎ (b ≡ c → ⊥) → read_at d (set ts c w) b k ≡ read_at d ts b k
+puts_among d ts v w c p b k x l e h apart (inl same) =
+    ap (λ z. read_at d (set ts c w) z k) same ∙ ap (λ z. get_or z k d) (get_or-set_same ts c w [] l) ∙ h.others k (λ q. apart (same, q))
+    ∙ ap (λ z. get_or z k d) (sym e) ∙ ap (λ z. read_at d ts z k) (sym same)
+puts_among d ts v w c p b k x l e h apart (inr other) = let ne : b ≢ c = other in ap (λ z. get_or z k d) (get_or-set_other ts c b w [] ne)
+
+-- a table among others, as it was read
+pub table_is : {A : Type 0} (ts : List (List A)) (v : List A) (c : ℕ) → c < length ts → v ≡ get_or ts c v → get_or ts c [] ≡ v
+table_is ts v c l e = get_or_default ts c [] v l ∙ sym e
+
+pub puts_table : {A : Type 0} (d : A) (ts : List (List A)) (v w : List A) (c p : ℕ) (x : A) → c < length ts → v ≡ get_or ts c v → PutsAt d v w p x → Puts d ts (set ts c w) c p x
+puts_table d ts v w c p x l e h = record {
+  there = ap (λ z. get_or z p d) (get_or-set_same ts c w [] l) ∙ h.there;
+  others = λ b k apart. puts_among d ts v w c p b k x l (table_is ts v c l e) h apart (cases_eq b c);
+}
+
+-- or reads the same
+pub same_table : {A : Type 0} (d : A) (ts : List (List A)) (v w : List A) (c : ℕ) → c < length ts → v ≡ get_or ts c v → SameTable d v w → SameTables d ts (set ts c w)
+same_table {A} d ts v w c l e h = same_grown d ts w c l (subst (λ (z : List A). SameTable d z w) (sym (table_is ts v c l e)) h)
 
 -- a vector of vectors as tables
 pub tables_set : {A B : Type 0} (xs : List (Vec A B)) (c : ℕ) (v : Vec A B) → tables_of (set xs c v) ≡ set (tables_of xs) c v.items

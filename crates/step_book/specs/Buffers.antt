@@ -9,7 +9,7 @@ use Rattle.step_machine.specs.Sealed.{Frame, Spells, max_copy}
 use Rattle.step_book.specs.Agreement.{Row, row}
 use Rattle.step_book.specs.Tables.{read_at}
 
--- the frames of one node of a run: in flight to it by copy and place, those that wait for it, and
+-- the frames of one node of a run: in flight to it by round and place, those that wait for it, and
 -- for how many more there is room
 pub record BufferView : Type 0 where
   pub program : ProgramTree
@@ -21,7 +21,7 @@ pub record BufferView : Type 0 where
 -- each frame says what the state that it names sends
 pub record AreSpelt (a : Algorithm) (flying : List (List (Option Frame)))
     (waiting : List Frame) : Type 0 where
-  pub flies : (copy place : ℕ) → IfSome (read_at None flying copy place) (Spells a)
+  pub flies : (round place : ℕ) → IfSome (read_at None flying round place) (Spells a)
   pub waits : All (Spells a) waiting
 
 -- the algorithm of a buffer's run
@@ -33,9 +33,9 @@ pub record IsSameRun (old new : BufferView) : Type 0 where
   pub program : new.program ≡ old.program
   pub setup : new.setup ≡ old.setup
 
--- the frame in flight at a place of a copy's table
+-- the frame in flight at a place of a round's table
 abbrev pub flying_at : BufferView → ℕ → ℕ → Option Frame
-flying_at b copy place = read_at None b.flying copy place
+flying_at b round place = read_at None b.flying round place
 
 -- the names of frames
 abbrev pub names_in : List Frame → List Name

@@ -7,6 +7,7 @@ pub mod World
 pub mod Names
 pub mod Tables
 pub mod Trace
+pub mod Stored
 pub mod Fates
 pub mod History
 pub mod Agreement

@@ -19,6 +19,7 @@ ghost use Rattle.step_book.specs.Log.{happened, history, mark_in, opened, round_
 ghost use Rattle.step_book.specs.Log.{states_of, waiting_in, world_of};
 ghost use Rattle.step_book.specs.Names.{IsName};
 ghost use Rattle.step_book.specs.Serials.{AreSent, HasSerial};
+ghost use Rattle.step_book.specs.Stored.{IsShort};
 ghost use Rattle.step_book.specs.Work.{AreCarried, any_within, heard_from, is_within, tag_of};
 
 use crate::fault::{CloseFault, IdleFault, ReceiveFault, SendFault};
@@ -36,6 +37,7 @@ use std::alloc::Global;
 use std::marker::Model;
 use std::sync::Arc;
 use step_machine::{Event, Finished, InFlight, MAX_COPY, Name, Prepared, Sealed};
+use stored_events::{StoredEvent, StoredName};
 
 /// The record of a run: its events, the steps of each node, the states of its closed rounds, what
 /// became of each copy of each message, what each receive handed out, how each event of the network
@@ -45,13 +47,13 @@ pub struct Book<P: Plan> {
     program: Checked,
     setup: Setup,
     plan: P,
-    trace: Vec<Event>,
+    trace: Vec<StoredEvent>,
     steps: Vec<u64>,
     states: Vec<Vec<Arc<Vars>>>,
     marks: Marks,
     mails: Vec<Mail>,
     answers: Vec<bool>,
-    messages: Vec<Name>,
+    messages: Vec<StoredName>,
 }
 
 impl<P: Plan> Model for Book<P> {
@@ -140,7 +142,7 @@ impl<P: Plan> Book<P> {
         self.plan
     }
 
-    pub fn trace(&self) -> &[Event]
+    pub fn trace(&self) -> &[StoredEvent]
         ensures { result.now ≡ self.now.log.trace }
     {
         &self.trace
@@ -192,6 +194,7 @@ impl<P: Plan> Book<P> {
     }
 
     /// What became of a copy of a message.
+    #[inline(always)]
     pub fn mark(&self, name: Name) -> Mark
         requires { IsName self.now.log.setup name }
         ensures { result ≡ mark_in (P.start self.now.plan) self.now.log name }
@@ -200,6 +203,7 @@ impl<P: Plan> Book<P> {
     }
 
     /// Whether a copy of a message is in flight.
+    #[inline(always)]
     pub fn is_flying(&self, name: Name) -> bool
         requires { IsName self.now.log.setup name }
         ensures { IsTrue result ↔ IsFlying (P.start self.now.plan) self.now.log name }
@@ -237,7 +241,7 @@ impl<P: Plan> Book<P> {
     }
 
     /// The names that wait for a node.
-    pub fn waiting(&self, node: u32) -> &[Name]
+    pub fn waiting(&self, node: u32) -> &[StoredName]
         requires { node < self.now.log.setup.nodes }
         ensures value { result.now ≡ waiting_in (P.start self.now.plan) self.now.log node }
         ensures once { IsBuffer (world_of (P.start self.now.plan) self.now.log)
@@ -272,7 +276,7 @@ impl<P: Plan> Book<P> {
 
     /// The messages in the order in which they were sent, by the names of their copies 0: each
     /// stands at the place that is its serial.
-    pub fn messages(&self) -> &[Name]
+    pub fn messages(&self) -> &[StoredName]
         ensures { AreSent (world_of (P.start self.now.plan) self.now.log) (history self.now.log)
             result.now }
     {
@@ -288,7 +292,7 @@ impl<P: Plan> Book<P> {
     {
         let mut flight = Vec::new(alloc);
         for (serial, message) in self.messages.iter().enumerate() {
-            self.add_copies(serial, *message, &mut flight)?;
+            self.add_copies(serial, message.name(), &mut flight)?;
         }
         Ok(flight)
     }
@@ -397,6 +401,7 @@ impl<P: Plan> Book<P> {
     }
 
     /// Records a send that isn't refused, with a message or silence.
+    #[inline(always)]
     pub fn record_send(&mut self, prepared: &Prepared) -> Result<(), NoMemory>
         requires name { IsName self.old.log.setup prepared.now.name }
         requires work { IsPrepared
@@ -472,6 +477,7 @@ impl<P: Plan> Book<P> {
     }
 
     /// Records a receive that isn't refused: what waits for the node is handed out.
+    #[inline(always)]
     pub fn record_receive(&mut self, node: u32) -> Result<(), NoMemory>
         requires node { node < self.old.log.setup.nodes }
         requires fit { IsReceiveFit (P.start self.old.plan) self.old.log node }
@@ -496,6 +502,7 @@ impl<P: Plan> Book<P> {
     }
 
     /// A release by the network: true where a copy went from flight to those that wait.
+    #[inline(always)]
     pub fn release(&mut self, name: Name) -> Result<bool, NoMemory>
         requires { IsName self.old.log.setup name }
         ensures ok { OnOk result
@@ -754,7 +761,8 @@ impl<P: Plan> Book<P> {
 
 /// The mark of what is sent.
 fn spoken(prepared: &Prepared) -> Mark
-    ensures { result ≡ spoken prepared.now.message }
+    ensures value { result ≡ spoken prepared.now.message }
+    ensures short { IsShort result }
 {
     if prepared.is_silent() {
         Mark::Silent

@@ -3,8 +3,9 @@ ghost use Rattle.std.specs.Prelude.{◌≡◌, ◌<◌, ◌++◌, [], IfOk, Matc
 ghost use Rattle.std.specs.Prelude.{option_to_list, vec_len};
 ghost use Rattle.step_machine.specs.Sealed.{Spells};
 ghost use Rattle.step_book.specs.Buffers.{AreSpelt, IsSameRun, flying_at, run_of};
-ghost use Rattle.step_book.specs.Tables.{HasPlace, Puts, SameTable, SameTables, tables_of};
+ghost use Rattle.step_book.specs.Tables.{HasPlace, Puts, SameTables};
 
+use crate::round_frames::RoundFrames;
 use round_check::Checked;
 use round_lang::NoMemory;
 use round_meaning::{MAX_NODES, Setup};
@@ -16,15 +17,15 @@ use step_machine::Sealed;
 /// For how many frames there is room at first: a run has no more nodes.
 const FIRST_ROOM: usize = MAX_NODES as usize;
 
-/// The frames in flight to a node of a run, by their places in a table for each copy number that
-/// grows with the rounds, and those that were released to it and not yet taken. Each says what the
-/// state that it names sends in that run.
+/// The frames in flight to a node of a run, by their places in a table for each round, the first of
+/// no round, and those that were released to the node and not yet taken. Each says what the state
+/// that it names sends in that run.
 #[derive(Drop)]
 pub struct Buffer {
     alloc: Global,
     program: Checked,
     setup: Setup,
-    flying: Vec<Vec<Option<Sealed>>>,
+    flying: Vec<RoundFrames>,
     waiting: Vec<Sealed>,
 }
 
@@ -35,7 +36,6 @@ impl Model for Buffer {
     ghost use Rattle.std.specs.Coded.{codes};
     ghost use Rattle.step_machine.specs.Sealed.{Spells};
     ghost use Rattle.step_book.specs.Buffers.{AreSpelt, BufferView};
-    ghost use Rattle.step_book.specs.Tables.{tables_of};
 
     ghost Value = { BufferView };
 
@@ -44,12 +44,12 @@ impl Model for Buffer {
     ghost view = { λ s. record {
       program = s.program;
       setup = s.setup;
-      flying = tables_of s.flying.items;
+      flying = s.flying.items;
       waiting = s.waiting.items;
       spare = vec_capacity s.waiting - vec_len s.waiting;
     } };
 
-    ghost invariant = { λ s. AreSpelt (algorithm_of s.program s.setup) (tables_of s.flying.items)
+    ghost invariant = { λ s. AreSpelt (algorithm_of s.program s.setup) s.flying.items
         s.waiting.items };
 }
 
@@ -98,32 +98,32 @@ impl Buffer {
         &self.waiting
     }
 
-    /// The frame in flight at a place of a copy's table.
-    pub fn flying(&self, copy: u32, place: usize) -> Option<&Sealed>
-        ensures { MatchOption result (flying_at self.now copy place ≡ None)
-            (λ frame. flying_at self.now copy place ≡ Some frame.now) }
+    /// The frame in flight at a place of a round's table.
+    pub fn flying(&self, round: u32, place: usize) -> Option<&Sealed>
+        ensures { MatchOption result (flying_at self.now round place ≡ None)
+            (λ frame. flying_at self.now round place ≡ Some frame.now) }
     {
-        let Some(table) = self.flying.get(copy as usize) else {
-            return None;
-        };
-        match table.get(place) {
-            Some(frame) => frame.as_ref(),
+        match self.flying.get(round as usize) {
+            Some(table) => table.at(place),
             None => None,
         }
     }
 
-    /// Makes room for a frame in flight at a place of a copy's table.
-    pub fn reserve_flying(&mut self, copy: u32, place: usize) -> Result<(), NoMemory>
-        ensures room { OnOk result (HasPlace self.new.flying copy place) }
+    /// Makes room for a frame in flight at a place of a round's table.
+    #[inline(always)]
+    pub fn reserve_flying(&mut self, round: u32, place: usize) -> Result<(), NoMemory>
+        ensures room { OnOk result (HasPlace self.new.flying round place) }
         ensures flying { SameTables None self.old.flying self.new.flying }
         ensures waiting { self.new.waiting ≡ self.old.waiting }
         ensures run { IsSameRun self.old self.new }
     {
-        add_tables(self.alloc, &mut self.flying, copy as usize)?;
-        grow(&mut self.flying[copy as usize], place)
+        let nodes = self.setup.nodes as usize;
+        add_tables(self.alloc, &mut self.flying, round as usize)?;
+        self.flying[round as usize].reserve(nodes, place)
     }
 
     /// Makes room for one more frame that waits; the first time, for one of each node.
+    #[inline(always)]
     pub fn reserve_waiting(&mut self) -> Result<(), NoMemory>
         ensures room { OnOk result (0 < self.new.spare) }
         ensures flying { self.new.flying ≡ self.old.flying }
@@ -140,41 +140,46 @@ impl Buffer {
     }
 
     /// A frame more in flight.
-    pub fn put(&mut self, copy: u32, place: usize, frame: Sealed)
-        requires place { HasPlace self.old.flying copy place }
+    #[inline(always)]
+    pub fn put(&mut self, round: u32, place: usize, frame: Sealed)
+        requires place { HasPlace self.old.flying round place }
         requires spelt { Spells (run_of self.old) frame }
-        ensures flying { Puts None self.old.flying self.new.flying copy place (Some frame) }
+        ensures flying { Puts None self.old.flying self.new.flying round place (Some frame) }
         ensures waiting { self.new.waiting ≡ self.old.waiting }
         ensures run { IsSameRun self.old self.new }
     {
-        self.flying[copy as usize][place] = Some(frame);
+        self.flying[round as usize].put(place, frame);
     }
 
     /// The frame at a place, if there is one, goes from flight to those that wait.
-    pub fn let_go(&mut self, copy: u32, place: usize)
-        requires place { HasPlace self.old.flying copy place }
+    #[inline(always)]
+    pub fn let_go(&mut self, round: u32, place: usize)
+        requires place { HasPlace self.old.flying round place }
         requires room { 0 < self.old.spare }
-        ensures flying { Puts None self.old.flying self.new.flying copy place None }
+        ensures flying { Puts None self.old.flying self.new.flying round place None }
         ensures waiting { self.new.waiting
-            ≡ self.old.waiting ++ option_to_list (flying_at self.old copy place) }
+            ≡ self.old.waiting ++ option_to_list (flying_at self.old round place) }
         ensures run { IsSameRun self.old self.new }
     {
-        if let Some(frame) = self.flying[copy as usize][place].take() {
+        let alloc = self.alloc;
+        if let Some(frame) = self.flying[round as usize].take(alloc, place) {
             self.waiting.push_reserved(frame);
         }
     }
 
     /// The frame at a place is lost.
-    pub fn remove(&mut self, copy: u32, place: usize)
-        requires { HasPlace self.old.flying copy place }
-        ensures flying { Puts None self.old.flying self.new.flying copy place None }
+    pub fn remove(&mut self, round: u32, place: usize)
+        requires { HasPlace self.old.flying round place }
+        ensures flying { Puts None self.old.flying self.new.flying round place None }
         ensures waiting { self.new.waiting ≡ self.old.waiting }
         ensures run { IsSameRun self.old self.new }
     {
-        self.flying[copy as usize][place] = None;
+        let alloc = self.alloc;
+        let _lost = self.flying[round as usize].take(alloc, place);
     }
 
     /// Takes the frames that wait.
+    #[inline(always)]
     pub fn take(&mut self) -> Vec<Sealed>
         ensures taken { result.items ≡ self.old.waiting }
         ensures waiting { self.new.waiting ≡ [] }
@@ -186,28 +191,13 @@ impl Buffer {
     }
 }
 
-/// Adds empty tables until the copy has one.
-fn add_tables(
-    alloc: Global,
-    tables: &mut Vec<Vec<Option<Sealed>>>,
-    copy: usize,
-) -> Result<(), NoMemory>
-    ensures there { OnOk result (copy < vec_len tables.new) }
-    ensures same { SameTables None (tables_of tables.old.items) (tables_of tables.new.items) }
+/// Adds empty tables until the round has one.
+fn add_tables(alloc: Global, tables: &mut Vec<RoundFrames>, round: usize) -> Result<(), NoMemory>
+    ensures there { OnOk result (round < vec_len tables.new) }
+    ensures same { SameTables None tables.old.items tables.new.items }
 {
-    while tables.len() <= copy {
-        tables.push(Vec::new(alloc))?;
-    }
-    Ok(())
-}
-
-/// Makes a table longer than a place.
-fn grow(table: &mut Vec<Option<Sealed>>, place: usize) -> Result<(), NoMemory>
-    ensures long { OnOk result (place < vec_len table.new) }
-    ensures same { SameTable None table.old.items table.new.items }
-{
-    while table.len() <= place {
-        table.push(None)?;
+    while tables.len() <= round {
+        tables.push(RoundFrames::new(alloc))?;
     }
     Ok(())
 }

@@ -10,6 +10,7 @@ mod mark;
 mod marks;
 mod notes;
 mod opening;
+mod round_frames;
 mod tags;
 
 pub use book::Book;
@@ -17,4 +18,5 @@ pub use buffer::Buffer;
 pub use fault::{CloseFault, IdleFault, ReceiveFault, Refused, SendFault};
 pub use mail::Mail;
 pub use mark::Mark;
+pub use stored_events::{StoredEvent, StoredName, add_names, events_of};
 pub use tags::earliest;

@@ -2,17 +2,19 @@
 ghost use Rattle.std.specs.Prelude.{◌≡◌, ◌-◌, ◌<◌, ◌≤◌, ◌++◌, ◌∷◌, [], OnErr, OnOk, drop, length};
 ghost use Rattle.std.specs.Prelude.{slice_index, slice_index_or, take};
 ghost use Rattle.step_book.specs.Mailing.{mailed};
+ghost use Rattle.stored_events.specs.Stored.{IsFewName};
 
 use round_lang::NoMemory;
 use std::alloc::Global;
 use std::marker::Model;
 use step_machine::Name;
+use stored_events::StoredName;
 
 /// The names of the messages that were released to a node, in the order of their releases: those
 /// that each of its receives handed out, and then those that wait.
 #[derive(Drop)]
 pub struct Mail {
-    names: Vec<Name>,
+    names: Vec<StoredName>,
     ends: Vec<usize>,
     taken: usize,
 }
@@ -40,7 +42,7 @@ impl Mail {
     }
 
     /// The names that wait, in the order of their releases.
-    pub fn waiting(&self) -> &[Name]
+    pub fn waiting(&self) -> &[StoredName]
         ensures { result.now ≡ self.now.waiting }
     {
         &self.names[self.taken..]
@@ -54,7 +56,7 @@ impl Mail {
     }
 
     /// The names that a receive handed out, counting from 0; none past the last.
-    pub fn handed(&self, receive: usize) -> &[Name]
+    pub fn handed(&self, receive: usize) -> &[StoredName]
         ensures { result.now ≡ slice_index_or self.now.handed receive [] }
     {
         if receive >= self.ends.len() {
@@ -65,16 +67,20 @@ impl Mail {
     }
 
     /// A name more that waits.
+    #[inline(always)]
     pub(crate) fn push(&mut self, name: Name) -> Result<(), NoMemory>
+        requires { IsFewName name }
         ensures handed { OnOk result (self.new.handed ≡ self.old.handed) }
         ensures waiting { OnOk result (self.new.waiting ≡ self.old.waiting ++ name ∷ []) }
         ensures err { OnErr result (self.new ≡ self.old) }
     {
-        self.names.push(name)?;
+        self.names.reserve(1)?;
+        self.names.push_reserved(StoredName::new(name));
         Ok(())
     }
 
     /// A receive: what waits is handed out.
+    #[inline(always)]
     pub(crate) fn hand_out(&mut self) -> Result<(), NoMemory>
         ensures handed { OnOk result (self.new.handed ≡ self.old.handed ++ self.old.waiting ∷ []) }
         ensures waiting { OnOk result (self.new.waiting ≡ []) }
@@ -99,7 +105,7 @@ fn start_of(ends: &[usize], receive: usize) -> usize
 }
 
 /// The names from a place up to another.
-fn between(names: &[Name], start: usize, end: usize) -> &[Name]
+fn between(names: &[StoredName], start: usize, end: usize) -> &[StoredName]
     requires rising { start ≤ end }
     requires within { end ≤ length names.now }
     ensures { result.now ≡ take (end - start) (drop start names.now) }

@@ -1,4 +1,8 @@
 //! What is recorded of messages.
+ghost use Rattle.std.specs.Prelude.{◌≡◌};
+ghost use Rattle.step_book.specs.Stored.{IsShort, mark_by};
+
+use std::marker::Model;
 
 /// What became of a copy of a message: it wasn't made, since its slot or its copying hasn't come;
 /// its sender was silent; it's in flight; it was released when its receiver had taken so many
@@ -10,4 +14,59 @@ pub enum Mark {
     Flying,
     Released(u64),
     Lost,
+}
+
+/// The code of a release before the receiver's first step.
+const FIRST_RELEASED: u64 = 4;
+
+/// A mark in 8 bytes.
+#[derive(Drop)]
+pub(crate) struct StoredMark {
+    code: u64,
+}
+
+impl Model for StoredMark {
+    ghost use Rattle.step_book.specs.declared.mark.Mark.{Mark};
+    ghost use Rattle.step_book.specs.Stored.{mark_by};
+
+    ghost Value = { Mark };
+
+    ghost view = { λ s. mark_by s.code };
+}
+
+impl StoredMark {
+    /// A mark whose count of steps is no larger than any that there is memory for.
+    pub(crate) fn new(mark: Mark) -> StoredMark
+        requires { IsShort mark }
+        ensures { result ≡ mark }
+    {
+        let code = match mark {
+            Mark::Unsent => 0,
+            Mark::Silent => 1,
+            Mark::Flying => 2,
+            Mark::Lost => 3,
+            Mark::Released(count) => FIRST_RELEASED + count,
+        };
+        StoredMark { code }
+    }
+
+    /// The mark.
+    pub(crate) fn mark(&self) -> Mark
+        ensures { result ≡ self.now }
+    {
+        mark_by(self.code)
+    }
+}
+
+/// The mark of a code.
+fn mark_by(code: u64) -> Mark
+    ensures { result ≡ mark_by code }
+{
+    match code {
+        0 => Mark::Unsent,
+        1 => Mark::Silent,
+        2 => Mark::Flying,
+        3 => Mark::Lost,
+        _ => Mark::Released(code - FIRST_RELEASED),
+    }
 }

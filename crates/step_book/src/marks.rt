@@ -1,9 +1,10 @@
 //! The marks of a run's messages.
 ghost use Rattle.std.specs.Prelude.{◌≡◌, ◌<◌, ◌≤◌, [], OnOk, length, vec_len};
 ghost use Rattle.step_book.specs.declared.mark.Mark.TheVariants.{Unsent};
+ghost use Rattle.step_book.specs.Stored.{IsShort};
 ghost use Rattle.step_book.specs.Tables.{HasPlace, Puts, SameTable, SameTables, read_at, tables_of};
 
-use crate::mark::Mark;
+use crate::mark::{Mark, StoredMark};
 use round_lang::NoMemory;
 use std::alloc::Global;
 use std::marker::Model;
@@ -13,7 +14,7 @@ use std::marker::Model;
 #[derive(Drop)]
 pub(crate) struct Marks {
     alloc: Global,
-    tables: Vec<Vec<Mark>>,
+    tables: Vec<Vec<StoredMark>>,
 }
 
 impl Model for Marks {
@@ -38,6 +39,7 @@ impl Marks {
     }
 
     /// The mark at a place of a copy's table.
+    #[inline(always)]
     pub(crate) fn at(&self, copy: u32, place: usize) -> Mark
         ensures { result ≡ read_at Unsent self.now copy place }
     {
@@ -45,12 +47,13 @@ impl Marks {
             return Mark::Unsent;
         };
         match table.get(place) {
-            Some(mark) => *mark,
+            Some(stored) => stored.mark(),
             None => Mark::Unsent,
         }
     }
 
     /// Makes room for a mark.
+    #[inline(always)]
     pub(crate) fn reserve(&mut self, copy: u32, place: usize) -> Result<(), NoMemory>
         ensures room { OnOk result (HasPlace self.new copy place) }
         ensures same { SameTables Unsent self.old self.new }
@@ -60,16 +63,19 @@ impl Marks {
     }
 
     /// Sets a mark that there is room for.
+    #[inline(always)]
     pub(crate) fn put(&mut self, copy: u32, place: usize, mark: Mark)
-        requires { HasPlace self.old copy place }
+        requires place { HasPlace self.old copy place }
+        requires short { IsShort mark }
         ensures { Puts Unsent self.old self.new copy place mark }
     {
-        self.tables[copy as usize][place] = mark;
+        self.tables[copy as usize][place] = StoredMark::new(mark);
     }
 }
 
 /// Adds empty tables until the copy has one.
-fn add_tables(alloc: Global, tables: &mut Vec<Vec<Mark>>, copy: usize) -> Result<(), NoMemory>
+#[inline(always)]
+fn add_tables(alloc: Global, tables: &mut Vec<Vec<StoredMark>>, copy: usize) -> Result<(), NoMemory>
     ensures there { OnOk result (copy < vec_len tables.new) }
     ensures same { SameTables Unsent (tables_of tables.old.items) (tables_of tables.new.items) }
 {
@@ -80,12 +86,13 @@ fn add_tables(alloc: Global, tables: &mut Vec<Vec<Mark>>, copy: usize) -> Result
 }
 
 /// Makes a table longer than a place.
-fn grow(marks: &mut Vec<Mark>, place: usize) -> Result<(), NoMemory>
+#[inline(always)]
+fn grow(marks: &mut Vec<StoredMark>, place: usize) -> Result<(), NoMemory>
     ensures long { OnOk result (place < vec_len marks.new) }
     ensures same { SameTable Unsent marks.old.items marks.new.items }
 {
     while marks.len() <= place {
-        marks.push(Mark::Unsent)?;
+        marks.push(StoredMark::new(Mark::Unsent))?;
     }
     Ok(())
 }

@@ -1,11 +1,13 @@
 //! What an event adds to a record, field by field. All growth goes before any change, so an error
 //! leaves each field as it was.
-ghost use Rattle.std.specs.Prelude.{◌≡◌, ◌+◌, ◌<◌, ◌≤◌, [], ◌∷◌, ◌++◌, OnOk, OnErr, slice_index};
-ghost use Rattle.std.specs.Prelude.{slice_set, true, vec_len};
+ghost use Rattle.std.specs.Prelude.{◌≡◌, ◌+◌, ◌^◌, ◌<◌, ◌≤◌, [], ◌∷◌, ◌++◌, OnOk, OnErr};
+ghost use Rattle.std.specs.Prelude.{slice_index, slice_set, true, vec_len};
 ghost use Rattle.step_book.specs.declared.mark.Mark.TheVariants.{Unsent};
 ghost use Rattle.step_book.specs.History.{arrival};
+ghost use Rattle.step_book.specs.Stored.{IsShort};
 ghost use Rattle.step_book.specs.Tables.{Puts, SameTables};
 ghost use Rattle.step_book.specs.Log.{end_state, states_of};
+ghost use Rattle.stored_events.specs.Stored.{IsFew, IsFewName};
 
 use crate::mail::Mail;
 use crate::mark::Mark;
@@ -13,13 +15,16 @@ use crate::marks::Marks;
 use round_lang::{NoMemory, Vars};
 use std::sync::Arc;
 use step_machine::{Event, Finished, Name};
+use stored_events::{StoredEvent, StoredName};
 
 /// A step of a node.
+#[inline(always)]
 pub(crate) fn note_step(
-    trace: &mut Vec<Event>,
+    trace: &mut Vec<StoredEvent>,
     steps: &mut Vec<u64>,
     node: u32,
 ) -> Result<(), NoMemory>
+    requires few { node < 256 }
     requires node_in { node < vec_len steps.old }
     requires counted { slice_index steps.old.items node ≤ vec_len trace.old }
     ensures trace { OnOk result (trace.new.items ≡ trace.old.items ++ Event.Step node ∷ []) }
@@ -28,21 +33,26 @@ pub(crate) fn note_step(
     ensures trace_kept { OnErr result (trace.new.items ≡ trace.old.items) }
     ensures steps_kept { OnErr result (steps.new.items ≡ steps.old.items) }
 {
-    trace.push(Event::Step(node))?;
+    let step = StoredEvent::new(Event::Step(node));
+    trace.reserve(1)?;
+    trace.push_reserved(step);
     steps[node as usize] += 1;
     Ok(())
 }
 
 /// A send step, with the mark of its message, which is one more sent where it flies.
+#[inline(always)]
 pub(crate) fn note_send(
-    trace: &mut Vec<Event>,
+    trace: &mut Vec<StoredEvent>,
     steps: &mut Vec<u64>,
     marks: &mut Marks,
-    messages: &mut Vec<Name>,
+    messages: &mut Vec<StoredName>,
     name: Name,
     place: usize,
     mark: Mark,
 ) -> Result<(), NoMemory>
+    requires few { IsFewName name }
+    requires short { IsShort mark }
     requires node_in { name.from < vec_len steps.old }
     requires counted { slice_index steps.old.items name.from ≤ vec_len trace.old }
     ensures trace { OnOk result (trace.new.items ≡ trace.old.items ++ Event.Step name.from ∷ []) }
@@ -60,18 +70,20 @@ pub(crate) fn note_send(
     note_step(trace, steps, name.from)?;
     marks.put(0, place, mark);
     if mark == Mark::Flying {
-        messages.push_reserved(name);
+        messages.push_reserved(StoredName::new(name));
     }
     Ok(())
 }
 
 /// A receive: what waits is handed out.
+#[inline(always)]
 pub(crate) fn note_receive(
-    trace: &mut Vec<Event>,
+    trace: &mut Vec<StoredEvent>,
     steps: &mut Vec<u64>,
     mail: &mut Mail,
     node: u32,
 ) -> Result<(), NoMemory>
+    requires few { node < 256 }
     requires node_in { node < vec_len steps.old }
     requires counted { slice_index steps.old.items node ≤ vec_len trace.old }
     ensures trace { OnOk result (trace.new.items ≡ trace.old.items ++ Event.Step node ∷ []) }
@@ -85,18 +97,24 @@ pub(crate) fn note_receive(
 {
     trace.reserve(1)?;
     mail.hand_out()?;
-    trace.push_reserved(Event::Step(node));
+    trace.push_reserved(StoredEvent::new(Event::Step(node)));
     steps[node as usize] += 1;
     Ok(())
 }
 
+/// For how many events a release makes room, so that counts of steps stay small enough for marks.
+const MARGIN: usize = 5;
+
 /// A release of a message to those that wait.
+#[inline(always)]
 pub(crate) fn note_release(
-    trace: &mut Vec<Event>,
+    trace: &mut Vec<StoredEvent>,
     answers: &mut Vec<bool>,
     mail: &mut Mail,
     name: Name,
 ) -> Result<(), NoMemory>
+    requires { IsFewName name }
+    ensures small { OnOk result (vec_len trace.old + 4 < 2 ^ 64) }
     ensures trace { OnOk result (trace.new.items ≡ trace.old.items ++ Event.Release name ∷ []) }
     ensures answers { OnOk result (answers.new.items ≡ answers.old.items ++ true ∷ []) }
     ensures handed { OnOk result (mail.new.handed ≡ mail.old.handed) }
@@ -105,21 +123,23 @@ pub(crate) fn note_release(
     ensures answers_kept { OnErr result (answers.new.items ≡ answers.old.items) }
     ensures mail_kept { OnErr result (mail.new ≡ mail.old) }
 {
-    trace.reserve(1)?;
+    trace.reserve(MARGIN)?;
     answers.reserve(1)?;
     mail.push(name)?;
     answers.push_reserved(true);
-    trace.push_reserved(Event::Release(name));
+    trace.push_reserved(StoredEvent::new(Event::Release(name)));
     Ok(())
 }
 
 /// An event of the network with its answer, which changes no mail.
+#[inline(always)]
 pub(crate) fn note_answer(
-    trace: &mut Vec<Event>,
+    trace: &mut Vec<StoredEvent>,
     answers: &mut Vec<bool>,
     event: Event,
     answer: bool,
 ) -> Result<(), NoMemory>
+    requires { IsFew event }
     ensures trace { OnOk result (trace.new.items ≡ trace.old.items ++ event ∷ []) }
     ensures answers { OnOk result (answers.new.items ≡ answers.old.items ++ answer ∷ []) }
     ensures trace_kept { OnErr result (trace.new.items ≡ trace.old.items) }
@@ -127,7 +147,7 @@ pub(crate) fn note_answer(
 {
     trace.reserve(1)?;
     answers.push(answer)?;
-    trace.push_reserved(event);
+    trace.push_reserved(StoredEvent::new(event));
     Ok(())
 }
 

@@ -1,11 +1,11 @@
 -- What each event leaves of the frames.
-use Rattle.std.proofs.Common.{◌≡◌, ◌≢◌, ℕ, ◌+◌, ◌-◌, ◌<◌, ◌≤◌, All, List, [], ◌∷◌, ◌++◌, length}
+use Rattle.std.proofs.Common.{◌≡◌, ◌≢◌, ℕ, ◌+◌, ◌-◌, ◌<◌, All, List, [], ◌∷◌, ◌++◌, length}
 use Rattle.std.proofs.Common.{get_or, set, Option, Some, None, sym, subst, refl, ap, if◌then◌else◌}
 use Rattle.std.proofs.Common.{◌∙◌, arith, Bool, ◌⊎◌, inl, inr}
 use Rattle.std.specs.Prelude.{IsSomeAnd, option_map, option_to_list}
-use Rattle.std.proofs.lemmas.Bool.{cases_eq, cases_lt}
+use Rattle.std.proofs.lemmas.Bool.{cases_eq}
 use Rattle.std.proofs.lemmas.List.{get_or-set_same, get_or-set_other, length-set, map-append}
-use Rattle.std.proofs.lemmas.List.{append-nil, get_or_append_left, get_or_default, get_or_past}
+use Rattle.std.proofs.lemmas.List.{append-nil, get_or_append_left, get_or_default}
 use Rattle.std.proofs.lemmas.List.{length_push}
 use Rattle.std.proofs.lemmas.List.Elements.{All-same, All-push, All-set}
 use Rattle.round_lang.specs.declared.value.Value.{Value}
@@ -57,11 +57,11 @@ written_off bs k i b ne = get_or-set_other bs k i b no_buffer ne
 flies_same : (a : Algorithm) (rows : List Row) (n : Name) (m x : Mark) (o p : Option Frame) → x ≡ m → p ≡ o → Flies a rows n m o → Flies a rows n x p
 flies_same a rows n m x o p e d f = subst (λ (z : Mark). Flies a rows n z p) (sym e) (subst (λ (z : Option Frame). Flies a rows n m z) (sym d) f)
 
--- places among the messages to one node are apart
-place_apart : (nodes : ℕ) (n m : Name) → n.from < nodes → m.from < nodes → n.to ≡ m.to → 0 < n.round → 0 < m.round → (n ≡ m → ⊥) → (n.copy ≡ m.copy) × (place_among nodes n ≡ place_among nodes m) → ⊥
-place_apart nodes n m a b to x y apart e =
-    let both = row_same nodes (n.round - 1) n.from (m.round - 1) m.from a b e.1 in
-    apart (name_same n m both.1 to (let r = both.0 in omega arith) e.0)
+-- places among the messages of one round to one node are apart
+place_apart : (nodes : ℕ) (n m : Name) → n.from < nodes → m.from < nodes → n.to ≡ m.to → (n ≡ m → ⊥) → (n.round ≡ m.round) × (place_among nodes n ≡ place_among nodes m) → ⊥
+place_apart nodes n m a b to apart e =
+    let both = row_same nodes n.copy n.from m.copy m.from a b e.1 in
+    apart (name_same n m both.1 to e.0 both.0)
 
 -- a frame is as genuine where a row grew
 grown_frame : (a : Algorithm) (rows next : List Row) (k : ℕ) (x : List Value) (g : Frame) → RowOf rows k x g.name.from next → IsGenuine a rows g → IsGenuine a next g
@@ -101,6 +101,13 @@ flies_some a rows n Silent frame h = cc
 flies_some a rows n (Released x) frame h = cc
 flies_some a rows n Lost frame h = cc
 flies_some a rows n Flying frame h = h
+
+flies_on : (a : Algorithm) (rows : List Row) (n : Name) (m : Mark) (frame : Frame) → Flies a rows n m (Some frame) → m ≡ Flying
+flies_on a rows n Unsent frame h = cc
+flies_on a rows n Silent frame h = cc
+flies_on a rows n (Released x) frame h = cc
+flies_on a rows n Lost frame h = cc
+flies_on a rows n Flying frame h = refl
 
 -- the frame of a name that goes to those that wait
 arrives : (a : Algorithm) (rows : List Row) (n : Name) (fs : List Frame) (o : Option Frame) → IsSomeAnd o (λ x. (x.name ≡ n) × IsGenuine a rows x) → (names_in (fs ++ option_to_list o) ≡ names_in fs ++ n ∷ []) × (All (IsGenuine a rows) fs → All (IsGenuine a rows) (fs ++ option_to_list o))
@@ -151,7 +158,7 @@ fits_open start p s bs h = record {
   runs = h.runs;
   waiting = λ i l. ap names_in (buffer i l).1;
   genuine = λ i l. All-same (IsGenuine (algorithm_of p s) (opened p s).rows) _ [] (buffer i l).1 (λ x y z. absurd (omega arith));
-  flying = λ n a. flies_same (algorithm_of p s) (opened p s).rows n Unsent _ None _ (before n) (ap (λ (x : List (List (Option Frame))). read_at None x n.copy (place_among s.nodes n)) (buffer n.to a.to).0) refl;
+  flying = λ n a. flies_same (algorithm_of p s) (opened p s).rows n Unsent _ None _ (before n) (ap (λ (x : List (List (Option Frame))). read_at None x n.round (place_among s.nodes n)) (buffer n.to a.to).0) refl;
 }
   where
     buffer : (i : ℕ) → i < s.nodes → ((buffer_at bs i).flying ≡ []) × ((buffer_at bs i).waiting ≡ [])
@@ -191,13 +198,13 @@ module _ {start : ℕ → ℕ} {v : Log} {bs : List BufferView} (f : Fits start 
       each i m (inl same) = All-same (IsGenuine (algorithm_of v.program v.setup) v.rows) _ [] (ap (λ x. (buffer_at (set bs k new) x).waiting) same ∙ ap (λ (b : BufferView). b.waiting) (written_at bs k new in_list) ∙ d) (λ x y z. absurd (omega arith))
       each i m (inr apart) = All-same (IsGenuine (algorithm_of v.program v.setup) v.rows) _ _ (ap (λ (b : BufferView). b.waiting) (written_off bs k i new apart)) (f.genuine i m)
 
-      flies : (n : Name) → IsName v.setup n → (n.to ≡ k) ⊎ (n.to ≡ k → ⊥) → flying_at (buffer_at (set bs k new) n.to) n.copy (place_among v.setup.nodes n) ≡ flying_at (buffer_at bs n.to) n.copy (place_among v.setup.nodes n)
+      flies : (n : Name) → IsName v.setup n → (n.to ≡ k) ⊎ (n.to ≡ k → ⊥) → flying_at (buffer_at (set bs k new) n.to) n.round (place_among v.setup.nodes n) ≡ flying_at (buffer_at bs n.to) n.round (place_among v.setup.nodes n)
       flies n a (inl same) =
           let there : buffer_at (set bs k new) n.to ≡ new = ap (buffer_at (set bs k new)) same ∙ written_at bs k new in_list in
           let here : buffer_at bs n.to ≡ old = ap (buffer_at bs) same ∙ buffer_read bs k old in_list h in
-          ap (λ (b : BufferView). flying_at b n.copy (place_among v.setup.nodes n)) there ∙ ap (λ (x : List (List (Option Frame))). read_at None x n.copy (place_among v.setup.nodes n)) e
-          ∙ ap (λ (b : BufferView). flying_at b n.copy (place_among v.setup.nodes n)) (sym here)
-      flies n a (inr apart) = ap (λ (b : BufferView). flying_at b n.copy (place_among v.setup.nodes n)) (written_off bs k n.to new apart)
+          ap (λ (b : BufferView). flying_at b n.round (place_among v.setup.nodes n)) there ∙ ap (λ (x : List (List (Option Frame))). read_at None x n.round (place_among v.setup.nodes n)) e
+          ∙ ap (λ (b : BufferView). flying_at b n.round (place_among v.setup.nodes n)) (sym here)
+      flies n a (inr apart) = ap (λ (b : BufferView). flying_at b n.round (place_among v.setup.nodes n)) (written_off bs k n.to new apart)
 
   -- an event that changes no message and no buffer
   pub fits_same : (e : Event) → SameMarks start v (happened v e) → SameWaiting start v (happened v e) → Fits start (happened v e) bs
@@ -228,16 +235,16 @@ module _ {start : ℕ → ℕ} {v : Log} {bs : List BufferView} (f : Fits start 
           ∙ ap (λ (b : BufferView). b.waiting) (sym (buffer_read bs k old in_list h)) ∙ ap (λ x. (buffer_at bs x).waiting) (sym same)
       waits i (inr apart) = ap (λ (b : BufferView). b.waiting) (written_off bs k i new apart)
 
-      flies : (n : Name) → (n.to ≡ k) ⊎ (n.to ≡ k → ⊥) → flying_at (buffer_at (set bs k new) n.to) n.copy (place_among v.setup.nodes n) ≡ flying_at (buffer_at bs n.to) n.copy (place_among v.setup.nodes n)
+      flies : (n : Name) → (n.to ≡ k) ⊎ (n.to ≡ k → ⊥) → flying_at (buffer_at (set bs k new) n.to) n.round (place_among v.setup.nodes n) ≡ flying_at (buffer_at bs n.to) n.round (place_among v.setup.nodes n)
       flies n (inl same) =
           let there : buffer_at (set bs k new) n.to ≡ new = ap (buffer_at (set bs k new)) same ∙ written_at bs k new in_list in
           let here : buffer_at bs n.to ≡ old = ap (buffer_at bs) same ∙ buffer_read bs k old in_list h in
-          ap (λ (b : BufferView). flying_at b n.copy (place_among v.setup.nodes n)) there ∙ e n.copy (place_among v.setup.nodes n)
-          ∙ ap (λ (b : BufferView). flying_at b n.copy (place_among v.setup.nodes n)) (sym here)
-      flies n (inr apart) = ap (λ (b : BufferView). flying_at b n.copy (place_among v.setup.nodes n)) (written_off bs k n.to new apart)
+          ap (λ (b : BufferView). flying_at b n.round (place_among v.setup.nodes n)) there ∙ e n.round (place_among v.setup.nodes n)
+          ∙ ap (λ (b : BufferView). flying_at b n.round (place_among v.setup.nodes n)) (sym here)
+      flies n (inr apart) = ap (λ (b : BufferView). flying_at b n.round (place_among v.setup.nodes n)) (written_off bs k n.to new apart)
 
   -- one frame's place in flight is written, as the mark of its message is
-  pub fits_mark : (e : Event) (n : Name) (old new : BufferView) (o : Option Frame) → IsName v.setup n → old ≡ get_or bs n.to old → IsSameRun old new → Puts None old.flying new.flying n.copy (place_among v.setup.nodes n) o → SameMarksBut start n v (happened v e) → Flies (algorithm_of v.program v.setup) v.rows n (mark_in start (happened v e) n) o →
+  pub fits_mark : (e : Event) (n : Name) (old new : BufferView) (o : Option Frame) → IsName v.setup n → old ≡ get_or bs n.to old → IsSameRun old new → Puts None old.flying new.flying n.round (place_among v.setup.nodes n) o → SameMarksBut start n v (happened v e) → Flies (algorithm_of v.program v.setup) v.rows n (mark_in start (happened v e) n) o →
       names_in new.waiting ≡ waiting_in start (happened v e) n.to → All (IsGenuine (algorithm_of v.program v.setup) v.rows) new.waiting → SameWaitingBut start n.to v (happened v e) → Fits start (happened v e) (set bs n.to new)
   fits_mark e n old new o a h r puts marks own names genuine waits = record {
     sized = length-set bs n.to new ∙ f.sized;
@@ -258,19 +265,19 @@ module _ {start : ℕ → ℕ} {v : Log} {bs : List BufferView} (f : Fits start 
       each i m (inl same) = All-same (IsGenuine (algorithm_of v.program v.setup) v.rows) _ _ (ap (λ x. (buffer_at (set bs n.to new) x).waiting) same ∙ ap (λ (b : BufferView). b.waiting) (written_at bs n.to new in_list)) genuine
       each i m (inr apart) = All-same (IsGenuine (algorithm_of v.program v.setup) v.rows) _ _ (ap (λ (b : BufferView). b.waiting) (written_off bs n.to i new apart)) (f.genuine i m)
 
-      off : (m : Name) → IsName v.setup m → (m ≡ n → ⊥) → (m.to ≡ n.to) ⊎ (m.to ≡ n.to → ⊥) → flying_at (buffer_at (set bs n.to new) m.to) m.copy (place_among v.setup.nodes m) ≡ flying_at (buffer_at bs m.to) m.copy (place_among v.setup.nodes m)
+      off : (m : Name) → IsName v.setup m → (m ≡ n → ⊥) → (m.to ≡ n.to) ⊎ (m.to ≡ n.to → ⊥) → flying_at (buffer_at (set bs n.to new) m.to) m.round (place_among v.setup.nodes m) ≡ flying_at (buffer_at bs m.to) m.round (place_among v.setup.nodes m)
       off m b apart (inl same) =
           let new_is : buffer_at (set bs n.to new) m.to ≡ new = ap (buffer_at (set bs n.to new)) same ∙ written_at bs n.to new in_list in
           let old_is : buffer_at bs m.to ≡ old = ap (buffer_at bs) same ∙ buffer_read bs n.to old in_list h in
-          ap (λ (x : BufferView). flying_at x m.copy (place_among v.setup.nodes m)) new_is
-          ∙ puts.others m.copy (place_among v.setup.nodes m) (place_apart v.setup.nodes m n b.from a.from same b.first a.first apart)
-          ∙ ap (λ (x : BufferView). flying_at x m.copy (place_among v.setup.nodes m)) (sym old_is)
-      off m b apart (inr other) = ap (λ (x : BufferView). flying_at x m.copy (place_among v.setup.nodes m)) (written_off bs n.to m.to new other)
+          ap (λ (x : BufferView). flying_at x m.round (place_among v.setup.nodes m)) new_is
+          ∙ puts.others m.round (place_among v.setup.nodes m) (place_apart v.setup.nodes m n b.from a.from same apart)
+          ∙ ap (λ (x : BufferView). flying_at x m.round (place_among v.setup.nodes m)) (sym old_is)
+      off m b apart (inr other) = ap (λ (x : BufferView). flying_at x m.round (place_among v.setup.nodes m)) (written_off bs n.to m.to new other)
 
-      flies : (m : Name) → IsName v.setup m → (m ≡ n) ⊎ (m ≡ n → ⊥) → Flies (algorithm_of v.program v.setup) v.rows m (mark_in start (happened v e) m) (flying_at (buffer_at (set bs n.to new) m.to) m.copy (place_among v.setup.nodes m))
+      flies : (m : Name) → IsName v.setup m → (m ≡ n) ⊎ (m ≡ n → ⊥) → Flies (algorithm_of v.program v.setup) v.rows m (mark_in start (happened v e) m) (flying_at (buffer_at (set bs n.to new) m.to) m.round (place_among v.setup.nodes m))
       flies m b (inl same) =
-          let P : Name → Type 0 = λ x. Flies (algorithm_of v.program v.setup) v.rows x (mark_in start (happened v e) x) (flying_at (buffer_at (set bs n.to new) x.to) x.copy (place_among v.setup.nodes x)) in
-          subst P (sym same) (flies_same _ _ n _ _ _ _ refl (ap (λ (x : BufferView). flying_at x n.copy (place_among v.setup.nodes n)) (written_at bs n.to new in_list) ∙ puts.there) own)
+          let P : Name → Type 0 = λ x. Flies (algorithm_of v.program v.setup) v.rows x (mark_in start (happened v e) x) (flying_at (buffer_at (set bs n.to new) x.to) x.round (place_among v.setup.nodes x)) in
+          subst P (sym same) (flies_same _ _ n _ _ _ _ refl (ap (λ (x : BufferView). flying_at x n.round (place_among v.setup.nodes n)) (written_at bs n.to new in_list) ∙ puts.there) own)
       flies m b (inr apart) = flies_same _ _ m _ _ _ _ (marks m b apart) (off m b apart (cases_eq m.to n.to)) (f.flying m b)
 
   -- silence flies nowhere
@@ -283,9 +290,9 @@ module _ {start : ℕ → ℕ} {v : Log} {bs : List BufferView} (f : Fits start 
     flying = λ m b. flies m b (name_cases m n);
   }
     where
-      flies : (m : Name) → IsName v.setup m → (m ≡ n) ⊎ (m ≡ n → ⊥) → Flies (algorithm_of v.program v.setup) v.rows m (mark_in start (happened v (Step n.from)) m) (flying_at (buffer_at bs m.to) m.copy (place_among v.setup.nodes m))
+      flies : (m : Name) → IsName v.setup m → (m ≡ n) ⊎ (m ≡ n → ⊥) → Flies (algorithm_of v.program v.setup) v.rows m (mark_in start (happened v (Step n.from)) m) (flying_at (buffer_at bs m.to) m.round (place_among v.setup.nodes m))
       flies m b (inl same) =
-          let slot = flying_at (buffer_at bs m.to) m.copy (place_among v.setup.nodes m) in
+          let slot = flying_at (buffer_at bs m.to) m.round (place_among v.setup.nodes m) in
           let was : mark_in start v m ≡ Unsent = ap (mark_in start v) same ∙ before in
           let is : mark_in start (happened v (Step n.from)) m ≡ Silent = ap (mark_in start (happened v (Step n.from))) same ∙ after in
           let none : slot ≡ None = flies_same (algorithm_of v.program v.setup) v.rows m _ Unsent _ slot (sym was) refl (f.flying m b) in
@@ -293,7 +300,7 @@ module _ {start : ℕ → ℕ} {v : Log} {bs : List BufferView} (f : Fits start 
       flies m b (inr apart) = flies_same _ _ m _ _ _ _ (marks m b apart) refl (f.flying m b)
 
   -- what is sent, or copied, flies
-  pub fits_put : (e : Event) (n : Name) (frame : Frame) (old new : BufferView) → IsName v.setup n → frame.name ≡ n → IsGenuine (algorithm_of v.program v.setup) v.rows frame → old ≡ get_or bs n.to old → IsSameRun old new → Puts None old.flying new.flying n.copy (place_among v.setup.nodes n) (Some frame) → new.waiting ≡ old.waiting → mark_in start (happened v e) n ≡ Flying → SameMarksBut start n v (happened v e) → SameWaiting start v (happened v e) → Fits start (happened v e) (set bs n.to new)
+  pub fits_put : (e : Event) (n : Name) (frame : Frame) (old new : BufferView) → IsName v.setup n → frame.name ≡ n → IsGenuine (algorithm_of v.program v.setup) v.rows frame → old ≡ get_or bs n.to old → IsSameRun old new → Puts None old.flying new.flying n.round (place_among v.setup.nodes n) (Some frame) → new.waiting ≡ old.waiting → mark_in start (happened v e) n ≡ Flying → SameMarksBut start n v (happened v e) → SameWaiting start v (happened v e) → Fits start (happened v e) (set bs n.to new)
   fits_put e n frame old new a named genuine h r puts d flying marks waits =
       let a0 = algorithm_of v.program v.setup in
       let was : buffer_at bs n.to ≡ old = buffer_read bs n.to old (let s = f.sized in let t = a.to in omega arith) h in
@@ -304,19 +311,19 @@ module _ {start : ℕ → ℕ} {v : Log} {bs : List BufferView} (f : Fits start 
       (λ i apart. waits i)
 
   -- the frame of a copy in flight
-  pub frame_there : (n : Name) (old : BufferView) → IsName v.setup n → IsFlying start v n → old ≡ get_or bs n.to old → IsSomeAnd (flying_at old n.copy (place_among v.setup.nodes n)) (λ x. (x.name ≡ n) × IsGenuine (algorithm_of v.program v.setup) v.rows x)
+  pub frame_there : (n : Name) (old : BufferView) → IsName v.setup n → IsFlying start v n → old ≡ get_or bs n.to old → IsSomeAnd (flying_at old n.round (place_among v.setup.nodes n)) (λ x. (x.name ≡ n) × IsGenuine (algorithm_of v.program v.setup) v.rows x)
   frame_there n old a fly h =
       let was : buffer_at bs n.to ≡ old = buffer_read bs n.to old (let s = f.sized in let t = a.to in omega arith) h in
-      flies_same (algorithm_of v.program v.setup) v.rows n _ Flying _ _ (sym fly) (ap (λ (b : BufferView). flying_at b n.copy (place_among v.setup.nodes n)) (sym was)) (f.flying n a)
+      flies_same (algorithm_of v.program v.setup) v.rows n _ Flying _ _ (sym fly) (ap (λ (b : BufferView). flying_at b n.round (place_among v.setup.nodes n)) (sym was)) (f.flying n a)
 
   -- a copy in flight goes to those that wait
-  pub fits_move : (n : Name) (old new : BufferView) → IsName v.setup n → IsFlying start v n → old ≡ get_or bs n.to old → IsSameRun old new → Puts None old.flying new.flying n.copy (place_among v.setup.nodes n) None → new.waiting ≡ old.waiting ++ option_to_list (flying_at old n.copy (place_among v.setup.nodes n)) → mark_in start (happened v (Release n)) n ≡ let_go (count_of v n.to) (mark_in start v n) → SameMarksBut start n v (happened v (Release n)) → waiting_in start (happened v (Release n)) n.to ≡ waiting_in start v n.to ++ arrival n (mark_in start v n) → SameWaitingBut start n.to v (happened v (Release n)) → Fits start (happened v (Release n)) (set bs n.to new)
+  pub fits_move : (n : Name) (old new : BufferView) → IsName v.setup n → IsFlying start v n → old ≡ get_or bs n.to old → IsSameRun old new → Puts None old.flying new.flying n.round (place_among v.setup.nodes n) None → new.waiting ≡ old.waiting ++ option_to_list (flying_at old n.round (place_among v.setup.nodes n)) → mark_in start (happened v (Release n)) n ≡ let_go (count_of v n.to) (mark_in start v n) → SameMarksBut start n v (happened v (Release n)) → waiting_in start (happened v (Release n)) n.to ≡ waiting_in start v n.to ++ arrival n (mark_in start v n) → SameWaitingBut start n.to v (happened v (Release n)) → Fits start (happened v (Release n)) (set bs n.to new)
   fits_move n old new a fly h r puts d mark marks names waits =
       let a0 = algorithm_of v.program v.setup in
       let was : buffer_at bs n.to ≡ old = buffer_read bs n.to old (let s = f.sized in let t = a.to in omega arith) h in
       let there = frame_there n old a fly h in
       let released : mark_in start (happened v (Release n)) n ≡ Released (count_of v n.to) = mark ∙ ap (let_go (count_of v n.to)) fly in
-      let arrived = arrives a0 v.rows n old.waiting (flying_at old n.copy (place_among v.setup.nodes n)) there in
+      let arrived = arrives a0 v.rows n old.waiting (flying_at old n.round (place_among v.setup.nodes n)) there in
       fits_mark (Release n) n old new None a h r puts marks
       (flies_same a0 v.rows n (Released (count_of v n.to)) _ None None released refl refl)
       (ap names_in d ∙ arrived.0 ∙ ap (λ x. x ++ n ∷ []) (ap (λ (b : BufferView). names_in b.waiting) (sym was) ∙ f.waiting n.to a.to) ∙ ap (λ x. waiting_in start v n.to ++ arrival n x) (sym fly) ∙ sym names)
@@ -324,7 +331,7 @@ module _ {start : ℕ → ℕ} {v : Log} {bs : List BufferView} (f : Fits start 
       waits
 
   -- a copy in flight is lost
-  pub fits_lost : (n : Name) (old new : BufferView) → IsName v.setup n → IsFlying start v n → old ≡ get_or bs n.to old → IsSameRun old new → Puts None old.flying new.flying n.copy (place_among v.setup.nodes n) None → new.waiting ≡ old.waiting → mark_in start (happened v (Drop n)) n ≡ dropped (mark_in start v n) → SameMarksBut start n v (happened v (Drop n)) → SameWaiting start v (happened v (Drop n)) → Fits start (happened v (Drop n)) (set bs n.to new)
+  pub fits_lost : (n : Name) (old new : BufferView) → IsName v.setup n → IsFlying start v n → old ≡ get_or bs n.to old → IsSameRun old new → Puts None old.flying new.flying n.round (place_among v.setup.nodes n) None → new.waiting ≡ old.waiting → mark_in start (happened v (Drop n)) n ≡ dropped (mark_in start v n) → SameMarksBut start n v (happened v (Drop n)) → SameWaiting start v (happened v (Drop n)) → Fits start (happened v (Drop n)) (set bs n.to new)
   fits_lost n old new a fly h r puts d mark marks waits =
       let a0 = algorithm_of v.program v.setup in
       let was : buffer_at bs n.to ≡ old = buffer_read bs n.to old (let s = f.sized in let t = a.to in omega arith) h in
@@ -374,17 +381,17 @@ module _ {start : ℕ → ℕ} {v : Log} {bs : List BufferView} (f : Fits start 
 
 module _ {start : ℕ → ℕ} {v : Log} {bs : List BufferView} (f : Fits start v bs) where
   -- a send with its frame, from the room that was made for it
-  pub fits_sent : (p : Ready) (n : Name) (o : Option Frame) (frame : Frame) (place : ℕ) (b0 b1 b2 b3 : BufferView) → n ≡ p.name → n.copy ≡ 0 → IsName v.setup p.name → IsPrepared (algorithm_of v.program v.setup) p → IsSendFit start v p → round_of v p.name.from ≡ p.name.round → place ≡ place_among v.setup.nodes n → b0 ≡ get_or bs n.to b0 → IsSameRun b0 b1 → SameTables None b0.flying b1.flying → b1.waiting ≡ b0.waiting → o ≡ frame_of p → o ≡ Some frame → b2 ≡ get_or (set bs n.to b1) n.to b2 → IsSameRun b2 b3 → Puts None b2.flying b3.flying 0 place (Some frame) → b3.waiting ≡ b2.waiting → mark_in start (happened v (Step p.name.from)) p.name ≡ spoken p.message → SameMarksBut start p.name v (happened v (Step p.name.from)) → SameWaiting start v (happened v (Step p.name.from)) → Fits start (happened v (Step p.name.from)) (set (set bs n.to b1) n.to b3)
-  fits_sent p n o frame place b0 b1 b2 b3 en c a work fit round at h0 r0 same wait is some h2 r2 puts d mark marks waits =
+  pub fits_sent : (p : Ready) (n : Name) (o : Option Frame) (frame : Frame) (place : ℕ) (b0 b1 b2 b3 : BufferView) → n ≡ p.name → IsName v.setup p.name → IsPrepared (algorithm_of v.program v.setup) p → IsSendFit start v p → round_of v p.name.from ≡ p.name.round → place ≡ place_among v.setup.nodes n → b0 ≡ get_or bs n.to b0 → IsSameRun b0 b1 → SameTables None b0.flying b1.flying → b1.waiting ≡ b0.waiting → o ≡ frame_of p → o ≡ Some frame → b2 ≡ get_or (set bs n.to b1) n.to b2 → IsSameRun b2 b3 → Puts None b2.flying b3.flying n.round place (Some frame) → b3.waiting ≡ b2.waiting → mark_in start (happened v (Step p.name.from)) p.name ≡ spoken p.message → SameMarksBut start p.name v (happened v (Step p.name.from)) → SameWaiting start v (happened v (Step p.name.from)) → Fits start (happened v (Step p.name.from)) (set (set bs n.to b1) n.to b3)
+  fits_sent p n o frame place b0 b1 b2 b3 en a work fit round at h0 r0 same wait is some h2 r2 puts d mark marks waits =
       let a0 = algorithm_of v.program v.setup in
       let to : n.to ≡ p.name.to = ap (λ (x : Name). x.to) en in
       let made = frame_made p frame (sym is ∙ some) in
       let named : frame.name ≡ p.name = ap (λ (x : Frame). x.name) made.2 in
       let first = a.first in
-      let genuine : IsGenuine a0 v.rows frame = subst (λ (x : Frame). IsGenuine a0 v.rows x) (sym made.2) (record { spells = record { says = work.says ∙ made.1; kinds = work.kinds }; copy = a.copy; first = a.first; past = omega arith; own = fit.2 }) in
-      let there : Puts None b2.flying b3.flying p.name.copy (place_among v.setup.nodes p.name) (Some frame) =
-      subst (λ (x : Name). Puts None b2.flying b3.flying x.copy (place_among v.setup.nodes x) (Some frame)) en
-      (subst (λ (z : ℕ). Puts None b2.flying b3.flying z (place_among v.setup.nodes n) (Some frame)) (sym c) (subst (λ (z : ℕ). Puts None b2.flying b3.flying 0 z (Some frame)) at puts)) in
+      let genuine : IsGenuine a0 v.rows frame = subst (λ (x : Frame). IsGenuine a0 v.rows x) (sym made.2) (record { spells = record { says = work.says ∙ made.1; types = work.types }; copy = a.copy; first = a.first; past = omega arith; own = fit.2 }) in
+      let there : Puts None b2.flying b3.flying p.name.round (place_among v.setup.nodes p.name) (Some frame) =
+      subst (λ (x : Name). Puts None b2.flying b3.flying x.round (place_among v.setup.nodes x) (Some frame)) en
+      (subst (λ (z : ℕ). Puts None b2.flying b3.flying n.round z (Some frame)) at puts) in
       let done = fits_put (fits_kept f n.to b0 b1 (let t = a.to in omega arith) h0 r0 same wait) (Step p.name.from) p.name frame b2 b3 a named genuine
       (h2 ∙ ap (λ k. get_or (set bs n.to b1) k b2) to) r2 there d (mark ∙ ap spoken made.1) marks waits in
       subst (λ (k : ℕ). Fits start (happened v (Step p.name.from)) (set (set bs n.to b1) k b3)) (sym to) done
@@ -396,52 +403,70 @@ module _ {start : ℕ → ℕ} {v : Log} {bs : List BufferView} (f : Fits start 
       fits_silent (fits_kept f n.to b0 b1 (let t = a.to in omega arith) h0 r0 same wait) p.name before (mark ∙ ap spoken (silence p (sym is ∙ none))) marks waits
 
   -- a release of what is in flight, from the room that was made
-  pub fits_moved : (n : Name) (place : ℕ) (b0 b1 b2 b3 : BufferView) → IsName v.setup n → IsFlying start v n → place ≡ place_among v.setup.nodes n → b0 ≡ get_or bs n.to b0 → IsSameRun b0 b1 → b1.flying ≡ b0.flying → b1.waiting ≡ b0.waiting → b2 ≡ get_or (set bs n.to b1) n.to b2 → IsSameRun b2 b3 → Puts None b2.flying b3.flying n.copy place None → b3.waiting ≡ b2.waiting ++ option_to_list (flying_at b2 n.copy place) → mark_in start (happened v (Release n)) n ≡ let_go (count_of v n.to) (mark_in start v n) → SameMarksBut start n v (happened v (Release n)) → waiting_in start (happened v (Release n)) n.to ≡ waiting_in start v n.to ++ arrival n (mark_in start v n) → SameWaitingBut start n.to v (happened v (Release n)) → Fits start (happened v (Release n)) (set (set bs n.to b1) n.to b3)
+  pub fits_moved : (n : Name) (place : ℕ) (b0 b1 b2 b3 : BufferView) → IsName v.setup n → IsFlying start v n → place ≡ place_among v.setup.nodes n → b0 ≡ get_or bs n.to b0 → IsSameRun b0 b1 → b1.flying ≡ b0.flying → b1.waiting ≡ b0.waiting → b2 ≡ get_or (set bs n.to b1) n.to b2 → IsSameRun b2 b3 → Puts None b2.flying b3.flying n.round place None → b3.waiting ≡ b2.waiting ++ option_to_list (flying_at b2 n.round place) → mark_in start (happened v (Release n)) n ≡ let_go (count_of v n.to) (mark_in start v n) → SameMarksBut start n v (happened v (Release n)) → waiting_in start (happened v (Release n)) n.to ≡ waiting_in start v n.to ++ arrival n (mark_in start v n) → SameWaitingBut start n.to v (happened v (Release n)) → Fits start (happened v (Release n)) (set (set bs n.to b1) n.to b3)
   fits_moved n place b0 b1 b2 b3 a fly at h0 r0 same wait h2 r2 e d mark marks names waits =
       let kept = fits_kept f n.to b0 b1 a.to h0 r0 (λ c k. ap (λ (x : List (List (Option Frame))). read_at None x c k) same) wait in
-      fits_move kept n b2 b3 a fly h2 r2 (subst (λ (z : ℕ). Puts None b2.flying b3.flying n.copy z None) at e) (d ∙ ap (λ k. b2.waiting ++ option_to_list (flying_at b2 n.copy k)) at) mark marks names waits
+      fits_move kept n b2 b3 a fly h2 r2 (subst (λ (z : ℕ). Puts None b2.flying b3.flying n.round z None) at e) (d ∙ ap (λ k. b2.waiting ++ option_to_list (flying_at b2 n.round k)) at) mark marks names waits
 
   -- the place of what is in flight is in its table
-  pub room_there : (n : Name) (place : ℕ) (b0 b1 b2 : BufferView) → IsName v.setup n → IsFlying start v n → place ≡ place_among v.setup.nodes n → b0 ≡ get_or bs n.to b0 → IsSameRun b0 b1 → b1.flying ≡ b0.flying → b1.waiting ≡ b0.waiting → b2 ≡ get_or (set bs n.to b1) n.to b2 → HasPlace b2.flying n.copy place
+  pub room_there : (n : Name) (place : ℕ) (b0 b1 b2 : BufferView) → IsName v.setup n → IsFlying start v n → place ≡ place_among v.setup.nodes n → b0 ≡ get_or bs n.to b0 → IsSameRun b0 b1 → b1.flying ≡ b0.flying → b1.waiting ≡ b0.waiting → b2 ≡ get_or (set bs n.to b1) n.to b2 → HasPlace b2.flying n.round place
   room_there n place b0 b1 b2 a fly at h0 r0 same wait h2 =
       let kept = fits_kept f n.to b0 b1 a.to h0 r0 (λ c k. ap (λ (x : List (List (Option Frame))). read_at None x c k) same) wait in
-      subst (λ (z : ℕ). HasPlace b2.flying n.copy z) (sym at) (there_in (algorithm_of v.program v.setup) v.rows n b2 n.copy (place_among v.setup.nodes n) (frame_there kept n b2 a fly h2))
+      subst (λ (z : ℕ). HasPlace b2.flying n.round z) (sym at) (there_in (algorithm_of v.program v.setup) v.rows n b2 n.round (place_among v.setup.nodes n) (frame_there kept n b2 a fly h2))
 
-  pub room_here : (n : Name) (place : ℕ) (b : BufferView) → IsName v.setup n → IsFlying start v n → place ≡ place_among v.setup.nodes n → b ≡ get_or bs n.to b → HasPlace b.flying n.copy place
+  pub room_here : (n : Name) (place : ℕ) (b : BufferView) → IsName v.setup n → IsFlying start v n → place ≡ place_among v.setup.nodes n → b ≡ get_or bs n.to b → HasPlace b.flying n.round place
   room_here n place b a fly at h =
-      subst (λ (z : ℕ). HasPlace b.flying n.copy z) (sym at) (there_in (algorithm_of v.program v.setup) v.rows n b n.copy (place_among v.setup.nodes n) (frame_there f n b a fly h))
+      subst (λ (z : ℕ). HasPlace b.flying n.round z) (sym at) (there_in (algorithm_of v.program v.setup) v.rows n b n.round (place_among v.setup.nodes n) (frame_there f n b a fly h))
 
   -- what stands in flight at the place of a name is its frame
-  pub flight_read : (n : Name) (place : ℕ) (b : BufferView) (frame : Frame) → IsName v.setup n → place ≡ place_among v.setup.nodes n → b ≡ get_or bs n.to b → flying_at b n.copy place ≡ Some frame → (frame.name ≡ n) × IsGenuine (algorithm_of v.program v.setup) v.rows frame
-  flight_read n place b frame a at h is =
+  flies_read : (n : Name) (place : ℕ) (b : BufferView) (frame : Frame) → IsName v.setup n → place ≡ place_among v.setup.nodes n → b ≡ get_or bs n.to b → flying_at b n.round place ≡ Some frame → Flies (algorithm_of v.program v.setup) v.rows n (mark_in start v n) (Some frame)
+  flies_read n place b frame a at h is =
       let was : buffer_at bs n.to ≡ b = buffer_read bs n.to b (let s = f.sized in let t = a.to in omega arith) h in
-      let there : flying_at (buffer_at bs n.to) n.copy (place_among v.setup.nodes n) ≡ Some frame = ap (λ (x : BufferView). flying_at x n.copy (place_among v.setup.nodes n)) was ∙ ap (flying_at b n.copy) (sym at) ∙ is in
-      flies_some (algorithm_of v.program v.setup) v.rows n (mark_in start v n) frame (flies_same (algorithm_of v.program v.setup) v.rows n (mark_in start v n) (mark_in start v n) _ (Some frame) refl (sym there) (f.flying n a))
+      let there : flying_at (buffer_at bs n.to) n.round (place_among v.setup.nodes n) ≡ Some frame = ap (λ (x : BufferView). flying_at x n.round (place_among v.setup.nodes n)) was ∙ ap (flying_at b n.round) (sym at) ∙ is in
+      flies_same (algorithm_of v.program v.setup) v.rows n (mark_in start v n) (mark_in start v n) _ (Some frame) refl (sym there) (f.flying n a)
+
+  pub flight_read : (n : Name) (place : ℕ) (b : BufferView) (frame : Frame) → IsName v.setup n → place ≡ place_among v.setup.nodes n → b ≡ get_or bs n.to b → flying_at b n.round place ≡ Some frame → (frame.name ≡ n) × IsGenuine (algorithm_of v.program v.setup) v.rows frame
+  flight_read n place b frame a at h is = flies_some (algorithm_of v.program v.setup) v.rows n (mark_in start v n) frame (flies_read n place b frame a at h is)
+
+  pub flight_on : (n : Name) (place : ℕ) (b : BufferView) (frame : Frame) → IsName v.setup n → place ≡ place_among v.setup.nodes n → b ≡ get_or bs n.to b → flying_at b n.round place ≡ Some frame → IsFlying start v n
+  flight_on n place b frame a at h is = flies_on (algorithm_of v.program v.setup) v.rows n (mark_in start v n) frame (flies_read n place b frame a at h is)
 
   -- the frame of a copy, from that of copy 0
-  pub copy_read : (n : Name) (place : ℕ) (b : BufferView) (first frame : Frame) → IsName v.setup n → place ≡ place_among v.setup.nodes n → b ≡ get_or bs n.to b → flying_at b 0 place ≡ Some first → frame ≡ copied_as n.copy first → (frame.name ≡ n) × IsGenuine (algorithm_of v.program v.setup) v.rows frame
+  pub copy_read : (n : Name) (place : ℕ) (b : BufferView) (first frame : Frame) → IsName v.setup n → place ≡ place_among v.setup.nodes (original n) → b ≡ get_or bs n.to b → flying_at b n.round place ≡ Some first → frame ≡ copied_as n.copy first → (frame.name ≡ n) × IsGenuine (algorithm_of v.program v.setup) v.rows frame
   copy_read n place b first frame a at h is made =
       let found = flight_read (original n) place b first (original_named v.setup.nodes v.setup.rounds n a) at h is in
       let g = found.1 in (
         ap (λ (x : Frame). x.name) made ∙ ap (λ (x : Name). record x { copy = n.copy }) found.0,
-        subst (λ (x : Frame). IsGenuine (algorithm_of v.program v.setup) v.rows x) (sym made) (record { spells = record { says = g.spells.says; kinds = g.spells.kinds }; copy = a.copy; first = g.first; past = g.past; own = g.own }),
+        subst (λ (x : Frame). IsGenuine (algorithm_of v.program v.setup) v.rows x) (sym made) (record { spells = record { says = g.spells.says; types = g.spells.types }; copy = a.copy; first = g.first; past = g.past; own = g.own }),
       )
 
+  pub original_on : (n : Name) (place : ℕ) (b : BufferView) (first : Frame) → IsName v.setup n → place ≡ place_among v.setup.nodes (original n) → b ≡ get_or bs n.to b → flying_at b n.round place ≡ Some first → IsFlying start v (original n)
+  original_on n place b first a at h is = flight_on (original n) place b first (original_named v.setup.nodes v.setup.rounds n a) at h is
+
   -- a copy of what is in flight, from the room that was made
-  pub fits_made : (n : Name) (frame : Frame) (place : ℕ) (b0 b1 b2 b3 : BufferView) → IsName v.setup n → CanCopy start v n → frame.name ≡ n → IsGenuine (algorithm_of v.program v.setup) v.rows frame → place ≡ place_among v.setup.nodes n → b0 ≡ get_or bs n.to b0 → IsSameRun b0 b1 → SameTables None b0.flying b1.flying → b1.waiting ≡ b0.waiting → b2 ≡ get_or (set bs n.to b1) n.to b2 → IsSameRun b2 b3 → Puts None b2.flying b3.flying n.copy place (Some frame) → b3.waiting ≡ b2.waiting → mark_in start (happened v (Copy n)) n ≡ copied (mark_in start v (original n)) (mark_in start v n) → SameMarksBut start n v (happened v (Copy n)) → SameWaiting start v (happened v (Copy n)) → Fits start (happened v (Copy n)) (set (set bs n.to b1) n.to b3)
+  pub fits_made : (n : Name) (frame : Frame) (place : ℕ) (b0 b1 b2 b3 : BufferView) → IsName v.setup n → CanCopy start v n → frame.name ≡ n → IsGenuine (algorithm_of v.program v.setup) v.rows frame → place ≡ place_among v.setup.nodes n → b0 ≡ get_or bs n.to b0 → IsSameRun b0 b1 → SameTables None b0.flying b1.flying → b1.waiting ≡ b0.waiting → b2 ≡ get_or (set bs n.to b1) n.to b2 → IsSameRun b2 b3 → Puts None b2.flying b3.flying n.round place (Some frame) → b3.waiting ≡ b2.waiting → mark_in start (happened v (Copy n)) n ≡ copied (mark_in start v (original n)) (mark_in start v n) → SameMarksBut start n v (happened v (Copy n)) → SameWaiting start v (happened v (Copy n)) → Fits start (happened v (Copy n)) (set (set bs n.to b1) n.to b3)
   fits_made n frame place b0 b1 b2 b3 a fit named genuine at h0 r0 same wait h2 r2 puts d mark marks waits =
       let now = copied_now (mark_in start v (original n)) (mark_in start v n) fit.0 fit.1 in
       fits_put (fits_kept f n.to b0 b1 a.to h0 r0 same wait) (Copy n) n frame b2 b3 a named genuine h2 r2
-      (subst (λ (z : ℕ). Puts None b2.flying b3.flying n.copy z (Some frame)) at puts) d
+      (subst (λ (z : ℕ). Puts None b2.flying b3.flying n.round z (Some frame)) at puts) d
       (mark ∙ ap (λ (b : Bool). if b then Flying else mark_in start v n) now) marks waits
 
--- what is spelt in the recorded run is so in a buffer's
+-- the frame of prepared work says what its state sends
+pub prepared_spells : (a : Algorithm) (p : Ready) (o : Option Frame) (frame : Frame) → IsPrepared a p → o ≡ frame_of p → o ≡ Some frame → Spells a frame
+prepared_spells a p o frame work is some =
+    let made = frame_made p frame (sym is ∙ some) in
+    subst (Spells a) (sym made.2) (record { says = work.says ∙ made.1; types = work.types })
+
+-- what is spelt in a run is so in a buffer of it
+pub spells_of_run : (p : ProgramTree) (s : Setup) (b : BufferView) (frame : Frame) → IsOfRun p s b → Spells (algorithm_of p s) frame → Spells (run_of b) frame
+spells_of_run p s b frame of said =
+    subst (λ x. Spells (algorithm_of x b.setup) frame) (sym of.program)
+    (subst (λ x. Spells (algorithm_of p x) frame) (sym of.setup) said)
+
 pub run_spells : {start : ℕ → ℕ} {v : Log} {bs : List BufferView} → Fits start v bs → (k : ℕ) (b : BufferView) (frame : Frame)
     → k < v.setup.nodes → b ≡ get_or bs k b → Spells (algorithm_of v.program v.setup) frame → Spells (run_of b) frame
 run_spells {start} {v} {bs} f k b frame l h said =
-    let of : IsOfRun v.program v.setup b = subst (IsOfRun v.program v.setup) (sym h) (f.runs k b (let s = f.sized in omega arith)) in
-    subst (λ p. Spells (algorithm_of p b.setup) frame) (sym of.program)
-    (subst (λ s. Spells (algorithm_of v.program s) frame) (sym of.setup) said)
+    spells_of_run v.program v.setup b frame (subst (IsOfRun v.program v.setup) (sym h) (f.runs k b (let s = f.sized in omega arith))) said
 
 -- also where room was made in it
 pub run_spells_kept : {start : ℕ → ℕ} {v : Log} {bs : List BufferView} → Fits start v bs → (k : ℕ) (b0 b1 b2 : BufferView) (frame : Frame)
@@ -451,5 +476,4 @@ run_spells_kept {start} {v} {bs} f k b0 b1 b2 frame l h r h2 said =
     let is : b2 ≡ b1 = h2 ∙ get_or-set_same bs k b1 b2 (let s = f.sized in omega arith) in
     let was = run_spells f k b0 frame l h said in
     subst (λ (b : BufferView). Spells (run_of b) frame) (sym is)
-    (subst (λ p. Spells (algorithm_of p b1.setup) frame) (sym r.program)
-    (subst (λ s. Spells (algorithm_of b0.program s) frame) (sym r.setup) was))
+    (spells_of_run b0.program b0.setup b1 frame (record { program = r.program; setup = r.setup }) was)

@@ -1,5 +1,5 @@
 -- What a journal hands out is for the node, and is what the run in rounds says.
-use Rattle.std.proofs.Common.{◌≡◌, ℕ, ◌-◌, ◌==◌, ◌<◌, ◌≤◌, Bool, true, false, ◌&&◌, List, [], ◌∷◌}
+use Rattle.std.proofs.Common.{◌≡◌, ℕ, ◌-◌, ◌==◌, ◌<◌, ◌≤◌, Bool, true, false, List, [], ◌∷◌}
 use Rattle.std.proofs.Common.{length, get_or, if◌then◌else◌, sym, subst, ap, ◌∙◌, arith, ◌⊎◌, inl}
 use Rattle.std.proofs.Common.{inr}
 use Rattle.std.specs.Prelude.{All}

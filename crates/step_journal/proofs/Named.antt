@@ -1,19 +1,19 @@
 -- A book and its buffers fit where each part of them does.
-use Rattle.std.proofs.Common.{◌≡◌, ℕ, ◌+◌, ◌-◌, ◌<◌, ◌≤◌, All, List, [], length, get_or, Option}
+use Rattle.std.proofs.Common.{◌≡◌, ◌≢◌, ℕ, ◌+◌, ◌-◌, ◌<◌, ◌≤◌, All, List, [], length, get_or, Option}
 use Rattle.std.proofs.Common.{Some, None, ap, sym, subst, ◌∙◌, refl, arith, ◌⊎◌, inl, inr}
 use Rattle.std.specs.Prelude.{IfSome, IsSomeAnd}
-use Rattle.std.proofs.lemmas.Bool.{cases_lt}
+use Rattle.std.proofs.lemmas.Bool.{cases_eq, cases_lt}
 use Rattle.std.proofs.lemmas.List.{ext_get_or, get_or_default, get_or-map, get_or_past, length-map}
 use Rattle.std.proofs.lemmas.List.Elements.{All-from_get_or, All-same}
 use Rattle.round_lang.specs.Syntax.{ProgramTree}
 use Rattle.round_meaning.specs.Rounds.{Algorithm, algorithm_of}
 use Rattle.round_meaning.specs.declared.setup.Setup.{Setup}
 use Rattle.step_machine.specs.declared.event.Name.{Name}
-use Rattle.step_machine.specs.Sealed.{Frame, Spells, max_copy}
+use Rattle.step_machine.specs.Sealed.{Frame, Spells}
 use Rattle.step_book.specs.declared.mark.Mark.{Mark}
 use Rattle.step_book.specs.declared.mark.Mark.TheVariants.{Unsent, Silent, Flying, Released, Lost}
 use Rattle.step_book.specs.Agreement.{Row, row}
-use Rattle.step_book.specs.Log.{IsFaithful, Log, mark_in, waiting_in}
+use Rattle.step_book.specs.Log.{IsFaithful, Log, mark_in}
 use Rattle.step_book.specs.Names.{IsName}
 use Rattle.step_book.specs.Buffers.{AreSpelt, IsGenuine, BufferView, flying_at, names_in, run_of}
 use Rattle.step_journal.specs.Fits.{Fits, Flies, IsOfRun, no_buffer, place_among, buffer_at}
@@ -69,7 +69,7 @@ holds_flies a rows n Lost o said h = h.stays (λ e. absurd (cc))
 -- a frame stands, or doesn't, as the record says of it
 abbrev pub Stands : (ℕ → ℕ) → Log → BufferView → ℕ → ℕ → ℕ → ℕ → Type 0
 Stands start v b i k r j =
-    HoldsAt v.rows (named i k r j) (mark_in start v (named i k r j)) (flying_at b k (place_among v.setup.nodes (named i k r j)))
+    HoldsAt v.rows (named i k r j) (mark_in start v (named i k r j)) (flying_at b r (place_among v.setup.nodes (named i k r j)))
 
 -- so those of one round from the first senders
 abbrev pub FliesFrom : (ℕ → ℕ) → Log → BufferView → ℕ → ℕ → ℕ → ℕ → Type 0
@@ -95,6 +95,19 @@ flies_round start v b i k r n positive past here before = λ q j first last from
     each q j first last from (inl low) = before q j first (omega arith) from
     each q j first last from (inr high) = subst (λ z. Stands start v b i k z j) (let e : r ≡ q = omega arith in e) (here j (omega arith))
 
+-- what holds of four copies holds of each
+pub four_copies : (F : ℕ → Type 0) → F 0 → F 1 → F 2 → F 3 → (k : ℕ) → k ≤ 3 → F k
+four_copies F zero one two three k few = at (cases_eq k 0) (cases_eq k 1) (cases_eq k 2)
+  where
+    at : (k ≡ 0) ⊎ (k ≡ 0 → ⊥) → (k ≡ 1) ⊎ (k ≡ 1 → ⊥) → (k ≡ 2) ⊎ (k ≡ 2 → ⊥) → F k
+    at (inl e) b c = subst F (sym e) zero
+    at (inr x) (inl e) c = subst F (sym e) one
+    at (inr x) (inr y) (inl e) = subst F (sym e) two
+    at (inr x) (inr y) (inr z) =
+        let u : k ≢ 0 = x in let v : k ≢ 1 = y in let w : k ≢ 2 = z in
+        let e : 3 ≡ k = omega arith in
+        subst F e three
+
 -- ---- a node's buffer, and all of them
 
 -- a name of the run, by its parts
@@ -117,7 +130,7 @@ fits_at start v bs i b l h f =
       flying = λ k few r j first last from.
           let n = named i k r j in
           flies_holds a v.rows n (mark_in start v n) _
-          (subst (λ (x : BufferView). Flies a v.rows n (mark_in start v n) (flying_at x k (place_among v.setup.nodes n))) was
+          (subst (λ (x : BufferView). Flies a v.rows n (mark_in start v n) (flying_at x r (place_among v.setup.nodes n))) was
           (f.flying n (named_is v i k r j l few first last from)));
     }
 
@@ -162,8 +175,8 @@ fit_all start v bs sized all =
           (let h = all i l in genuine a v.rows _ (spelt_all (buffer_at bs i) (buffer_at bs i).waiting h.0.program h.0.setup h.1.waits k d m) (h.0.waiting.recorded k d m));
       flying = λ n is.
           (let h = all n.to is.to in
-          let o = flying_at (buffer_at bs n.to) n.copy (place_among v.setup.nodes n) in
-          holds_flies a v.rows n (mark_in start v n) o (spelt_in (buffer_at bs n.to) o h.0.program h.0.setup (h.1.flies n.copy (place_among v.setup.nodes n)))
+          let o = flying_at (buffer_at bs n.to) n.round (place_among v.setup.nodes n) in
+          holds_flies a v.rows n (mark_in start v n) o (spelt_in (buffer_at bs n.to) o h.0.program h.0.setup (h.1.flies n.round (place_among v.setup.nodes n)))
           (h.0.flying n.copy is.copy n.round n.from is.first is.last is.from));
     }
 

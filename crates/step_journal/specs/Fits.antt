@@ -1,5 +1,5 @@
 -- The frames that a journal has are those that its book names.
-use Rattle.std.specs.Prelude.{◌≡◌, ℕ, ◌+◌, ◌-◌, ◌*◌, ◌<◌, All, List, [], Option, None, IsSomeAnd}
+use Rattle.std.specs.Prelude.{◌≡◌, ℕ, ◌+◌, ◌*◌, ◌<◌, All, List, [], Option, None, IsSomeAnd}
 use Rattle.std.specs.Prelude.{length, slice_index_or}
 use Rattle.round_lang.specs.Syntax.{ProgramTree}
 use Rattle.round_meaning.specs.Rounds.{Algorithm, algorithm_of}
@@ -46,9 +46,9 @@ Flies a rows n Silent o = o ≡ None
 Flies a rows n (Released x) o = o ≡ None
 Flies a rows n Lost o = o ≡ None
 
--- the place of a message among those to its receiver
+-- the place of a copy of a message among those of its round to its receiver
 abbrev pub place_among : ℕ → Name → ℕ
-place_among nodes n = (n.round - 1) * nodes + n.from
+place_among nodes n = n.copy * nodes + n.from
 
 -- the buffers are of the recorded run, one for each node, and their frames are those that the
 -- record names
@@ -60,4 +60,4 @@ pub record Fits (start : ℕ → ℕ) (v : Log) (bs : List BufferView) : Type 0 
   pub genuine : (i : ℕ) → i < v.setup.nodes
       → All (IsGenuine (algorithm_of v.program v.setup) v.rows) (buffer_at bs i).waiting
   pub flying : (n : Name) → IsName v.setup n → Flies (algorithm_of v.program v.setup) v.rows n
-      (mark_in start v n) (flying_at (buffer_at bs n.to) n.copy (place_among v.setup.nodes n))
+      (mark_in start v n) (flying_at (buffer_at bs n.to) n.round (place_among v.setup.nodes n))

@@ -8,7 +8,7 @@ use Rattle.step_book.specs.declared.mark.Mark.TheVariants.{Flying}
 use Rattle.step_book.specs.Agreement.{Row, row}
 use Rattle.step_book.specs.Log.{Log, mark_in, waiting_in}
 use Rattle.step_book.specs.Buffers.{BufferView, flying_at, names_in}
-use Rattle.step_journal.specs.Fits.{IsOfRun, place_among}
+use Rattle.step_journal.specs.Fits.{place_among}
 
 -- the frame is of a copy of a message, and names its sender's recorded state
 pub record IsRecorded (rows : List Row) (f : Frame) : Type 0 where
@@ -36,7 +36,7 @@ abbrev pub FliesAs : (ℕ → ℕ) → Log → BufferView → ℕ → ℕ → �
 FliesAs start v b i k rounds =
     (r j : ℕ) → 0 < r → r ≤ rounds → j < v.setup.nodes
     → HoldsAt v.rows (named i k r j) (mark_in start v (named i k r j))
-    (flying_at b k (place_among v.setup.nodes (named i k r j)))
+    (flying_at b r (place_among v.setup.nodes (named i k r j)))
 
 -- the buffer of node i is of the recorded run, and holds the frames that the record names
 pub record FitsNode (start : ℕ → ℕ) (v : Log) (i : ℕ) (b : BufferView) : Type 0 where

@@ -7,7 +7,7 @@ ghost use Rattle.step_journal.specs.Fits.{Fits, place_among};
 ghost use Rattle.step_journal.specs.Fitting.{AreNamed, FitsNode, FliesAs, HoldsAt, IsRecorded};
 
 use slot_plans::Plan;
-use step_book::{Book, Buffer};
+use step_book::{Book, Buffer, StoredName};
 use step_machine::{MAX_COPY, Name, Sealed};
 
 /// Whether the buffers hold the frames that the book names.
@@ -40,14 +40,14 @@ fn fits_node<P: Plan>(book: &Book<P>, node: u32, buffer: &Buffer) -> bool
 }
 
 /// Whether frames have these names, in this order, and the recorded states.
-pub fn are_named<P: Plan>(book: &Book<P>, frames: &[Sealed], names: &[Name]) -> bool
+pub fn are_named<P: Plan>(book: &Book<P>, frames: &[Sealed], names: &[StoredName]) -> bool
     ensures { IsTrue result ↔ AreNamed book.now.log.rows frames.now names.now }
 {
     if frames.len() != names.len() {
         return false;
     }
     for (place, frame) in frames.iter().enumerate() {
-        if !is_named(book, frame, names[place]) {
+        if !is_named(book, frame, names[place].name()) {
             return false;
         }
     }
@@ -86,10 +86,16 @@ fn fly<P: Plan>(book: &Book<P>, buffer: &Buffer, node: u32) -> bool
         → FliesAs
         (P.start book.now.plan) book.now.log buffer.now node k book.now.log.setup.rounds) }
 {
-    flies_as(book, buffer, node, 0)
-        && flies_as(book, buffer, node, 1)
-        && flies_as(book, buffer, node, 2)
-        && flies_as(book, buffer, node, 3)
+    if !flies_as(book, buffer, node, 0) {
+        return false;
+    }
+    if !flies_as(book, buffer, node, 1) {
+        return false;
+    }
+    if !flies_as(book, buffer, node, 2) {
+        return false;
+    }
+    flies_as(book, buffer, node, 3)
 }
 
 /// Whether the frames of one copy number are.
@@ -122,19 +128,19 @@ pub fn holds<P: Plan>(book: &Book<P>, buffer: &Buffer, name: Name) -> bool
     requires { IsName book.now.log.setup name }
     ensures { IsTrue result ↔ HoldsAt book.now.log.rows name
         (mark_in (P.start book.now.plan) book.now.log name)
-        (flying_at buffer.now name.copy (place_among book.now.log.setup.nodes name)) }
+        (flying_at buffer.now name.round (place_among book.now.log.setup.nodes name)) }
 {
-    match buffer.flying(name.copy, place(book, name)) {
+    match buffer.flying(name.round, place(book, name)) {
         Some(frame) => book.is_flying(name) && is_named(book, frame, name),
         None => !book.is_flying(name),
     }
 }
 
-/// The place of a message among those to its receiver.
+/// The place of a copy of a message among those of its round to its receiver.
 pub fn place<P: Plan>(book: &Book<P>, name: Name) -> usize
     requires { IsName book.now.log.setup name }
     ensures { result ≡ place_among book.now.log.setup.nodes name }
 {
     let nodes = book.setup().nodes as usize;
-    (name.round as usize - 1) * nodes + name.from as usize
+    name.copy as usize * nodes + name.from as usize
 }

@@ -158,7 +158,7 @@ impl<P: Plan> Journal<P> {
     {
         self.book.agrees();
         let buffer = &self.buffers[name.to as usize];
-        buffer.flying(name.copy, self.place(name))
+        buffer.flying(name.round, self.place(name))
     }
 
     /// The copies in flight, by their messages' serials and then by their copy numbers.
@@ -169,7 +169,7 @@ impl<P: Plan> Journal<P> {
         self.book.flight(alloc)
     }
 
-    /// The place of a message among those to its receiver.
+    /// The place of a copy of a message among those of its round to its receiver.
     fn place(&self, name: Name) -> usize
         requires { IsName self.now.log.setup name }
         ensures { result ≡ place_among self.now.log.setup.nodes name }
@@ -207,6 +207,7 @@ impl<P: Plan> Journal<P> {
 
     /// Records a send that isn't refused: the message is in flight, or there was silence. Where
     /// there is no memory, the work comes back.
+    #[inline(always)]
     pub fn record_send(&mut self, prepared: Prepared) -> Result<(), Prepared>
         requires name { IsName self.old.log.setup prepared.name }
         requires work { IsPrepared (algorithm_of self.old.log.program self.old.log.setup) prepared }
@@ -226,7 +227,7 @@ impl<P: Plan> Journal<P> {
         let name = prepared.name();
         let place = self.place(name);
         let buffer = &mut self.buffers[name.to as usize];
-        match buffer.reserve_flying(0, place) {
+        match buffer.reserve_flying(name.round, place) {
             Ok(()) => {}
             Err(_) => return Err(prepared),
         }
@@ -237,7 +238,7 @@ impl<P: Plan> Journal<P> {
         match prepared.into_sealed() {
             Some(frame) => {
                 let buffer = &mut self.buffers[name.to as usize];
-                buffer.put(0, place, frame);
+                buffer.put(name.round, place, frame);
                 Ok(())
             }
             None => Ok(()),
@@ -277,6 +278,7 @@ impl<P: Plan> Journal<P> {
 
     /// Records a receive that isn't refused: every frame that was released to the node and not yet
     /// taken.
+    #[inline(always)]
     pub fn record_receive(&mut self, node: u32) -> Result<Took, NoMemory>
         requires node { node < self.old.log.setup.nodes }
         requires fit { IsReceiveFit (P.start self.old.plan) self.old.log node }
@@ -308,6 +310,7 @@ impl<P: Plan> Journal<P> {
     }
 
     /// A release: true where a copy went from flight to its buffer.
+    #[inline(always)]
     pub fn release(&mut self, name: Name) -> Result<bool, NoMemory>
         requires { IsName self.old.log.setup name }
         ensures ok { OnOk result
@@ -333,7 +336,7 @@ impl<P: Plan> Journal<P> {
         let moved = self.book.release(name)?;
         if moved {
             let buffer = &mut self.buffers[name.to as usize];
-            buffer.let_go(name.copy, place);
+            buffer.let_go(name.round, place);
             return Ok(true);
         }
         Ok(false)
@@ -359,7 +362,7 @@ impl<P: Plan> Journal<P> {
         let lost = self.book.drop_copy(name)?;
         if lost {
             let buffer = &mut self.buffers[name.to as usize];
-            buffer.remove(name.copy, place);
+            buffer.remove(name.round, place);
             return Ok(true);
         }
         Ok(false)
@@ -390,11 +393,11 @@ impl<P: Plan> Journal<P> {
         };
         let place = self.place(name);
         let buffer = &mut self.buffers[name.to as usize];
-        buffer.reserve_flying(name.copy, place)?;
+        buffer.reserve_flying(name.round, place)?;
         let made = self.book.make_copy(name)?;
         if made {
             let buffer = &mut self.buffers[name.to as usize];
-            buffer.put(name.copy, place, frame);
+            buffer.put(name.round, place, frame);
             return Ok(true);
         }
         Ok(false)
@@ -410,7 +413,7 @@ impl<P: Plan> Journal<P> {
             (algorithm_of self.now.log.program self.now.log.setup) self.now.log.rows frame)) }
     {
         let buffer = &self.buffers[name.to as usize];
-        match buffer.flying(0, self.place(name)) {
+        match buffer.flying(name.round, self.place(name.original())) {
             Some(frame) => Ok(Some(frame.copied(name.copy)?)),
             None => Ok(None),
         }

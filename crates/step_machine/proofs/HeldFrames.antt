@@ -9,15 +9,17 @@ use Rattle.std.proofs.lemmas.Bool.{cases_eq, cases_lt}
 use Rattle.std.proofs.lemmas.List.{get_or_default, get_or-replicate, get_or-set_same}
 use Rattle.std.proofs.lemmas.List.{get_or-set_other}
 use Rattle.std.proofs.lemmas.List.{get_or_append_left, get_or_push, length-replicate}
+use Rattle.std.proofs.lemmas.List.Elements.{All-cons}
 use Rattle.round_meaning.specs.declared.received.Received.{Received}
 use Rattle.round_lang.specs.declared.value.Value.{Value}
 use Rattle.round_lang.specs.Syntax.{ProgramTree}
 use Rattle.round_meaning.specs.declared.setup.Setup.{Setup}
 use Rattle.round_meaning.specs.Rounds.{Algorithm, algorithm_of}
-use Rattle.step_code.specs.Turns.{IsOfRound, IsOfState}
-use Rattle.step_machine.specs.Sealed.{Frame, HeldRow, held_at}
+use Rattle.round_meaning.specs.Typed.{IsInboxOf, IsMessageOf}
+use Rattle.step_machine.specs.Sealed.{Frame, HeldRow, KeepsTypes, Spells, held_at}
 use Rattle.step_machine.specs.Nodes.{AreHeld, HasPlaces, IsFrom, IsHeld, ahead, inbox_of}
-use Rattle.step_machine.specs.Reading.{AreOfRound, MayBeOfRound, SendsHaveKinds, StartsHaveKinds}
+use Rattle.step_machine.specs.Reading.{AreOfRound, MayBeOfRound}
+use Rattle.step_machine.proofs.Typing.{message_of_round, sends_typed}
 
 -- no frames are held well
 pub none_held : (a : Algorithm) (n i r : ℕ) → IsHeld a n i r (replicate n None)
@@ -174,20 +176,35 @@ inbox_held a n i r held size h =
     (λ j l f is. let m : j < n = omega arith in (h.each j m f is).from ∙ (let e : j ≡ 0 + j = omega arith in e))
     ∙ ap (λ m. filter_map (λ j. said j (held_at held j)) (range_with_len 0 m)) size
 
--- ---- what the code can read
+-- ---- what is sent has its types
 
-module _ (p : ProgramTree) (s : Setup) (starts : StartsHaveKinds p) (sends : SendsHaveKinds p) where
-  of_round : (i j r : ℕ) (f : Frame) → IsFrom (algorithm_of p s) j i r f → IsOfRound p r f.message
-  of_round i j r f h =
-      let state : IsOfState p f.state = h.spells.kinds ∙ starts s 0 in
-      let said : IsOfRound p f.name.round f.message = subst (λ (o : Option (List Value)). IfSome o (IsOfRound p f.name.round)) h.spells.says (sends s f.name.round f.state f.name.from f.name.to state) in
-      subst (λ q. IsOfRound p q f.message) h.round said
+-- the message of a frame is one of its round's
+pub typed_frame : (a : Algorithm) (f : Frame) → Spells a f → (p : ProgramTree) (s : Setup) → KeepsTypes p → a ≡ algorithm_of p s → IsMessageOf p f.name.round f.message
+typed_frame a f h p s keeps same =
+    subst (λ (o : Option (List Value)). IfSome o (IsMessageOf p f.name.round)) h.says
+    (sends_typed a p s keeps same f.name.round f.state f.name.from f.name.to h.types)
 
-  may_be : (i j r : ℕ) (o : Option Frame) → ForSome o (IsFrom (algorithm_of p s) j i r) → MayBeOfRound p r o
-  may_be i j r None h = tt
-  may_be i j r (Some f) h = of_round i j r f (h f refl)
+-- an inbox of frames that each have a message of the round
+inbox_typed : (p : ProgramTree) (r : ℕ) (held : HeldRow) → ((j : ℕ) → j < length held → ForSome (held_at held j) (λ f. IsMessageOf p r f.message)) → IsInboxOf p r (inbox_of held)
+inbox_typed p r [] h = λ k d l. absurd (omega arith)
+inbox_typed p r (None ∷ os) h = inbox_typed p r os (λ j l. h (suc j) (omega arith))
+inbox_typed p r ((Some f) ∷ os) h =
+    All-cons (λ (m : Received). IsMessageOf p r m.message) (record { from = f.name.from; message = f.message }) (inbox_of os) (h 0 (omega arith) f refl) (inbox_typed p r os (λ j l. h (suc j) (omega arith)))
 
-  -- the messages of frames held of a round are of the kinds of its messages
-  pub are_of_round : (i r : ℕ) (held : HeldRow) → length held ≡ s.nodes → IsHeld (algorithm_of p s) s.nodes i r held → AreOfRound p r held
-  are_of_round i r held size h k d l =
-      subst (MayBeOfRound p r) (get_or_default held k None d l) (may_be i k r (held_at held k) (h.each k (omega (arith, l, size))))
+module _ (a : Algorithm) (n i r : ℕ) (held : HeldRow) (size : length held ≡ n) (h : IsHeld a n i r held) (p : ProgramTree) (s : Setup) (keeps : KeepsTypes p) (same : a ≡ algorithm_of p s) where
+  typed_at : (j : ℕ) → j < length held → ForSome (held_at held j) (λ f. IsMessageOf p r f.message)
+  typed_at j l f is =
+      let from = h.each j (omega (arith, size)) f is in
+      subst (λ q. IsMessageOf p q f.message) from.round (typed_frame a f from.spells p s keeps same)
+
+  -- the frames held of a round have messages of the round
+  pub held_typed : IsInboxOf p r (inbox_of held)
+  held_typed = inbox_typed p r held typed_at
+
+  may_be : (o : Option Frame) → ForSome o (λ f. IsMessageOf p r f.message) → MayBeOfRound p r o
+  may_be None t = tt
+  may_be (Some f) t = message_of_round p r f.message (t f refl)
+
+  -- and so the code can read them
+  pub are_of_round : AreOfRound p r held
+  are_of_round k d l = subst (MayBeOfRound p r) (get_or_default held k None d l) (may_be (held_at held k) (typed_at k l))

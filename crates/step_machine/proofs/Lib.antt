@@ -1,2 +1,3 @@
+pub mod Typing
 pub mod HeldFrames
-pub mod KindLaws
+pub mod Framing

@@ -8,7 +8,8 @@ use Rattle.round_lang.specs.Syntax.{ProgramTree}
 use Rattle.round_meaning.specs.declared.received.Received.{Received}
 use Rattle.round_meaning.specs.declared.setup.Setup.{Setup}
 use Rattle.round_meaning.specs.Rounds.{Algorithm, algorithm_of}
-use Rattle.step_machine.specs.Sealed.{Frame, HeldRow, Saying, Spells, held_at}
+use Rattle.frame_format.specs.Formats.{Format, format_of}
+use Rattle.step_machine.specs.Sealed.{Frame, HeldRow, Spells, held_at}
 
 -- how many rounds ahead of its round a node keeps frames
 abbrev pub ahead : ℕ
@@ -29,14 +30,13 @@ pub record NodeView : Type 0 where
 abbrev pub algorithm_in : NodeView → Algorithm
 algorithm_in n = algorithm_of n.program n.setup
 
--- what the node says to another in its round
-abbrev pub said_to : NodeView → ℕ → Saying
-said_to n dest =
-    record { state = n.state; message = (algorithm_in n).send n.round n.state n.me dest }
+-- the frames of its messages
+abbrev pub format_in : NodeView → Format
+format_in n = format_of n.program n.setup.nodes
 
--- in its round the node says this to every node
-abbrev pub IsToldToAll : NodeView → Saying → Type 0
-IsToldToAll n s = (dest : ℕ) → said_to n dest ≡ s
+-- what the node sends to another in its round
+abbrev pub sent_to : NodeView → ℕ → Option (List Value)
+sent_to n dest = (algorithm_in n).send n.round n.state n.me dest
 
 -- the frames held of the k-th round after the node's, which is its own where k is 0
 abbrev pub held_of : NodeView → ℕ → HeldRow

@@ -1,10 +1,10 @@
 -- Messages on their way, and what a node has ready for a send slot.
-use Rattle.std.specs.Prelude.{◌≡◌, ℕ, List, [], Option, Some, None, map, option_map}
-use Rattle.std.specs.Prelude.{slice_index_or}
-use Rattle.std.specs.Option.{unwrap_or}
+use Rattle.std.specs.Prelude.{◌≡◌, ℕ, List, Option, Some, None, option_map, slice_index_or}
 use Rattle.round_lang.specs.declared.value.Value.{Value}
-use Rattle.round_lang.specs.Words.{kind_of}
-use Rattle.round_meaning.specs.Rounds.{Algorithm}
+use Rattle.round_lang.specs.Syntax.{ProgramTree}
+use Rattle.round_meaning.specs.declared.setup.Setup.{Setup}
+use Rattle.round_meaning.specs.Rounds.{Algorithm, algorithm_of}
+use Rattle.round_meaning.specs.Typed.{EndsAreStates, IsStateOf, SendsAreMessages, StartsAreStates}
 use Rattle.step_machine.specs.declared.event.Name.{Name}
 
 -- the message's copy 0
@@ -14,15 +14,6 @@ original n = record n { copy = 0 }
 -- the greatest number of a copy
 abbrev pub max_copy : ℕ
 max_copy = 3
-
--- what is said in a state: a message, or silence
-pub record Saying : Type 0 where
-  pub state : List Value
-  pub message : Option (List Value)
-
--- the message, where there is one
-abbrev pub message_in : Saying → List Value
-message_in s = unwrap_or s.message []
 
 -- a message under its name, with its sender's state
 pub record Frame : Type 0 where
@@ -48,20 +39,27 @@ frame_of p = option_map (λ m. record { name = p.name; state = p.state; message 
 abbrev pub sent_under : Algorithm → Name → List Value → Option (List Value)
 sent_under a n s = a.send n.round s n.from n.to
 
--- there are as many values as in a state of the algorithm, each of the kind that it has there, as
--- what node 0 begins with shows
-abbrev pub HasStateKinds : Algorithm → List Value → Type 0
-HasStateKinds a vs = map kind_of vs ≡ map kind_of (a.init 0)
+-- what nodes begin with and end their rounds with are states of the program, and what they send are
+-- its messages, each value of its type; every checked program does so
+pub record KeepsTypes (p : ProgramTree) : Type 0 where
+  pub starts : StartsAreStates p
+  pub sends : SendsAreMessages p
+  pub ends : EndsAreStates p
 
--- the frame says what the state that it names sends, which has the kinds of the algorithm's states
+-- the values are a state of any such program whose algorithm this is
+unfoldable pub HasStateTypes : Algorithm → List Value → Type 0
+HasStateTypes a vs =
+    (p : ProgramTree) (s : Setup) → KeepsTypes p → a ≡ algorithm_of p s → IsStateOf p vs
+
+-- the frame says what the state that it names sends, which has the types of the algorithm's states
 pub record Spells (a : Algorithm) (f : Frame) : Type 0 where
   pub says : sent_under a f.name f.state ≡ Some f.message
-  pub kinds : HasStateKinds a f.state
+  pub types : HasStateTypes a f.state
 
--- the message or silence is what the state sends, which has the kinds of the algorithm's states
+-- the message or silence is what the state sends, which has the types of the algorithm's states
 pub record IsPrepared (a : Algorithm) (p : Ready) : Type 0 where
   pub says : sent_under a p.name p.state ≡ p.message
-  pub kinds : HasStateKinds a p.state
+  pub types : HasStateTypes a p.state
 
 -- the frames held of one round, by sender
 abbrev pub HeldRow : Type 0

@@ -42,6 +42,7 @@ impl Held {
     }
 
     /// Whether a frame of the sender is held.
+    #[inline(always)]
     pub(crate) fn has(&self, sender: u32) -> bool
         requires { sender < length self.now }
         ensures { IsTrue result ↔ IsSome (held_at self.now sender) }
@@ -50,6 +51,7 @@ impl Held {
     }
 
     /// Holds a frame at the place of its sender.
+    #[inline(always)]
     pub(crate) fn put(&mut self, sender: u32, frame: Sealed)
         requires { sender < length self.old }
         ensures { self.new ≡ slice_set self.old sender (Some frame) }

@@ -1,14 +1,16 @@
 //! A program's code, and the room of words that a node runs it in.
-ghost use Rattle.std.specs.Prelude.{◌≡◌, ◌++◌, ℕ, List, IfOk, length};
+ghost use Rattle.std.specs.Prelude.{◌≡◌, ◌∷◌, ◌++◌, ℕ, List, [], IfOk, length};
 ghost use Rattle.round_lang.specs.declared.value.Value.{Value};
 ghost use Rattle.round_meaning.specs.declared.received.Received.{Received};
 ghost use Rattle.round_meaning.specs.declared.setup.Setup.{Setup as OneSetup};
 ghost use Rattle.round_meaning.specs.Rounds.{algorithm_of};
 ghost use Rattle.step_code.specs.Layout.{room_of};
-ghost use Rattle.step_code.specs.Turns.{InTurn, IsOfState};
+ghost use Rattle.step_code.specs.Turns.{InTurn, IsOfRound, IsOfState};
 ghost use Rattle.step_machine.specs.Nodes.{inbox_of};
-ghost use Rattle.step_machine.specs.Reading.{AreOfRound, SendsHaveKinds, StartsHaveKinds};
+ghost use Rattle.step_machine.specs.Reading.{AreOfRound};
+ghost use Rattle.step_machine.specs.Sealed.{KeepsTypes};
 
+use crate::fields::FrameFields;
 use crate::sealed::Sealed;
 use round_check::Checked;
 use round_lang::{Message, NoMemory, Vars};
@@ -108,13 +110,28 @@ impl Machine {
     }
 }
 
-/// What nodes begin with and what they send has the kinds that the code reads.
-pub(crate) fn kinds_are_kept(program: &Checked)
-    ensures starts { StartsHaveKinds program.now }
-    ensures sends { SendsHaveKinds program.now }
+/// Nothing at run time: the program's states and messages keep their types.
+pub(crate) fn keeps_types(program: &Checked)
+    ensures { KeepsTypes program.now }
 {
-    program.typed();
     types_are_kept(program);
+}
+
+/// Takes a message, which is read where it lies.
+fn take(code: &StepProgram, round: u32, frame: &Sealed, room: &mut Room)
+    requires long { length room.old ≡ room_of code.now }
+    requires kinds { IsOfRound code.now round frame.now.message }
+    ensures takes { (s : OneSetup) (i : ℕ) (old : List Value) (inbox : List Received)
+        → InTurn code.now s round i old inbox room.old
+        → InTurn code.now s round i old
+        (inbox ++ record { from = frame.now.name.from; message = frame.now.message } ∷ [])
+        room.new }
+    ensures long { length room.new ≡ length room.old }
+{
+    let fields = FrameFields {
+        fields: frame.fields(),
+    };
+    code.message(round, frame.name().from, &fields, room);
 }
 
 /// Takes the messages, in rising order of sender.
@@ -129,7 +146,7 @@ fn take_all(code: &StepProgram, round: u32, held: &[Option<Sealed>], room: &mut 
         [] => {}
         [first, rest @ ..] => {
             if let Some(frame) = first {
-                code.message(round, frame.name().from, frame.message(), room);
+                take(code, round, frame, room);
             }
             take_all(code, round, rest, room);
         }

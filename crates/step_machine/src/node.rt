@@ -3,23 +3,32 @@ ghost use Rattle.std.specs.Arc.{arc_value};
 ghost use Rattle.std.specs.Borrow.{sem};
 ghost use Rattle.std.specs.Prelude.{◌≡◌, ◌≢◌, suc, ◌+◌, ◌<◌, ◌≤◌, ◌↔◌, IfOk, IsSome, None};
 ghost use Rattle.std.specs.Prelude.{option_map, replicate};
+ghost use Rattle.std.specs.Option.{ForSome};
 ghost use Rattle.round_meaning.specs.Rounds.{algorithm_of};
 ghost use Rattle.round_meaning.specs.Setups.{IsSetup};
 ghost use Rattle.step_machine.specs.Sealed.{IsPrepared, Spells};
 ghost use Rattle.step_machine.specs.Nodes.{HasSettled, IsDoubled, IsEnd, IsSameTurn, ahead};
-ghost use Rattle.step_machine.specs.Nodes.{algorithm_in, held_with, said_to};
+ghost use Rattle.step_machine.specs.Nodes.{algorithm_in, format_in, held_with, sent_to};
+ghost use Rattle.step_machine.specs.NodeInside.{IsOrigin};
+ghost use Rattle.step_machine.specs.Framing.{message_at, IsNamed};
+ghost use Rattle.frame_format.specs.Formats.{kinds_at};
+ghost use Rattle.frame_format.specs.Spelling.{AreOf};
 
 mod finished;
 
 use crate::event::Name;
 use crate::held::Held;
-use crate::machine::{Machine, kinds_are_kept};
+use crate::machine::{Machine, keeps_types};
+use crate::origin::Origin;
 use crate::prepared::Prepared;
-use crate::said::Said;
 use crate::sealed::Sealed;
+use crate::spoken::Spoken;
+use crate::writing::frame_of;
+use bytes::Bytes;
 pub use finished::Finished;
+use frame_format::Layout;
 use round_check::Checked;
-use round_lang::{NoMemory, Vars};
+use round_lang::{Message, NoMemory, Vars};
 use round_meaning::{Setup, is_broadcast};
 use std::alloc::Global;
 use std::marker::Model;
@@ -46,12 +55,13 @@ pub enum Taken {
 /// round before, the room of the next one, which the round's end is written to, and the frames that
 /// it holds of its round and of the three after it. The two states change places as it goes on.
 ///
-/// A copy of the state is shared by all that the node sends in its round. What it sends is kept
-/// where it's the same for all, so that it's computed once.
+/// A copy of the state is shared by all that the node sends in its round. Where that is the same
+/// for all, it's computed once, and the frames to all are kept in one piece of memory.
 #[derive(Drop)]
 pub struct Node {
     alloc: Global,
     machine: Machine,
+    layout: Arc<Layout>,
     setup: Setup,
     me: u32,
     round: u32,
@@ -59,8 +69,8 @@ pub struct Node {
     next: Vars,
     has_ended: bool,
     held: Vec<Held>,
-    shared: Option<Arc<Vars>>,
-    spoken: Option<Arc<Said>>,
+    origin: Option<Arc<Origin>>,
+    spoken: Option<Spoken>,
 }
 
 impl Model for Node {
@@ -98,7 +108,8 @@ impl Node {
           next = None;
         }) }
     {
-        kinds_are_kept(program);
+        let layout = Layout::of(alloc, program, setup.nodes)?;
+        let layout = Arc::new(alloc, layout)?;
         let mut machine = Machine::new(alloc, program)?;
         let state = machine.init(alloc, setup, me)?;
         let next = state.copy(alloc)?;
@@ -106,6 +117,7 @@ impl Node {
         Ok(Node {
             alloc,
             machine,
+            layout,
             setup: setup.copy()?,
             me,
             round: 1,
@@ -113,7 +125,7 @@ impl Node {
             next,
             has_ended: false,
             held,
-            shared: None,
+            origin: None,
             spoken: None,
         })
     }
@@ -125,9 +137,18 @@ impl Node {
         self.round
     }
 
-    /// What it sends to `dest` in its round.
+    /// Its number, from 0.
+    pub fn number(&self) -> u32
+        ensures value { result ≡ self.now.me }
+        ensures one { result < self.now.setup.nodes }
+    {
+        self.me
+    }
+
+    /// What it sends to `dest` in its round, which is one of the setup's.
     pub fn prepare(&mut self, dest: u32) -> Result<Prepared, NoMemory>
-        requires { dest < self.old.setup.nodes }
+        requires dest { dest < self.old.setup.nodes }
+        requires last { self.old.round ≤ self.old.setup.rounds }
         ensures ready { IfOk result (λ p. p ≡ record {
           name = record { from = self.old.me; to = dest; round = self.old.round; copy = 0 };
           state = self.old.state;
@@ -136,36 +157,50 @@ impl Node {
         ensures prepared { IfOk result (IsPrepared (algorithm_in self.old)) }
         ensures same { self.new ≡ self.old }
     {
-        kinds_are_kept(self.machine.program());
-        let said = self.said_to(dest)?;
         let name = Name {
             from: self.me,
             to: dest,
             round: self.round,
             copy: 0,
         };
-        Ok(Prepared::new(name, said))
+        let origin = self.shared_origin()?;
+        let frame = self.frame_to(name)?;
+        Ok(Prepared::new(name, origin, frame))
     }
 
-    /// What it says to `dest`.
-    fn said_to(&mut self, dest: u32) -> Result<Arc<Said>, NoMemory>
-        ensures says { IfOk result (λ said. arc_value said ≡ said_to self.old dest) }
+    /// The frame of what it sends under a name of its round, none of silence.
+    fn frame_to(&mut self, name: Name) -> Result<Option<Bytes>, NoMemory>
+        requires from { name.from ≡ self.old.me }
+        requires to { name.to < self.old.setup.nodes }
+        requires round { name.round ≡ self.old.round }
+        requires original { name.copy ≡ 0 }
+        requires last { self.old.round ≤ self.old.setup.rounds }
+        ensures named { IfOk result (λ frame. ForSome frame (IsNamed (format_in self.old) name)) }
+        ensures says { IfOk result (λ frame. option_map (message_at (format_in self.old)) frame
+            ≡ sent_to self.old name.to) }
         ensures same { self.new ≡ self.old }
     {
-        if let Some(said) = &self.spoken {
-            return Ok(Arc::try_clone(said)?);
+        if let Some(spoken) = &self.spoken {
+            return spoken.frame_to(&self.layout, name);
         }
-        let said = self.computed(dest)?;
-        if is_broadcast(self.machine.program(), self.round) {
-            self.spoken = Some(Arc::try_clone(&said)?);
+        let message = self.message_to(name.to)?;
+        if !is_broadcast(self.machine.program(), self.round) {
+            return frame_of(self.alloc, &self.layout, name, message);
         }
-        Ok(said)
+        let spoken = Spoken::new(self.alloc, &self.layout, self.me, self.round, message)?;
+        let frame = spoken.frame_to(&self.layout, name)?;
+        self.spoken = Some(spoken);
+        Ok(frame)
     }
 
-    fn computed(&mut self, dest: u32) -> Result<Arc<Said>, NoMemory>
-        ensures says { IfOk result (λ said. arc_value said ≡ said_to self.old dest) }
+    /// What it sends to `dest`, none for silence.
+    fn message_to(&mut self, dest: u32) -> Result<Option<Message>, NoMemory>
+        ensures says { IfOk result (λ message. message ≡ sent_to self.old dest) }
+        ensures kinds { IfOk result (λ message. ForSome message
+            (AreOf self.old.program.values (kinds_at (format_in self.old) self.old.round))) }
         ensures same { self.new ≡ self.old }
     {
+        keeps_types(self.machine.program());
         let message = self.machine.send(
             self.alloc,
             &self.setup,
@@ -174,24 +209,30 @@ impl Node {
             self.me,
             dest,
         )?;
-        let state = self.shared_state()?;
-        Ok(Arc::new(self.alloc, Said::new(state, message))?)
+        Ok(message)
     }
 
-    /// Its state, as it is shared by all that it sends in its round.
-    fn shared_state(&mut self) -> Result<Arc<Vars>, NoMemory>
-        ensures state { IfOk result (λ state. arc_value state ≡ self.old.state) }
+    /// Where its messages come from, as it is shared by all that it sends in its round.
+    fn shared_origin(&mut self) -> Result<Arc<Origin>, NoMemory>
+        ensures origin { IfOk result (λ origin.
+            IsOrigin self.old.state (format_in self.old) (arc_value origin)) }
         ensures same { self.new ≡ self.old }
     {
-        if let Some(state) = &self.shared {
-            return Ok(Arc::try_clone(state)?);
+        if let Some(origin) = &self.origin {
+            return Ok(Arc::try_clone(origin)?);
         }
-        let state = Arc::new(self.alloc, self.state.copy(self.alloc)?)?;
-        self.shared = Some(Arc::try_clone(&state)?);
-        Ok(state)
+        let origin = Origin {
+            alloc: self.alloc,
+            state: self.state.copy(self.alloc)?,
+            layout: Arc::try_clone(&self.layout)?,
+        };
+        let origin = Arc::new(self.alloc, origin)?;
+        self.origin = Some(Arc::try_clone(&origin)?);
+        Ok(origin)
     }
 
     /// Takes a frame that was sent to it. What isn't kept is dropped.
+    #[inline(always)]
     pub fn take(&mut self, frame: Sealed) -> Taken
         requires from { frame.name.from < self.old.setup.nodes }
         requires to { frame.name.to ≡ self.old.me }
@@ -234,7 +275,7 @@ impl Node {
         ensures same { IsSameTurn self.old self.new }
         ensures ended { IsEnd self.new }
     {
-        kinds_are_kept(self.machine.program());
+        keeps_types(self.machine.program());
         self.machine.end(
             &self.setup,
             self.round,
@@ -257,7 +298,7 @@ impl Node {
         self.has_ended = false;
         self.held[0].clear();
         self.held.rotate_left(1);
-        self.shared = None;
+        self.origin = None;
         self.spoken = None;
         self.round += 1;
     }

@@ -19,7 +19,8 @@ use step_machine::{Name, Node, Prepared};
 
 /// What the node has for another.
 fn prepare(node: &mut Node, to: u32) -> Option<Prepared>
-    requires { to < node.old.setup.nodes }
+    requires to { to < node.old.setup.nodes }
+    requires last { node.old.round ≤ node.old.setup.rounds }
     ensures ready { IfSome result (λ p. p ≡ record {
       name = record { from = node.old.me; to = to; round = node.old.round; copy = 0 };
       state = node.old.state;
@@ -41,12 +42,12 @@ pub fn number_of(journal: &Journal<Known>, node: &mut Node) -> Option<u32>
     ensures me { IfSome result (λ me. me ≡ node.old.me) }
     ensures within { IfSome result (λ me. me < journal.now.log.setup.nodes) }
 {
-    let nodes = journal.book().setup().nodes;
-    if nodes == 0 {
-        return None;
+    let me = node.number();
+    if me < journal.book().setup().nodes {
+        Some(me)
+    } else {
+        None
     }
-    let me = prepare(node, 0)?.name().from;
-    if me < nodes { Some(me) } else { None }
 }
 
 /// A send that isn't refused for memory, or is then made again with the work that came back.

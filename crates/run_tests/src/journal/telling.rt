@@ -7,6 +7,7 @@ use crate::journal::act::Question;
 use round_lang::ValueSet;
 use slot_plans::Known;
 use std::alloc::Global;
+use step_book::StoredName;
 use step_journal::Journal;
 use step_machine::{InFlight, MAX_COPY, Name};
 
@@ -39,12 +40,12 @@ pub fn tell_name(out: &mut String, name: Name) -> Result<(), Fault> {
     Ok(())
 }
 
-fn tell_names(out: &mut String, names: &[Name]) -> Result<(), Fault> {
+fn tell_names(out: &mut String, names: &[StoredName]) -> Result<(), Fault> {
     if names.is_empty() {
         out.push_str(" none")?;
     }
     for name in names {
-        tell_name(out, *name)?;
+        tell_name(out, name.name())?;
     }
     Ok(())
 }
@@ -68,7 +69,7 @@ fn tell_book(journal: &Journal<Known>, out: &mut String) -> Result<(), Fault> {
 
 fn tell_event(journal: &Journal<Known>, place: u32, out: &mut String) -> Result<(), Fault> {
     match journal.book().trace().get(place as usize) {
-        Some(event) => write!(out, "{event:?}")?,
+        Some(event) => write!(out, "{:?}", event.event())?,
         None => out.push_str("none")?,
     }
     Ok(())
@@ -164,7 +165,7 @@ fn tell_in_flight(journal: &Journal<Known>, name: Name, out: &mut String) -> Res
         Some(frame) => {
             tell_name(out, frame.name())?;
             out.push_str(" ")?;
-            tell_set(out, frame.message().set(0))
+            tell_set(out, frame.view().set(0))
         }
         None => Ok(out.push_str(" none")?),
     }

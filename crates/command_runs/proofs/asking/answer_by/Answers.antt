@@ -13,7 +13,7 @@ use Rattle.command_runs.specs.Stages.{IsNotRunAs, listed_by}
 pub returns-in-Some-clause-answered : goal.returns-in-Some-clause-answered
 returns-in-Some-clause-answered c =
     let p = c.args.program.now in
-    let s = c.args.schedule.now in
+    let s = c.args.schedule in
     let n = s.setup.nodes in
     let q = c.args.question in
     let made = c.in-Some.ensures.made in
@@ -23,16 +23,16 @@ returns-in-Some-clause-answered c =
 pub returns-in-Some-clause-refused : goal.returns-in-Some-clause-refused
 returns-in-Some-clause-refused c =
     let p = c.args.program.now in
-    let s = c.args.schedule.now in
+    let s = c.args.schedule in
     let list = listed_by c.args.question in
     let plan = subst IsPlan (sym c.in-Known.is) (c.in-Some.ensures.within_limits.0 refl).1 in
-    IfErr-weaker c.answer_of.result (IsNotRunAs p s.setup s.events.items list) (IsNotRun p s.setup s.plan s.events.items list)
-    (λ r none. not_run p s.setup s.plan s.events.items list r plan none) c.answer_of.ensures.refused
+    IfErr-weaker c.answer_of.result (IsNotRunAs p s.setup s.events list) (IsNotRun p s.setup s.plan s.events list)
+    (λ r none. not_run p s.setup s.plan s.events list r plan none) c.answer_of.ensures.refused
 
 pub returns-in-Some-new-clause-answered : goal.returns-in-Some-new-clause-answered
 returns-in-Some-new-clause-answered c =
     let p = c.args.program.now in
-    let s = c.args.schedule.now in
+    let s = c.args.schedule in
     let n = s.setup.nodes in
     let q = c.args.question in
     IfOk-weaker c.answer_of-in-Some-new.result _ _ (λ a h. subst (λ (k : PlanKind). Answered (start_of k n) (receives_of k) p s q a) (sym c.in-Growing.is)
@@ -41,8 +41,8 @@ returns-in-Some-new-clause-answered c =
 pub returns-in-Some-new-clause-refused : goal.returns-in-Some-new-clause-refused
 returns-in-Some-new-clause-refused c =
     let p = c.args.program.now in
-    let s = c.args.schedule.now in
+    let s = c.args.schedule in
     let list = listed_by c.args.question in
     let plan = subst IsPlan (sym c.in-Growing.is) tt in
-    IfErr-weaker c.answer_of-in-Some-new.result (IsNotRunAs p s.setup s.events.items list) (IsNotRun p s.setup s.plan s.events.items list)
-    (λ r none. not_run p s.setup s.plan s.events.items list r plan none) c.answer_of-in-Some-new.ensures.refused
+    IfErr-weaker c.answer_of-in-Some-new.result (IsNotRunAs p s.setup s.events list) (IsNotRun p s.setup s.plan s.events list)
+    (λ r none. not_run p s.setup s.plan s.events list r plan none) c.answer_of-in-Some-new.ensures.refused

@@ -1,6 +1,18 @@
-use Rattle.std.proofs.Common.{rules}
-use Rattle.std.proofs.lemmas.Slice.Eq.{slice_eq-Decides}
+use Rattle.std.proofs.Common.{◌≡◌, arith, refl}
+use Rattle.locked_buffers.proofs.Alike.{same_all, same_more, unlike_here}
 use Rattle.locked_buffers.proofs.account.are_same_names.Goals as goal
 
+pub returns-then-not-is_same_name : goal.returns-then-not-is_same_name
+returns-then-not-is_same_name c =
+    unlike_here c.args.left.now c.args.right.now c.loop-place.place _ c.index-right-place.result c.is_same_name.result
+    c.loop-place-test.true c.index-right-place.is c.is_same_name.ensures.1 c.if-not-is_same_name.true
+
+pub loop-place-preserved : goal.loop-place-preserved
+loop-place-preserved c =
+    same_more c.args.left.now c.args.right.now c.loop-place.place _ c.index-right-place.result c.loop-place-test.true
+    c.if-left-right.false c.index-right-place.is (c.is_same_name.ensures.0 c.if-not-is_same_name.false) c.loop-place.invariant
+
 pub returns : goal.returns
-returns c = slice_eq-Decides (λ a b. (search rules, search rules)) c.args.left.now c.args.right.now c.eq.result c.eq.ensures
+returns c =
+    let all = same_all c.args.left.now c.args.right.now c.loop-place.place c.if-left-right.false c.loop-place-test.false c.loop-place.invariant in
+    (λ x. all, λ h. refl)

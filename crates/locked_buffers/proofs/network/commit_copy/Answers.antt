@@ -1,7 +1,12 @@
+use Rattle.std.proofs.Common.{refl}
+use Rattle.step_machine.specs.Sealed.{original}
+use Rattle.step_book.specs.Buffers.{IsSameRun}
+use Rattle.step_journal.specs.Fits.{place_among}
 use Rattle.locked_buffers.proofs.Copies.{spelt_made}
 use Rattle.locked_buffers.proofs.network.commit_copy.Goals as goal
 
 pub put-requires-clause-spelt : goal.put-requires-clause-spelt
 put-requires-clause-spelt g c =
-    spelt_made c.args.buffer.now c.reserve_flying.new.self c.args.name.copy c.place-place.result c.in_ok-frame.frame c.in-Some.frame
-    c.spelt.ensures c.in_ok-frame.ensures c.in-Some.is c.reserve_flying.ensures.run
+    let same : IsSameRun c.args.buffer.now c.args.buffer.now = record { program = refl; setup = refl } in
+    spelt_made c.args.buffer.now c.args.buffer.now c.args.name.copy c.args.name.round (place_among c.args.run.now.setup.nodes (original c.args.name)) c.args.frame c.in-Some.frame
+    c.spelt.ensures c.requires.copied c.in-Some.is same

@@ -66,7 +66,7 @@ loop-event-preserved g c =
           let same : c.book-book.result.now.log.setup.nodes ≡ c.args.journal.now.log.setup.nodes = ap (λ z. z.log.setup.nodes) c.book-book.ensures in
           let within : AreNodes (nodes_of w) correct = λ j h. (let l = c.requires j h in omega arith) in
           let few = c.agrees.ensures.lawful.sized.few_nodes in
-          let stands : At at (Step k) t = subst (λ z. At at (Step k) (reverse z)) c.trace-event-items.ensures (at_moment xs i _ (Step k) low w'.in-Step.is) in
+          let stands : At at (Step k) t = subst (λ z. At at (Step k) (reverse z)) c.trace-event-items.ensures (at_moment xs i _ (Step k) low (sym c.event-item.is ∙ sym c.event.ensures ∙ w'.in-Step.is)) in
           let paced : (w'.if-lockstep.lockstep ≡ true) ↔ ((c.loop-event.lockstep ≡ true) × KeepsPace correct counts k) = elim w'.if-lockstep.branch [
             | then-lockstep u ↦ and_then c.loop-event.lockstep w'.if-lockstep.lockstep u.keeps_pace-lockstep.result u.if-lockstep.true u.lockstep-is u.keeps_pace-lockstep.ensures
             | else-lockstep u ↦ and_not c.loop-event.lockstep w'.if-lockstep.lockstep u.if-lockstep.false u.lockstep-is
@@ -76,29 +76,29 @@ loop-event-preserved g c =
             | else-bound u ↦ and_not c.loop-event.bound w'.if-bound.bound u.if-bound.false u.bound-is
           ] in
           let next = passed_step w t correct delta gst k at counts c.loop-event.lockstep c.loop-event.bound w'.if-lockstep.lockstep w'.if-bound.bound plan within (omega arith) here stands paced bounded a in
-          rw (next_moment xs i _ (Step k) low w'.in-Step.is, w'.counts-is, w'.lockstep-is, w'.bound-is) next
+          rw (next_moment xs i _ (Step k) low (sym c.event-item.is ∙ sym c.event.ensures ∙ w'.in-Step.is), w'.counts-is, w'.lockstep-is, w'.bound-is) next
       | in-Step+else-contains w' ↦
           let k = w'.in-Step.node in
           let n = c.agrees.ensures.lawful.sized.few_nodes in
           let same : c.book-book.result.now.log.setup.nodes ≡ c.args.journal.now.log.setup.nodes = ap (λ z. z.log.setup.nodes) c.book-book.ensures in
           let out = λ (h : is_in correct k ≡ true). both_ways w'.contains.result w'.if-contains.false (w'.contains.ensures ∙ has_member correct k (let l = c.requires k h in omega arith) h) in
           let other : IsOther correct (Step k) = other_step correct k out in
-          rw (next_moment xs i _ (Step k) low w'.in-Step.is, w'.counts-is, w'.lockstep-is, w'.bound-is)
+          rw (next_moment xs i _ (Step k) low (sym c.event-item.is ∙ sym c.event.ensures ∙ w'.in-Step.is), w'.counts-is, w'.lockstep-is, w'.bound-is)
           (passed_other w t correct delta gst at counts c.loop-event.lockstep c.loop-event.bound (Step k) other a)
       | in-Release w' ↦
           let e = Release w'.in-Release.field-0 in
           let other : IsOther correct e = λ j h. refl in
-          rw (next_moment xs i _ e low w'.in-Release.is, w'.counts-is, w'.lockstep-is, w'.bound-is)
+          rw (next_moment xs i _ e low (sym c.event-item.is ∙ sym c.event.ensures ∙ w'.in-Release.is), w'.counts-is, w'.lockstep-is, w'.bound-is)
           (passed_other w t correct delta gst at counts c.loop-event.lockstep c.loop-event.bound e other a)
       | in-Drop w' ↦
           let e = Drop w'.in-Drop.field-0 in
           let other : IsOther correct e = λ j h. refl in
-          rw (next_moment xs i _ e low w'.in-Drop.is, w'.counts-is, w'.lockstep-is, w'.bound-is)
+          rw (next_moment xs i _ e low (sym c.event-item.is ∙ sym c.event.ensures ∙ w'.in-Drop.is), w'.counts-is, w'.lockstep-is, w'.bound-is)
           (passed_other w t correct delta gst at counts c.loop-event.lockstep c.loop-event.bound e other a)
       | in-Copy w' ↦
           let e = Copy w'.in-Copy.field-0 in
           let other : IsOther correct e = λ j h. refl in
-          rw (next_moment xs i _ e low w'.in-Copy.is, w'.counts-is, w'.lockstep-is, w'.bound-is)
+          rw (next_moment xs i _ e low (sym c.event-item.is ∙ sym c.event.ensures ∙ w'.in-Copy.is), w'.counts-is, w'.lockstep-is, w'.bound-is)
           (passed_other w t correct delta gst at counts c.loop-event.lockstep c.loop-event.bound e other a)
     ]
 

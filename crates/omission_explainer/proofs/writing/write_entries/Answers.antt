@@ -1,34 +1,43 @@
-use Rattle.std.proofs.Common.{◌++◌, ◌∷◌, List, ℕ, ap, sym, subst, Bor}
+use Rattle.std.proofs.Common.{◌+◌, [], ap, sym, subst, arith}
+use Rattle.std.specs.Prelude.{codes, if◌then◌else◌}
 use Rattle.std.specs.Fmt.{decimal}
-use Rattle.std.specs.Io.KnownBytes.{Appends}
 use Rattle.round_lang.specs.Values.{at, row}
 use Rattle.omission_explainer.specs.Report.{entry_text, is_entered}
-use Rattle.omission_explainer.proofs.Texts.{entry_absent, entry_there, entry_written, passing_taken}
-use Rattle.omission_explainer.proofs.Texts.{passing_passed, comma_is_text, same_is_text}
+use Rattle.omission_explainer.proofs.Texts.{TellsPassing, entry_absent, entry_there}
+use Rattle.omission_explainer.proofs.Texts.{entry_told, passing_all, passing_taken, passing_passed}
+use Rattle.omission_explainer.proofs.Texts.{tells_pushed}
 use Rattle.omission_explainer.proofs.writing.write_entries.Goals as goal
-use Rattle.omission_explainer.proofs.writing.write_entries.Goals.{then-entry-ne0+in_ok-write-2}
+use Rattle.omission_explainer.proofs.writing.write_entries.Goals.{then-entry-ne0+in_ok-make_room-2}
 use Rattle.omission_explainer.proofs.writing.write_entries.Goals.{else-entry-ne0}
 
 pub loop-value-preserved : goal.loop-value-preserved
 loop-value-preserved g c =
     let out = g.W.Write.contents in
-    let i = c.loop-value.value-counter in
+    let i = c.loop-value.value in
     let e = c.entry-entry.result in
     let entries = row (at c.args.state.now c.args.place) in
-    let before = c.loop-value.separator.now in
+    let now = c.loop-value.has_entry in
+    let old = out c.args.out.now in
+    let s = c.args.text.now in
     elim c.if-entry-ne0.branch [
-      | then-entry-ne0+in_ok-write-2 w ↦
-          let comma = ap (λ (t : Bor (List ℕ)). t.now) w.separator-is in
-          let more : Appends (out c.loop-value.out) (out c.if-entry-ne0.out) (before ++ (decimal i ++ 58 ∷ decimal e)) =
-          subst (λ o. Appends (out c.loop-value.out) o (before ++ (decimal i ++ 58 ∷ decimal e))) (sym (ap out w.out-is)) w.in_ok-write-2.ensures.bytes in
-          record {
-            text = comma_is_text _ comma;
-            listed = passing_taken (out c.write.new.self) (out c.loop-value.out) (out c.if-entry-ne0.out) (entry_text entries) (is_entered entries) i before c.if-entry-ne0.separator.now c.loop-value.invariant.listed (entry_there entries i e c.entry-entry.ensures w.if-entry-ne0.true) (entry_written _ _ entries before i e c.entry-entry.ensures more) comma;
-          }
+      | then-entry-ne0+in_ok-make_room-2 w ↦
+          let room = w.make_room-then-entry-ne0.new in
+          let told = tells_pushed (out c.loop-value.out) (out room.out) c.loop-value.text room.text w.push_entry.new.text _ w.in_ok-make_room-2.ensures.same w.push_entry.ensures in
+          let more = entry_told (out c.loop-value.out) (out room.out) c.loop-value.text w.push_entry.new.text entries (if now then codes "," else []) i e c.entry-entry.ensures told in
+          let all = passing_taken old (out c.loop-value.out) (out room.out) s c.loop-value.text w.push_entry.new.text (entry_text entries) (is_entered entries) i now c.loop-value.invariant (entry_there entries i e c.entry-entry.ensures w.if-entry-ne0.true) more in
+          subst (λ o. TellsPassing old s o c.if-entry-ne0.text (entry_text entries) (is_entered entries) (i + 1) c.if-entry-ne0.has_entry) (sym (ap out w.out-is))
+          (subst (λ t. TellsPassing old s (out room.out) t (entry_text entries) (is_entered entries) (i + 1) c.if-entry-ne0.has_entry) (sym w.text-is)
+          (subst (λ h. TellsPassing old s (out room.out) w.push_entry.new.text (entry_text entries) (is_entered entries) (i + 1) h) (sym w.has_entry-is) all))
       | else-entry-ne0 w ↦
-          let kept = ap (λ (t : Bor (List ℕ)). t.now) w.separator-is in
-          record {
-            text = same_is_text _ _ kept c.loop-value.invariant.text;
-            listed = passing_passed (out c.write.new.self) (out c.loop-value.out) (out c.if-entry-ne0.out) (entry_text entries) (is_entered entries) i before c.if-entry-ne0.separator.now c.loop-value.invariant.listed (entry_absent entries i e c.entry-entry.ensures w.if-entry-ne0.false) (ap out w.out-is) kept;
-          }
+          let all = passing_passed old (out c.loop-value.out) s c.loop-value.text (entry_text entries) (is_entered entries) i now c.loop-value.invariant (entry_absent entries i e c.entry-entry.ensures w.if-entry-ne0.false) in
+          subst (λ o. TellsPassing old s o c.if-entry-ne0.text (entry_text entries) (is_entered entries) (i + 1) c.if-entry-ne0.has_entry) (sym (ap out w.out-is))
+          (subst (λ t. TellsPassing old s (out c.loop-value.out) t (entry_text entries) (is_entered entries) (i + 1) c.if-entry-ne0.has_entry) (sym w.text-is)
+          (subst (λ h. TellsPassing old s (out c.loop-value.out) c.loop-value.text (entry_text entries) (is_entered entries) (i + 1) h) (sym w.has_entry-is) all))
     ]
+
+pub returns : goal.returns
+returns g c =
+    let out = g.W.Write.contents in
+    let entries = row (at c.args.state.now c.args.place) in
+    let last = tells_pushed (out c.loop-value.out) (out c.make_room-2.new.out) c.loop-value.text c.make_room-2.new.text c.push-2.new.self (codes "]") c.in_ok-make_room-3.ensures.same c.push-2.ensures.text in
+    passing_all (out c.args.out.now) (out c.loop-value.out) (out c.make_room-2.new.out) c.args.text.now c.loop-value.text c.push-2.new.self entries c.loop-value.value c.args.values c.loop-value.has_entry (omega (arith, c.loop-value-test.false, c.loop-value.auto.value-end)) c.loop-value.invariant last

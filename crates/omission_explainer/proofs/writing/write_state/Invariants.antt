@@ -1,8 +1,9 @@
-use Rattle.std.specs.Io.KnownBytes.{Appends}
+use Rattle.std.specs.Prelude.{codes, ◌++◌}
 use Rattle.std.specs.List.{flat_map, range_with_len}
 use Rattle.omission_explainer.specs.Report.{variable_text}
+use Rattle.omission_explainer.specs.Short.{Tells}
 use Rattle.omission_explainer.proofs.writing.write_state.Given as goal
 
 abbrev pub invariant-loop-place : goal.invariant-loop-place
 invariant-loop-place g l =
-    Appends (g.W.Write.contents l.initial.out) (g.W.Write.contents l.out) (flat_map (variable_text l.report l.state) (range_with_len 0 l.place))
+    Tells (g.W.Write.contents l.fn.out) l.fn.text (g.W.Write.contents l.out) l.text (codes " state" ++ flat_map (variable_text l.report l.state) (range_with_len 0 l.place))

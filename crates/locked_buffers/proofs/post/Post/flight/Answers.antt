@@ -4,7 +4,7 @@ use Rattle.locked_buffers.proofs.post.Post.flight.Goals as goal
 
 pub returns : goal.returns
 returns g c = record {
-  one = c.deref.result.now;
+  one = c.deref-2.result.now;
   flies = c.in_ok-flight.ensures;
-  counted = ap length c.trace.ensures ∙ ap (λ (b : Recorded g.row.P.Denot). length b.log.trace) (c.deref-2.ensures ∙ sym c.deref.ensures);
+  counted = ap length c.trace.ensures ∙ ap (λ (b : Recorded g.row.P.Denot). length b.log.trace) (c.deref-3.ensures ∙ sym c.deref-2.ensures);
 }

@@ -4,7 +4,7 @@ use Rattle.std.proofs.lemmas.List.{take_rest}
 use Rattle.step_book.specs.Log.{Recorded}
 use Rattle.step_machine.specs.declared.event.Name.{Name}
 use Rattle.locked_buffers.proofs.post.Post.sent_since.Goals as goal
-use Rattle.locked_buffers.proofs.post.Post.sent_since.Goals.{in-Some+in_ok-extend_from_slice, in_default}
+use Rattle.locked_buffers.proofs.post.Post.sent_since.Goals.{in-Some+in_ok-add_names, in_default}
 
 -- nothing lies past the end
 past : (xs ys : List Name) (k : ℕ) → (length ys < k) ⊎ (length ys < length ys) → xs ≡ xs ++ drop k ys
@@ -16,14 +16,14 @@ returns-clause-ok g c =
     let old = c.args.sent.now.items in
     let names = c.messages.result.now in
     let k = c.args.known in record {
-      one = c.deref.result.now;
+      one = c.deref-2.result.now;
       messages = names;
       are = c.messages.ensures;
       adds = elim c.match-get.branch [
-        | in-Some+in_ok-extend_from_slice w ↦
-            ap (λ v. v.items) w.sent-is ∙ w.in_ok-extend_from_slice.ensures.items
+        | in-Some+in_ok-add_names w ↦
+            ap (λ v. v.items) w.sent-is ∙ w.in_ok-add_names.ensures.ok
             ∙ ap (λ zs. old ++ zs) (w.in-Some.ensures.lookup.0.2 ∙ take_rest names k)
         | in_default w ↦ ap (λ v. v.items) w.sent-is ∙ past old names k w.in_default.ensures.lookup.0
       ];
-      counted = ap length c.trace.ensures ∙ ap (λ (b : Recorded g.row.P.Denot). length b.log.trace) (c.deref-2.ensures ∙ sym c.deref.ensures);
+      counted = ap length c.trace.ensures ∙ ap (λ (b : Recorded g.row.P.Denot). length b.log.trace) (c.deref-3.ensures ∙ sym c.deref-2.ensures);
     }

@@ -8,7 +8,7 @@ use Rattle.schedule_text.proofs.draft.Draft.read_front.Goals as goal
 pub returns-in-Some : goal.returns-in-Some
 returns-in-Some c =
     let front = c.in-Some.ensures in
-    (front.shorter, event_front c.args.kind c.args.text.now c.in-Some.rest.now (state_of c.args.self.now) _ _ _ _ _ c.in-Some.event c.in-Schedule.is c.in-Whole.is front (ap (λ (es : List Event). record (state_of c.args.self.now) { events = es }) c.in_ok-push.ensures.items))
+    (front.shorter, event_front c.args.kind c.args.text.now c.in-Some.rest.now (state_of c.args.self.now) _ _ _ _ _ c.in-Some.event c.in-Schedule.is c.in-Whole.is front (ap (λ (es : List Event). record (state_of c.args.self.now) { events = es }) c.in_ok-push.ensures.ok))
 
 pub returns-in_err-read_line : goal.returns-in_err-read_line
 returns-in_err-read_line c =

@@ -5,11 +5,11 @@ use Rattle.step_book.specs.Log.{Log, SameMarksBut, SameWaiting, mark_in}
 use Rattle.step_book.proofs.Events.{lost, not_lost, to_fields}
 use Rattle.step_book.proofs.Later.{kept_happened}
 use Rattle.step_book.proofs.Leaves.{dropped_mark, dropped_others, dropped_waiting}
-use Rattle.step_book.proofs.Reading.{flying_in, log_view, of_view, trace_view}
+use Rattle.step_book.proofs.Reading.{few_name, flying_in, log_view, of_view, trace_view}
 use Rattle.step_book.proofs.book.Book.drop_copy.Goals as goal
 
-pub put-requires : goal.put-requires
-put-requires g c =
+pub put-requires-clause-place : goal.put-requires-clause-place
+put-requires-clause-place g c =
     flying_in (of_view g.P.Plan.start g.P.Plan.nodes c.self.view_is c.self.invariant) c.args.name c.place-place.result c.requires (c.is_flying.ensures.0 cc) c.place-place.ensures
 
 pub invariant_of-self-then-is_flying : goal.invariant_of-self-then-is_flying
@@ -73,3 +73,6 @@ returns-clause-kept g c =
     let n = c.args.name in
     subst (λ (z : Log). KeepsClosed (g.P.Plan.start v.plan) v.log z) (sym (log_view (Drop n) _ c.self.view_is c.in_ok-note_answer-2.ensures.trace))
     (kept_happened (of_view g.P.Plan.start g.P.Plan.nodes c.self.view_is c.self.invariant) (Drop n))
+
+pub note_answer-requires : goal.note_answer-requires
+note_answer-requires g c = few_name (of_view g.P.Plan.start g.P.Plan.nodes c.self.view_is c.self.invariant) c.args.name c.requires

@@ -1,5 +1,6 @@
-use Rattle.std.proofs.Common.{ap, arith, length}
+use Rattle.std.proofs.Common.{List, Some, ◌∙◌, ap, arith, get_or, length, sym}
 use Rattle.std.proofs.lemmas.Option.{slice_get-get_or}
+use Rattle.step_machine.specs.declared.event.Name.{Name}
 use Rattle.step_book.proofs.Flight.{flight_whole}
 use Rattle.step_book.proofs.Reading.{of_view}
 use Rattle.step_book.proofs.book.Book.flight.Goals as goal
@@ -8,8 +9,11 @@ pub add_copies-requires-clause-message : goal.add_copies-requires-clause-message
 add_copies-requires-clause-message g c =
     let h = of_view g.P.Plan.start g.P.Plan.nodes c.self.view_is c.self.invariant in
     let size = ap length c.deref-message-items.ensures.value in
-    rw c.deref-message-items.ensures.value
-    ((h.serials.each c.loop-serial.serial _).0 (slice_get-get_or c.self.inside.messages.items c.loop-serial.serial _ (omega arith)))
+    let names = c.self.inside.messages.items in
+    let k = c.loop-serial.serial in
+    let item = c.message-item.result in
+    let is = c.name.ensures ∙ c.message-item.is ∙ ap (λ (xs : List Name). get_or xs k item) c.deref-message-items.ensures.value in
+    (h.serials.each k c.name.result).0 (slice_get-get_or names k item (let test = c.loop-serial-test.true in omega arith) ∙ ap (λ (n : Name). Some n) (sym is))
 
 pub returns : goal.returns
 returns g c =

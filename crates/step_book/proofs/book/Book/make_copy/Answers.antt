@@ -6,7 +6,7 @@ use Rattle.step_book.specs.Agreed.{KeepsClosed}
 use Rattle.step_book.specs.Log.{Log, SameMarksBut, SameWaiting, mark_in}
 use Rattle.step_book.proofs.Later.{kept_happened}
 use Rattle.step_book.proofs.Leaves.{copied_mark, copied_others, copied_waiting}
-use Rattle.step_book.proofs.Reading.{log_view, of_view, trace_view}
+use Rattle.step_book.proofs.Reading.{few_name, log_view, of_view, trace_view}
 use Rattle.step_book.proofs.Tables.{puts_after}
 use Rattle.step_book.proofs.book.Book.make_copy.Goals as goal
 
@@ -79,3 +79,6 @@ returns-clause-kept g c =
     let n = c.args.name in
     subst (λ (z : Log). KeepsClosed (g.P.Plan.start v.plan) v.log z) (sym (log_view (Copy n) _ c.self.view_is c.in_ok-note_answer-2.ensures.trace))
     (kept_happened (of_view g.P.Plan.start g.P.Plan.nodes c.self.view_is c.self.invariant) (Copy n))
+
+pub note_answer-requires : goal.note_answer-requires
+note_answer-requires g c = few_name (of_view g.P.Plan.start g.P.Plan.nodes c.self.view_is c.self.invariant) c.args.name c.requires.name

@@ -5,10 +5,11 @@ use Rattle.std.proofs.Common.{subst, ap, ◌∙◌}
 use Rattle.step_machine.specs.declared.event.Event.TheVariants.{Step}
 use Rattle.step_machine.specs.declared.event.Name.{Name}
 use Rattle.step_book.specs.History.{arrival}
+use Rattle.stored_events.specs.Stored.{IsFewName}
 use Rattle.step_book.specs.Log.{Log, SameMarksBut, SameWaiting, mark_in}
 use Rattle.step_book.proofs.Events.{count_le, kept, send_round, sent, to_fields}
 use Rattle.step_book.proofs.Leaves.{unsent, sent_mark, sent_others, sent_waiting}
-use Rattle.step_book.proofs.Reading.{of_view, nodes_view, trace_view, log_view}
+use Rattle.step_book.proofs.Reading.{few_name, of_view, nodes_view, trace_view, log_view}
 use Rattle.step_book.proofs.book.Book.record_send.Goals as goal
 
 pub note_send-requires-clause-counted : goal.note_send-requires-clause-counted
@@ -29,7 +30,7 @@ invariant_of-self-2 g c =
     to_fields g.P.Plan.start g.P.Plan.nodes c.self.view_is
     (sent (of_view g.P.Plan.start g.P.Plan.nodes c.self.view_is c.self.invariant) p _ _ _ c.place-place.result c.spoken-mark.result _ c.requires.name (sym (ap (λ (n : Name). n.copy) c.name-name.ensures.value) ∙ c.name-name.ensures.original) c.requires.work c.requires.fit
     (subst (λ (n : Name). c.place-place.result ≡ ((n.round - 1) * v.log.setup.nodes + n.from) * v.log.setup.nodes + n.to) c.name-name.ensures.value c.place-place.ensures)
-    c.spoken-mark.ensures
+    c.spoken-mark.ensures.value
     (trace_view (Step p.name.from) _ c.self.view_is (c.in_ok-note_send.ensures.trace ∙ ap (λ (n : Name). c.self.inside.trace.items ++ Step n.from ∷ []) c.name-name.ensures.value))
     (c.in_ok-note_send.ensures.steps ∙ ap (λ (n : Name). set c.self.inside.steps.items n.from (get_or c.self.inside.steps.items n.from 0 + 1)) c.name-name.ensures.value)
     c.in_ok-note_send.ensures.marks
@@ -72,3 +73,8 @@ returns-clause-kept g c =
     let more = c.in_ok-note_send.ensures.trace ∙ ap (λ (n : Name). c.self.inside.trace.items ++ Step n.from ∷ []) c.name-name.ensures.value in
     subst (λ (z : Log). KeepsClosed (g.P.Plan.start v.plan) v.log z) (sym (log_view (Step p.name.from) _ c.self.view_is more))
     (kept_happened (of_view g.P.Plan.start g.P.Plan.nodes c.self.view_is c.self.invariant) (Step p.name.from))
+
+pub note_send-requires-clause-few : goal.note_send-requires-clause-few
+note_send-requires-clause-few g c =
+    let h = of_view g.P.Plan.start g.P.Plan.nodes c.self.view_is c.self.invariant in
+    subst (λ n. IsFewName n) (sym c.name-name.ensures.value) (few_name h c.args.prepared.now.name c.requires.name)

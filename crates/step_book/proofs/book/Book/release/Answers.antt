@@ -9,7 +9,8 @@ use Rattle.step_book.specs.Log.{Log, IsFlying, SameMarksBut, SameWaitingBut, mar
 use Rattle.step_book.proofs.Events.{kept, moved, let_be, to_fields}
 use Rattle.step_book.proofs.Leaves.{released_mark, released_others, released_waiting}
 use Rattle.step_book.proofs.Leaves.{released_waiting_others}
-use Rattle.step_book.proofs.Reading.{of_view, trace_view, log_view, flying_in, handed_len}
+use Rattle.step_book.proofs.Reading.{few_name, few_steps, of_view, trace_view, log_view}
+use Rattle.step_book.proofs.Reading.{flying_in, handed_len}
 use Rattle.step_book.proofs.Reading.{lists_len, waiting_len, waits_len}
 use Rattle.step_book.proofs.Vectors.{lists_same, waits_push, waits_same}
 use Rattle.step_book.proofs.book.Book.release.Goals as goal
@@ -33,8 +34,15 @@ invariant_of-self g c =
     (lists_same s.mails.items c.args.name.to c.index_mut.result.now c.note_release.new.mail (omega (arith, c.requires.to)) c.index_mut.ensures.value (ap (λ (m : Mailed). m.handed) same))
     c.in_err-note_release.ensures.answers_kept refl
 
-pub put-requires : goal.put-requires
-put-requires g c =
+pub put-requires-clause-short : goal.put-requires-clause-short
+put-requires-clause-short g c =
+    let count = c.count_of-count.ensures in
+    let few = few_steps c.args.name.to c.self.view_is in
+    let small = c.in_ok-note_release.ensures.small in
+    omega arith
+
+pub put-requires-clause-place : goal.put-requires-clause-place
+put-requires-clause-place g c =
     flying_in (of_view g.P.Plan.start g.P.Plan.nodes c.self.view_is c.self.invariant) c.args.name c.place-place.result c.requires (c.is_flying.ensures.0 cc) c.place-place.ensures
 
 pub invariant_of-self-then-is_flying : goal.invariant_of-self-then-is_flying
@@ -125,3 +133,9 @@ returns-clause-kept g c =
     let n = c.args.name in
     subst (λ (z : Log). KeepsClosed (g.P.Plan.start v.plan) v.log z) (sym (log_view (Release n) _ c.self.view_is c.in_ok-note_answer.ensures.trace))
     (kept_happened (of_view g.P.Plan.start g.P.Plan.nodes c.self.view_is c.self.invariant) (Release n))
+
+pub note_release-requires : goal.note_release-requires
+note_release-requires g c = few_name (of_view g.P.Plan.start g.P.Plan.nodes c.self.view_is c.self.invariant) c.args.name c.requires
+
+pub note_answer-requires : goal.note_answer-requires
+note_answer-requires g c = few_name (of_view g.P.Plan.start g.P.Plan.nodes c.self.view_is c.self.invariant) c.args.name c.requires

@@ -16,5 +16,5 @@ invariant_of-self-then-lost g c =
     let waits = subst (λ (z : Recorded _). SameWaiting start s.log z.log) ok c.in_ok-lost.ensures.waiting in
     fits_view g.P.Plan.start ok
     (fits_lost c.self.invariant n old c.remove.new.self (name_view n c.self.view_is c.requires) (c.in_ok-lost.ensures.lost.0 (cc)) c.index_mut-buffer.ensures.value c.remove.ensures.run
-    (subst (λ (z : ℕ). Puts None old.flying c.remove.new.self.flying n.copy z None) (place_view n c.place-place.result c.self.view_is c.place-place.ensures) c.remove.ensures.flying)
+    (subst (λ (z : ℕ). Puts None old.flying c.remove.new.self.flying n.round z None) (place_view n c.place-place.result c.self.view_is c.place-place.ensures) c.remove.ensures.flying)
     c.remove.ensures.waiting mark marks waits)

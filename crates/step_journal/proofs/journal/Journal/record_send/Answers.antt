@@ -1,8 +1,10 @@
 use Rattle.std.proofs.Common.{◌<◌, sym, subst, ap, ◌∙◌}
+use Rattle.round_meaning.specs.Rounds.{algorithm_of}
 use Rattle.step_machine.specs.declared.event.Name.{Name}
 use Rattle.step_book.specs.Log.{Recorded, SameMarksBut, SameWaiting, mark_in}
 use Rattle.step_journal.proofs.BufferViews.{fit_view, fits_hushed, fits_kept, fits_sent, fits_view}
-use Rattle.step_journal.proofs.BufferViews.{name_view, place_view, work_view}
+use Rattle.step_journal.proofs.BufferViews.{name_view, place_view, prepared_spells}
+use Rattle.step_journal.proofs.BufferViews.{run_spells_kept, work_view}
 use Rattle.step_journal.proofs.journal.Journal.record_send.Goals as goal
 
 pub invariant_of-self-in-Some : goal.invariant_of-self-in-Some
@@ -17,7 +19,7 @@ invariant_of-self-in-Some g c =
     let name = name_view p.name c.self.view_is c.requires.name in
     fits_view g.P.Plan.start ok
     (fits_sent c.self.invariant p c.name-name.result c.into_sealed.result c.in-Some.frame c.place-place.result c.index_mut-buffer.result.now c.reserve_flying.new.self c.index_mut-buffer-in-Some.result.now c.put.new.self
-    c.name-name.ensures.value c.name-name.ensures.original name (work_view p c.self.view_is c.requires.work) (fit_view g.P.Plan.start p c.self.view_is c.requires.fit) c.in-Ok-record_send.ensures.round
+    c.name-name.ensures.value name (work_view p c.self.view_is c.requires.work) (fit_view g.P.Plan.start p c.self.view_is c.requires.fit) c.in-Ok-record_send.ensures.round
     (place_view c.name-name.result c.place-place.result c.self.view_is c.place-place.ensures)
     c.index_mut-buffer.ensures.value c.reserve_flying.ensures.run c.in-Ok.ensures.flying c.in-Ok.ensures.waiting c.into_sealed.ensures c.in-Some.is
     c.index_mut-buffer-in-Some.ensures.value c.put.ensures.run c.put.ensures.flying c.put.ensures.waiting mark marks waits)
@@ -58,3 +60,13 @@ returns-in-Some-clause-marks g c =
 pub returns-in-None-clause-marks : goal.returns-in-None-clause-marks
 returns-in-None-clause-marks g c =
     subst (λ (z : Recorded _). SameMarksBut (g.P.Plan.start z.plan) c.args.prepared.name z.log c.record_send.new.self.log) c.self.view_is c.in-Ok-record_send.ensures.marks
+
+pub put-requires-clause-spelt : goal.put-requires-clause-spelt
+put-requires-clause-spelt g c =
+    let s = c.self.inside.book in
+    let p = c.args.prepared in
+    let a = name_view p.name c.self.view_is c.requires.name in
+    let to = subst (λ (n : Name). n.to < s.log.setup.nodes) (sym c.name-name.ensures.value) a.to in
+    run_spells_kept c.self.invariant c.name-name.result.to c.index_mut-buffer.result.now c.reserve_flying.new.self c.index_mut-buffer-in-Some.result.now c.in-Some.frame
+    to c.index_mut-buffer.ensures.value c.reserve_flying.ensures.run c.index_mut-buffer-in-Some.ensures.value
+    (prepared_spells (algorithm_of s.log.program s.log.setup) p c.into_sealed.result c.in-Some.frame (work_view p c.self.view_is c.requires.work) c.into_sealed.ensures c.in-Some.is)

@@ -1,8 +1,7 @@
 use Rattle.std.proofs.Common.{◌≡◌, ◌+◌, [], length, get_or, ap, refl, ◌∙◌, arith, sym, subst}
 use Rattle.std.proofs.lemmas.List.{get_or_read_under}
-use Rattle.step_code.specs.Turns.{IsOfState}
 use Rattle.step_machine.specs.Nodes.{AreHeld}
-use Rattle.step_machine.specs.NodeInside.{node_seen}
+use Rattle.step_machine.specs.NodeInside.{IsOwnState, node_seen}
 use Rattle.step_machine.specs.Nodes.{algorithm_in}
 use Rattle.step_machine.proofs.HeldFrames.{turned_held}
 use Rattle.step_machine.proofs.node.Node.settle.Goals as goal
@@ -16,10 +15,12 @@ invariant_of-self c =
     record {
       setup = c.self.invariant.setup;
       me = c.self.invariant.me;
-      state = subst (IsOfState s.machine) (sym c.swap.ensures.x_after) c.self.invariant.next;
-      next = subst (IsOfState s.machine) (sym c.swap.ensures.y_after) c.self.invariant.state;
+      begun = omega arith;
+      layout = c.self.invariant.layout;
+      state = subst (IsOwnState s.machine s.setup) (sym c.swap.ensures.x_after) c.self.invariant.next;
+      next = subst (IsOwnState s.machine s.setup) (sym c.swap.ensures.y_after) c.self.invariant.state;
       held = subst (AreHeld (algorithm_in (node_seen s)) s.setup.nodes s.me (s.round + 1)) (sym c.rotate_left.ensures.items)
           (turned_held (algorithm_in (node_seen s)) s.setup.nodes s.me s.round (s.round + 1) s.held.items c.clear.new.self refl same c.clear.ensures.frames was);
-      shared = λ m is. absurd cc;
+      origin = λ m is. absurd cc;
       spoken = λ m is. absurd cc;
     }

@@ -1,0 +1,91 @@
+-- Events that a run hasn't, and the parts of a list of events.
+use Rattle.std.proofs.Common.{◌≡◌, ℕ, ◌<◌, All, List, [], ◌∷◌, ◌++◌, length, get_or, arith, refl}
+use Rattle.std.proofs.Common.{ap, append-nil, sym, subst, ◌∙◌}
+use Rattle.std.proofs.Math.Seq.{get_or-append_seam}
+use Rattle.std.proofs.lemmas.List.{get_or_append_left, get_or_default, length-append}
+use Rattle.round_meaning.specs.declared.setup.Setup.{Setup}
+use Rattle.round_meaning.specs.Setups.{IsSetup}
+use Rattle.step_book.specs.Names.{IsName}
+use Rattle.step_machine.specs.declared.event.Event.{Event}
+use Rattle.step_machine.specs.declared.event.Event.TheVariants.{Step, Release, Drop, Copy}
+use Rattle.step_machine.specs.declared.event.Name.{Name}
+use Rattle.stored_events.specs.Stored.{AreLate, IsFew, IsFewName}
+use Rattle.adversary.specs.Driving.{IsFaultOf, IsFirstAt, IsKnown, IsOfMessage, IsStep, IsUnknownAt}
+use Rattle.adversary.specs.declared.fault.RunFault.{RunFault}
+use Rattle.adversary.specs.declared.fault.RunFault.TheVariants as fault
+
+-- what is so of an event is so of what stands at its place
+stands : (P : Event → Type 0) (events : List Event) (k : ℕ) (e : Event) → k < length events → e ≡ get_or events k e → P e → (d : Event) → P (get_or events k d)
+stands P events k e within is h d = subst P (is ∙ get_or_default events k e d within) h
+
+-- the first event that isn't known has its fault
+pub unknown_is : (s : Setup) (events : List Event) (k : ℕ) (e : Event) (f : RunFault) → k < length events → e ≡ get_or events k e → ¬ IsKnown s e
+    → ((j : ℕ) (d : Event) → j < k → IsKnown s (get_or events j d)) → IsFaultOf e k f → IsUnknownAt s events f
+unknown_is s events k (Step i) f within is strange before cause =
+    subst (IsUnknownAt s events) (sym cause)
+    ((within, stands (λ e. ¬ IsKnown s e) events k (Step i) within is strange, before), stands IsStep events k (Step i) within is tt)
+unknown_is s events k (Release n) f within is strange before cause =
+    subst (IsUnknownAt s events) (sym cause)
+    ((within, stands (λ e. ¬ IsKnown s e) events k (Release n) within is strange, before), stands IsOfMessage events k (Release n) within is tt)
+unknown_is s events k (Drop n) f within is strange before cause =
+    subst (IsUnknownAt s events) (sym cause)
+    ((within, stands (λ e. ¬ IsKnown s e) events k (Drop n) within is strange, before), stands IsOfMessage events k (Drop n) within is tt)
+unknown_is s events k (Copy n) f within is strange before cause =
+    subst (IsUnknownAt s events) (sym cause)
+    ((within, stands (λ e. ¬ IsKnown s e) events k (Copy n) within is strange, before), stands IsOfMessage events k (Copy n) within is tt)
+
+-- the numbers of a known event are few
+few_name : (s : Setup) → IsSetup s → (n : Name) → IsName s n → IsFewName n
+few_name s h n a = record {
+  from = let few = h.few_nodes in let from = a.from in omega arith;
+  to = let few = h.few_nodes in let to = a.to in omega arith;
+  round = let few = h.few_rounds in let last = a.last in omega arith;
+  copy = let copy = a.copy in omega arith;
+}
+
+few_event : (s : Setup) → IsSetup s → (e : Event) → IsKnown s e → IsFew e
+few_event s h (Step i) known = let few = h.few_nodes in omega (arith, known)
+few_event s h (Release n) known = few_name s h n known
+few_event s h (Drop n) known = few_name s h n known
+few_event s h (Copy n) known = few_name s h n known.0
+
+-- so known events aren't followed by one whose numbers are too large
+pub none_late : (s : Setup) (few whole : List Event) → IsSetup s → AreLate whole → All (IsKnown s) (few ++ whole) → whole ≡ []
+none_late s few [] h late known = refl
+none_late s few (e ∷ es) h late known =
+    absurd (late (few_event s h e (subst (IsKnown s) (get_or-append_seam few e es e) (known (length few) e (omega (arith, length-append few (e ∷ es)))))))
+
+pub all_few : (s : Setup) (few whole : List Event) → IsSetup s → AreLate whole → All (IsKnown s) (few ++ whole) → few ++ whole ≡ few
+all_few s few whole h late known = ap (λ es. few ++ es) (none_late s few whole h late known) ∙ append-nil few
+
+-- the first unknown event of the first part is that of the whole
+first_left : (s : Setup) (few whole : List Event) (k : ℕ) → IsFirstAt s few k → IsFirstAt s (few ++ whole) k
+first_left s few whole k h = (
+  omega (arith, h.0, length-append few whole),
+  λ d known. h.1 d (subst (IsKnown s) (get_or_append_left few whole d k h.0) known),
+  λ j d l. subst (IsKnown s) (sym (get_or_append_left few whole d j (omega (arith, l, h.0)))) (h.2 j d l),
+)
+
+pub unknown_left : (s : Setup) (few whole : List Event) (f : RunFault) → IsUnknownAt s few f → IsUnknownAt s (few ++ whole) f
+unknown_left s few whole (fault.UnknownNode k) h =
+    (first_left s few whole k h.0, λ d. subst IsStep (sym (get_or_append_left few whole d k h.0.0)) (h.1 d))
+unknown_left s few whole (fault.UnknownMessage k) h =
+    (first_left s few whole k h.0, λ d. subst IsOfMessage (sym (get_or_append_left few whole d k h.0.0)) (h.1 d))
+unknown_left s few whole fault.BadSetup h = absurd h
+unknown_left s few whole fault.NoMemory h = absurd h
+unknown_left s few whole fault.NoThread h = absurd h
+unknown_left s few whole fault.Unmatched h = absurd h
+
+-- and where that has none, an event whose numbers are too large is unknown
+pub unknown_late : (s : Setup) (few whole : List Event) (e : Event) (f : RunFault) → IsSetup s → AreLate whole → 0 < length whole → e ≡ get_or whole 0 e
+    → All (IsKnown s) few → IsFaultOf e (length few) f → IsUnknownAt s (few ++ whole) f
+unknown_late s few [] e f h late some is known cause = absurd (omega (arith, some))
+unknown_late s few (x ∷ es) e f h late some is known cause =
+    unknown_is s (few ++ x ∷ es) (length few) e f (omega (arith, length-append few (x ∷ es)))
+    (is ∙ sym (get_or-append_seam few x es e)) (λ known. late (subst IsFew is (few_event s h e known)))
+    (λ j d l. subst (IsKnown s) (sym (get_or_append_left few (x ∷ es) d j l)) (known j d l)) cause
+
+-- and there is none at all
+pub known_whole : (s : Setup) (few whole : List Event) → length whole ≡ 0 → All (IsKnown s) few → All (IsKnown s) (few ++ whole)
+known_whole s few [] none known = λ k d l. subst (IsKnown s) (sym (get_or_append_left few [] d k (omega (arith, l, length-append few [])))) (known k d (omega (arith, l, length-append few [])))
+known_whole s few (e ∷ es) none known = absurd (omega (arith, none))

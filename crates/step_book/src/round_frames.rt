@@ -1,0 +1,106 @@
+//! The frames of one round in flight to a node.
+ghost use Rattle.std.specs.Prelude.{◌≡◌, ◌<◌, ◌↔◌, [], All, IsTrue, MatchOption, None, OnOk, Some};
+ghost use Rattle.std.specs.Prelude.{length, slice_index_or, vec_len};
+ghost use Rattle.step_book.specs.Tables.{PutsAt, SameTable};
+
+use round_lang::NoMemory;
+use std::alloc::Global;
+use std::marker::Model;
+use step_machine::Sealed;
+
+/// The frames of one round in flight to a node, by their places in a table that grows with the
+/// copies. Its memory is given back with its last frame.
+#[derive(Drop)]
+pub(crate) struct RoundFrames {
+    frames: Vec<Option<Sealed>>,
+    // A hint: before memory is given back, the places themselves are looked at.
+    count: u32,
+}
+
+impl Model for RoundFrames {
+    ghost use Rattle.std.specs.Prelude.{List, Option};
+    ghost use Rattle.step_machine.specs.Sealed.{Frame};
+
+    ghost Value = { List (Option Frame) };
+
+    ghost view = { λ r. r.frames.items };
+}
+
+impl RoundFrames {
+    /// No frames; takes no memory.
+    pub(crate) fn new(alloc: Global) -> RoundFrames
+        ensures { result ≡ [] }
+    {
+        RoundFrames {
+            frames: Vec::new(alloc),
+            count: 0,
+        }
+    }
+
+    /// The frame at a place.
+    pub(crate) fn at(&self, place: usize) -> Option<&Sealed>
+        ensures { MatchOption result (slice_index_or self.now place None ≡ None)
+            (λ frame. slice_index_or self.now place None ≡ Some frame.now) }
+    {
+        match self.frames.get(place) {
+            Some(frame) => frame.as_ref(),
+            None => None,
+        }
+    }
+
+    /// Makes room for a frame at a place; the first time, for one of each node.
+    #[inline(always)]
+    pub(crate) fn reserve(&mut self, nodes: usize, place: usize) -> Result<(), NoMemory>
+        ensures room { OnOk result (place < length self.new) }
+        ensures same { SameTable None self.old self.new }
+    {
+        if self.frames.is_empty() {
+            self.frames.reserve(nodes)?;
+        }
+        grow(&mut self.frames, place)
+    }
+
+    /// Puts a frame at a place.
+    #[inline(always)]
+    pub(crate) fn put(&mut self, place: usize, frame: Sealed)
+        requires { place < length self.old }
+        ensures { PutsAt None self.old self.new place (Some frame) }
+    {
+        self.frames[place] = Some(frame);
+        self.count = self.count.saturating_add(1);
+    }
+
+    /// Takes the frame at a place away.
+    #[inline(always)]
+    pub(crate) fn take(&mut self, alloc: Global, place: usize) -> Option<Sealed>
+        requires { place < length self.old }
+        ensures taken { result ≡ slice_index_or self.old place None }
+        ensures rest { PutsAt None self.old self.new place None }
+    {
+        let frame = self.frames[place].take();
+        self.count = self.count.saturating_sub(1);
+        if self.count == 0 && are_none(&self.frames) {
+            self.frames = Vec::new(alloc);
+        }
+        frame
+    }
+}
+
+/// Makes a table longer than a place.
+#[inline(always)]
+fn grow(frames: &mut Vec<Option<Sealed>>, place: usize) -> Result<(), NoMemory>
+    ensures long { OnOk result (place < vec_len frames.new) }
+    ensures same { SameTable None frames.old.items frames.new.items }
+{
+    while frames.len() <= place {
+        frames.push(None)?;
+    }
+    Ok(())
+}
+
+/// Whether no place has a frame.
+fn are_none(frames: &[Option<Sealed>]) -> bool
+    ensures { IsTrue result ↔ All (λ frame. frame ≡ None) frames.now }
+{
+    frames.iter().all(|frame| frame.is_none())
+}

@@ -1,0 +1,70 @@
+-- Messages as the bytes of frames.
+use Rattle.std.specs.Prelude.{◌≡◌, ℕ, ⊤, List, Option, Some, None}
+use Rattle.std.specs.Option.{ForSome}
+use Rattle.round_lang.specs.declared.value.Value.{Value}
+use Rattle.frame_format.specs.declared.frame.Frame.{Frame as Written}
+use Rattle.frame_format.specs.declared.version.FrameVersion.TheVariants.{V2}
+use Rattle.frame_format.specs.Formats.{Format}
+use Rattle.frame_format.specs.Reading.{IsFrame, frame_at}
+use Rattle.frame_format.specs.Spelling.{Spells}
+use Rattle.frame_views.specs.Writing.{AreToAll}
+use Rattle.step_machine.specs.declared.event.Name.{Name}
+use Rattle.step_machine.specs.Sealed.{Frame}
+
+-- a message under its name, as it is written: in version 2
+abbrev pub written_as : Name → List Value → Written
+written_as n message = record {
+  from = n.from;
+  to = n.to;
+  round = n.round;
+  version = V2;
+  copy = n.copy;
+  message = message;
+}
+
+-- as the frame's bytes have it, which say nothing of the sender's state
+abbrev pub wire : Frame → Written
+wire f = written_as f.name f.message
+
+-- the bytes are those of the frame
+pub record IsSpelling (f : Frame) (bytes : List ℕ) : Type 0 where
+  pub layout : Format
+  pub spells : Spells layout bytes (wire f)
+
+-- the name that a frame's header says
+abbrev pub name_in : Written → Name
+name_in w = record { from = w.from; to = w.to; round = w.round; copy = w.copy }
+
+-- the message that bytes spell, under its name, with its sender's state
+abbrev pub frame_in : Format → List Value → List ℕ → Frame
+frame_in s state bytes = record {
+  name = name_in (frame_at s bytes);
+  state = state;
+  message = (frame_at s bytes).message;
+}
+
+-- the message alone
+abbrev pub message_at : Format → List ℕ → List Value
+message_at s bytes = (frame_at s bytes).message
+
+-- the bytes spell a frame of version 2
+pub record IsSealed (s : Format) (bytes : List ℕ) : Type 0 where
+  pub frame : IsFrame s bytes
+  pub second : (frame_at s bytes).version ≡ V2
+
+-- and the frame has this name
+pub record IsNamed (s : Format) (n : Name) (bytes : List ℕ) : Type 0 where
+  pub sealed : IsSealed s bytes
+  pub name_is : name_in (frame_at s bytes) ≡ n
+
+-- a frame that has this name, which is that of a copy 0, or silence
+pub record IsReady (s : Format) (n : Name) (frame : Option (List ℕ)) : Type 0 where
+  pub original : n.copy ≡ 0
+  pub named : ForSome frame (IsNamed s n)
+
+-- what a node says to all in a round: the frames of a message, one behind the other, or silence
+abbrev pub AreSpoken : Format → ℕ → ℕ → Option (List Value) → Option (List ℕ) → Type 0
+AreSpoken s from round None None = ⊤
+AreSpoken s from round (Some message) (Some bytes) = AreToAll s from round message 0 bytes
+AreSpoken s from round None (Some bytes) = ⊥
+AreSpoken s from round (Some message) None = ⊥

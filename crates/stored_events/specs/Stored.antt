@@ -1,0 +1,33 @@
+-- Events and names in few bytes.
+use Rattle.std.specs.Prelude.{ℕ, ◌<◌, List, [], ◌∷◌}
+use Rattle.step_machine.specs.declared.event.Event.{Event}
+use Rattle.step_machine.specs.declared.event.Event.TheVariants as event
+use Rattle.step_machine.specs.declared.event.Name.{Name}
+use Rattle.stored_events.specs.declared.event.Kind.{Kind}
+use Rattle.stored_events.specs.declared.event.Kind.TheVariants as kind
+
+-- the event of a kind: a step of the node that the name begins with, or one that names a message
+abbrev pub event_of : Kind → Name → Event
+event_of kind.Step n = event.Step n.from
+event_of kind.Release n = event.Release n
+event_of kind.Drop n = event.Drop n
+event_of kind.Copy n = event.Copy n
+
+-- the numbers of the name are few enough to be stored
+pub record IsFewName (n : Name) : Type 0 where
+  pub from : n.from < 256
+  pub to : n.to < 256
+  pub round : n.round < 65536
+  pub copy : n.copy < 256
+
+-- and so are those of the event
+abbrev pub IsFew : Event → Type 0
+IsFew (event.Step i) = i < 256
+IsFew (event.Release n) = IsFewName n
+IsFew (event.Drop n) = IsFewName n
+IsFew (event.Copy n) = IsFewName n
+
+-- if there are events, the first has too large numbers
+abbrev pub AreLate : List Event → Type 0
+AreLate [] = Unit {0}
+AreLate (e ∷ es) = ¬ IsFew e

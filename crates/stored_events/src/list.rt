@@ -1,0 +1,103 @@
+//! Lists of events in few bytes.
+ghost use Rattle.std.specs.Prelude.{◌≡◌, ◌++◌, ◌∷◌, [], IfOk, IsTrue, OnErr, OnOk, false};
+ghost use Rattle.stored_events.specs.Stored.{AreLate, IsFew, IsFewName};
+
+use crate::event::{StoredEvent, events_of};
+use round_lang::NoMemory;
+use std::alloc::Global;
+use std::marker::Model;
+use step_machine::{Event, Name};
+
+/// Events of any numbers: in 6 bytes each up to the first whose numbers are too large for that, and
+/// whole from there on.
+#[derive(Drop)]
+pub struct Events {
+    few: Vec<StoredEvent>,
+    whole: Vec<Event>,
+}
+
+impl Model for Events {
+    ghost use Rattle.std.specs.Prelude.{◌++◌, List};
+    ghost use Rattle.step_machine.specs.declared.event.Event.{Event};
+    ghost use Rattle.stored_events.specs.Stored.{AreLate};
+
+    ghost Value = { List Event };
+
+    ghost view = { λ s. s.few.items ++ s.whole.items };
+
+    ghost invariant = { λ s. AreLate s.whole.items };
+}
+
+impl Events {
+    /// No events, with room for so many.
+    pub fn new(alloc: Global, room: usize) -> Result<Events, NoMemory>
+        ensures { IfOk result (λ events. events ≡ []) }
+    {
+        Ok(Events {
+            few: Vec::with_capacity(alloc, room)?,
+            whole: Vec::new(alloc),
+        })
+    }
+
+    /// Adds an event.
+    #[inline(always)]
+    pub fn push(&mut self, event: Event) -> Result<(), NoMemory>
+        ensures ok { OnOk result (self.new ≡ self.old ++ event ∷ []) }
+        ensures err { OnErr result (self.new ≡ self.old) }
+    {
+        if self.whole.is_empty() && is_few(event) {
+            self.few.reserve(1)?;
+            self.few.push_reserved(StoredEvent::new(event));
+        } else {
+            self.whole.push(event)?;
+        }
+        Ok(())
+    }
+
+    /// The events up to the first whose numbers are too large, and those from it on.
+    pub fn parts(&self) -> (&[StoredEvent], &[Event])
+        ensures all { self.now ≡ result.0.now ++ result.1.now }
+        ensures late { AreLate result.1.now }
+    {
+        (&self.few, &self.whole)
+    }
+
+    /// The same, taken apart.
+    pub fn into_parts(self) -> (Vec<StoredEvent>, Vec<Event>)
+        ensures all { self ≡ result.0.items ++ result.1.items }
+        ensures late { AreLate result.1.items }
+    {
+        let Events { few, whole } = self;
+        (few, whole)
+    }
+
+    /// The events as they are elsewhere.
+    pub fn to_vec(&self, alloc: Global) -> Result<Vec<Event>, NoMemory>
+        ensures { IfOk result (λ events. events.items ≡ self.now) }
+    {
+        let mut events = events_of(alloc, &self.few)?;
+        events.extend_from_slice(&self.whole)?;
+        Ok(events)
+    }
+}
+
+/// Whether an event can be stored in 6 bytes.
+#[inline(always)]
+fn is_few(event: Event) -> bool
+    ensures few { IsTrue result → IsFew event }
+    ensures all { result ≡ false → ¬ IsFew event }
+{
+    match event {
+        Event::Step(node) => node < 256,
+        Event::Release(name) | Event::Drop(name) | Event::Copy(name) => is_few_name(name),
+    }
+}
+
+/// Whether a name can.
+#[inline(always)]
+fn is_few_name(name: Name) -> bool
+    ensures few { IsTrue result → IsFewName name }
+    ensures all { result ≡ false → ¬ IsFewName name }
+{
+    name.from < 256 && name.to < 256 && name.round < 65536 && name.copy < 256
+}
