@@ -1,4 +1,4 @@
-//! Writers that take nothing, or can't hand on what they took.
+//! Writers that take nothing, fail once, or can't hand on what they took.
 use std::io;
 use std::io::Write;
 
@@ -27,5 +27,35 @@ impl Write for Stuck {
 
     fn flush(&mut self) -> io::Result<()> {
         Err(io::Error::from_raw_os_error(5))
+    }
+}
+
+/// A writer that takes so many bytes, then fails once, and takes all after that. Whoever writes on
+/// after a failure is seen by what it took.
+#[derive(Drop)]
+pub struct Once {
+    pub room: usize,
+    pub has_failed: bool,
+    pub taken: Vec<u8>,
+}
+
+impl Write for Once {
+    fn write(&mut self, bytes: &[u8]) -> io::Result<usize> {
+        if self.room == 0 && !self.has_failed {
+            self.has_failed = true;
+            return Err(io::Error::from_raw_os_error(28));
+        }
+        let count = if self.has_failed {
+            bytes.len()
+        } else {
+            bytes.len().min(self.room)
+        };
+        self.taken.extend_from_slice(&bytes[..count])?;
+        self.room = self.room.saturating_sub(count);
+        Ok(count)
+    }
+
+    fn flush(&mut self) -> io::Result<()> {
+        Ok(())
     }
 }

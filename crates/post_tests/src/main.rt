@@ -7,7 +7,8 @@
 //!
 //! SOURCE is the file of a program, or `gather:K` for K values. With `row`, standard input is a
 //! schedule: its events are recorded by a journal and by a post, and standard output has what each
-//! event was answered, whether both answered the same, and the report of the post's journal.
+//! event was answered, whether both answered the same, and the report of the post's journal. A call
+//! of the post that is refused for memory must have changed nothing, and is made again.
 //!
 //! With `alone`, the nodes of a schedule without events run one after another over calls that
 //! release each message as soon as it was sent. Standard output has how each node ended, and the

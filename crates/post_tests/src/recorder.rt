@@ -125,7 +125,9 @@ impl<P: Plan> Recorder for Journal<P> {
     }
 }
 
-/// A post, with the seats and the relay that its calls are made with.
+/// A post, with the seats and the relay that its calls are made with. A call that is refused for
+/// memory is made once more, with the work that came back; where it's refused again, the answer is
+/// that of a stranger, which no journal gives.
 #[derive(Drop)]
 pub struct Counter<'a, R: Wait, P: Plan> {
     pub rt: &'a R,
@@ -145,45 +147,83 @@ impl<'a, R: Wait, P: Plan> Recorder for Counter<'a, R, P> {
 
     fn send(&mut self, me: u32, prepared: Prepared) -> Result<(), SendFault> {
         match self.seats.get_mut(me as usize) {
-            Some(seat) if seat.node() == me => self
-                .post
-                .send(self.rt, seat, prepared, &OpenGate)
-                .map_err(|refused| refused.fault),
+            Some(seat) if seat.node() == me => {
+                let Err(refused) = self.post.send(self.rt, seat, prepared, &OpenGate) else {
+                    return Ok(());
+                };
+                if refused.fault != SendFault::NoMemory {
+                    return Err(refused.fault);
+                }
+                self.post
+                    .send(self.rt, seat, refused.prepared, &OpenGate)
+                    .map_err(|_| SendFault::Stranger)
+            }
             _ => Err(SendFault::Stranger),
         }
     }
 
     fn receive(&mut self, me: u32) -> Result<Vec<Sealed>, PostFault> {
         match self.seats.get_mut(me as usize) {
-            Some(seat) if seat.node() == me => {
-                let took = self.post.receive(self.rt, seat)?;
-                Ok(took.frames)
-            }
+            Some(seat) if seat.node() == me => match self.post.receive(self.rt, seat) {
+                Ok(took) => Ok(took.frames),
+                Err(PostFault::NoMemory) => match self.post.receive(self.rt, seat) {
+                    Ok(took) => Ok(took.frames),
+                    Err(_) => Err(PostFault::Stranger),
+                },
+                Err(fault) => Err(fault),
+            },
             _ => Err(PostFault::Stranger),
         }
     }
 
     fn close(&mut self, me: u32, finished: &Finished<'_>) -> Result<(), CloseFault> {
         match self.seats.get_mut(me as usize) {
-            Some(seat) if seat.node() == me => self.post.close(self.rt, seat, finished),
+            Some(seat) if seat.node() == me => match self.post.close(self.rt, seat, finished) {
+                Err(CloseFault::NoMemory) => self
+                    .post
+                    .close(self.rt, seat, finished)
+                    .map_err(|_| CloseFault::Stranger),
+                closed => closed,
+            },
             _ => Err(CloseFault::Stranger),
         }
     }
 
     fn release(&mut self, name: Name) -> Result<bool, RelayFault> {
-        self.post.release(self.rt, &mut self.relay, name)
+        match self.post.release(self.rt, &mut self.relay, name) {
+            Err(RelayFault::NoMemory) => self
+                .post
+                .release(self.rt, &mut self.relay, name)
+                .map_err(|_| RelayFault::Stranger),
+            moved => moved,
+        }
     }
 
     fn lose(&mut self, name: Name) -> Result<bool, RelayFault> {
-        self.post.drop_frame(self.rt, &mut self.relay, name)
+        match self.post.drop_frame(self.rt, &mut self.relay, name) {
+            Err(RelayFault::NoMemory) => self
+                .post
+                .drop_frame(self.rt, &mut self.relay, name)
+                .map_err(|_| RelayFault::Stranger),
+            lost => lost,
+        }
     }
 
     fn copy(&mut self, name: Name) -> Result<bool, RelayFault> {
-        self.post.copy_frame(self.rt, &mut self.relay, name)
+        match self.post.copy_frame(self.rt, &mut self.relay, name) {
+            Err(RelayFault::NoMemory) => self
+                .post
+                .copy_frame(self.rt, &mut self.relay, name)
+                .map_err(|_| RelayFault::Stranger),
+            made => made,
+        }
     }
 
     fn flight(&self, alloc: Global) -> Result<(Vec<InFlight>, usize), NoMemory> {
         let _alloc = alloc;
-        self.post.flight(self.rt)
+        match self.post.flight(self.rt) {
+            Err(NoMemory) => self.post.flight(self.rt),
+            flight => flight,
+        }
     }
 }

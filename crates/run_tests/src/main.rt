@@ -7,12 +7,14 @@
 //! run_tests journal SOURCE INPUTS ROUNDS [DELTA]
 //! run_tests schedule | threads | header
 //! run_tests report | writers NAME
+//! run_tests writers run SOURCE
 //! run_tests lists
 //! ```
 //!
 //! SOURCE is the file of a program, or `gather:K` or `gather_from_ones:K` for K values; INPUTS has
 //! commas. But for a schedule, a thread setup and a header, which are read whole, each line of
-//! standard input is an act, and a line of standard output its answer.
+//! standard input is an act, and a line of standard output its answer. With `writers run` standard
+//! input is the schedule of the run whose report is written.
 #![tactic(auto)]
 
 mod fault;
@@ -74,6 +76,13 @@ fn ask_journal(
     journal::ask(alloc, text.as_str(), words, input, out)
 }
 
+/// Gives the report of a run to writers that fail.
+fn try_writers(rt: &HostRuntime, name: &str, input: &str, out: &mut String) -> Result<(), Fault> {
+    let alloc = rt.alloc();
+    let text = source(rt, alloc, name)?;
+    writers::try_run(alloc, text.as_str(), input, out)
+}
+
 /// Answers what needs standard input.
 fn answer_input(rt: &HostRuntime, words: &[&str], out: &mut String) -> Result<(), Fault> {
     let alloc = rt.alloc();
@@ -87,6 +96,7 @@ fn answer_input(rt: &HostRuntime, words: &[&str], out: &mut String) -> Result<()
         ["threads"] => schedules::tell_threads(alloc, input, out),
         ["header"] => schedules::tell_header(alloc, input, out),
         ["journal", words @ ..] => ask_journal(rt, words, input, out),
+        ["writers", "run", name] => try_writers(rt, name, input, out),
         _ => Err(Fault::Unreadable),
     }
 }
@@ -95,7 +105,7 @@ fn answer_input(rt: &HostRuntime, words: &[&str], out: &mut String) -> Result<()
 fn answer(rt: &HostRuntime, words: &[&str], out: &mut String) -> Result<(), Fault> {
     match words {
         ["report", name] => reports::print(rt.alloc(), name, out),
-        ["writers", name] => writers::try_all(rt.alloc(), name, out),
+        ["writers", name] => writers::try_named(rt.alloc(), name, out),
         ["lists"] => writers::list(rt.alloc(), out),
         _ => answer_input(rt, words, out),
     }

@@ -1,7 +1,14 @@
 //! Writers that fail, and lists.
 use crate::fault::Fault;
+use crate::reading::known;
 use crate::reports::{report, text_of};
-use omission_explainer::{Listed, Report, omissions_give_inbox, sets_part_nodes, write_report};
+use adversary::{read_schedule, run_schedule};
+use omission_explainer::{
+    Listed, Report, explain, omissions_give_inbox, sets_part_nodes, write_report,
+};
+use round_check::{Checked, check};
+use round_lang::parse;
+use slot_plans::PlanKind;
 use std::alloc::Global;
 use std::io;
 use std::io::Write;
@@ -45,17 +52,16 @@ fn fails_well(alloc: Global, report: &Report, text: &[u8], room: usize) -> Resul
 }
 
 /// Gives a report to a writer that fails after each number of its bytes, and to one that takes all.
-pub fn try_all(alloc: Global, name: &str, out: &mut String) -> Result<(), Fault> {
-    let report = report(alloc, name)?;
-    let text = text_of(alloc, &report)?;
+fn try_report(alloc: Global, report: &Report, out: &mut String) -> Result<(), Fault> {
+    let text = text_of(alloc, report)?;
     let length = text.len();
     for room in 0..length {
-        if !fails_well(alloc, &report, &text, room)? {
+        if !fails_well(alloc, report, &text, room)? {
             writeln!(out, "WRONG AFTER {room}")?;
             return Ok(());
         }
     }
-    if !fails_well(alloc, &report, &text, length)? {
+    if !fails_well(alloc, report, &text, length)? {
         out.push_str("WRONG WHERE ALL IS TAKEN\n")?;
         return Ok(());
     }
@@ -64,6 +70,29 @@ pub fn try_all(alloc: Global, name: &str, out: &mut String) -> Result<(), Fault>
         "each of {length} writers that fail early took what it could, and its fault came back"
     )?;
     Ok(())
+}
+
+/// Does so with the report of this name.
+pub fn try_named(alloc: Global, name: &str, out: &mut String) -> Result<(), Fault> {
+    try_report(alloc, &report(alloc, name)?, out)
+}
+
+/// The report of the run that a schedule's text says, with a known bound.
+fn report_of(alloc: Global, program: &Checked, text: &str) -> Result<Report, Fault> {
+    let schedule = read_schedule(alloc, text)?;
+    let PlanKind::Known(delta) = schedule.plan else {
+        return Err(Fault::Unreadable);
+    };
+    let plan = known(schedule.setup.nodes, delta)?;
+    let events = schedule.events.to_vec(alloc)?;
+    let journal = run_schedule(alloc, program, &schedule.setup, plan, &events)?;
+    Ok(explain(alloc, &journal)?)
+}
+
+/// Does so with the report of a run.
+pub fn try_run(alloc: Global, source: &str, text: &str, out: &mut String) -> Result<(), Fault> {
+    let program = check(alloc, parse(alloc, source)?)?;
+    try_report(alloc, &report_of(alloc, &program, text)?, out)
 }
 
 /// A list as it is seen, and the items that it gives back.
