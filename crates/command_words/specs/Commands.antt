@@ -59,12 +59,13 @@ lockstep_app =
     with_rule (with_rule (with_rule required_lockstep_app (optional_rule (codes "delays")))
     (optional_rule (codes "orders"))) (optional_rule (codes "ticks"))
 
--- the command line with no command in it yet
+-- the command line with no command in it yet; its version is that of each command
 abbrev pub bare_app : App
 bare_app = let new = new_app (codes "roundc") in record new {
   top = record new.top {
     no_binary_name = true;
     subcommand_required = true;
+    propagate_version = true;
     has_version = true;
   };
 }

@@ -221,6 +221,7 @@ fn bare_command<'a>(alloc: Global) -> Result<Command<'a>, AllocError>
         Command::new(alloc, "roundc")
             .bin_name("roundc")?
             .version("0.1.0")
+            .propagate_version(true)
             .about("Runs algorithms written in rounds, step by step")
             .no_binary_name(true)
             .subcommand_required(true),

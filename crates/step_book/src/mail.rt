@@ -74,8 +74,7 @@ impl Mail {
         ensures waiting { OnOk result (self.new.waiting ≡ self.old.waiting ++ name ∷ []) }
         ensures err { OnErr result (self.new ≡ self.old) }
     {
-        self.names.reserve(1)?;
-        self.names.push_reserved(StoredName::new(name));
+        self.names.push(StoredName::new(name))?;
         Ok(())
     }
 

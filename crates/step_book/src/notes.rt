@@ -33,8 +33,8 @@ pub(crate) fn note_step(
     ensures trace_kept { OnErr result (trace.new.items ≡ trace.old.items) }
     ensures steps_kept { OnErr result (steps.new.items ≡ steps.old.items) }
 {
-    let step = StoredEvent::new(Event::Step(node));
     trace.reserve(1)?;
+    let step = StoredEvent::new(Event::Step(node));
     trace.push_reserved(step);
     steps[node as usize] += 1;
     Ok(())
