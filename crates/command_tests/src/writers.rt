@@ -45,11 +45,12 @@ impl Write for Once {
             self.has_failed = true;
             return Err(io::Error::from_raw_os_error(28));
         }
-        let count = if self.has_failed {
-            bytes.len()
+        let room = if self.has_failed {
+            usize::MAX
         } else {
-            bytes.len().min(self.room)
+            self.room
         };
+        let count = bytes.len().min(room);
         self.taken.extend_from_slice(&bytes[..count])?;
         self.room = self.room.saturating_sub(count);
         Ok(count)
