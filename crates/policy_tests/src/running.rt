@@ -28,6 +28,38 @@ fn nodes(alloc: Global, text: &str) -> Result<NodeSet, Fault> {
     Ok(set)
 }
 
+/// The setup of a run without faults.
+fn setup(alloc: Global, inputs: &str, rounds: &str) -> Result<Setup, Fault> {
+    let inputs = comma_numbers(alloc, inputs)?;
+    Ok(Setup {
+        nodes: inputs.len().min(16) as u32,
+        faults: 0,
+        inputs: Inputs::new(inputs),
+        rounds: number(rounds)?,
+    })
+}
+
+/// The schedule of a run under a known bound.
+fn trace(
+    alloc: Global,
+    program: &Checked,
+    setup: &Setup,
+    receives: u32,
+    correct: NodeSet,
+    policy: &mut Chosen,
+    ticks: u32,
+) -> Result<String, Fault> {
+    let plan = Known::new(setup.nodes, receives).ok_or(Fault::Unreadable)?;
+    match run_policy(alloc, program, setup, plan, correct, policy, ticks) {
+        Ok(journal) => {
+            let events = journal.book().trace();
+            Ok(write_trace(alloc, setup, PlanKind::Known(receives), events)?)
+        }
+        Err(RunFault::NoMemory) => Err(Fault::NoMemory),
+        Err(_) => Ok(String::from_str(alloc, "refused\n")?),
+    }
+}
+
 /// The schedule of the run that the words ask for.
 pub fn schedule(alloc: Global, words: &[String]) -> Result<String, Fault> {
     let [
@@ -43,24 +75,18 @@ pub fn schedule(alloc: Global, words: &[String]) -> Result<String, Fault> {
         return Err(Fault::Unreadable);
     };
     let program = gather(alloc, values.as_str())?;
-    let inputs = comma_numbers(alloc, inputs.as_str())?;
-    let setup = Setup {
-        nodes: inputs.len().min(16) as u32,
-        faults: 0,
-        inputs: Inputs::new(inputs),
-        rounds: number(rounds.as_str())?,
-    };
+    let setup = setup(alloc, inputs.as_str(), rounds.as_str())?;
     let receives = number(receives.as_str())?;
-    let plan = Known::new(setup.nodes, receives).ok_or(Fault::Unreadable)?;
     let correct = nodes(alloc, correct.as_str())?;
     let ticks = number(ticks.as_str())?;
     let mut policy = Chosen::read(alloc, policy)?;
-    match run_policy(alloc, &program, &setup, plan, correct, &mut policy, ticks) {
-        Ok(journal) => {
-            let events = journal.book().trace();
-            Ok(write_trace(alloc, &setup, PlanKind::Known(receives), events)?)
-        }
-        Err(RunFault::NoMemory) => Err(Fault::NoMemory),
-        Err(_) => Ok(String::from_str(alloc, "refused\n")?),
-    }
+    trace(
+        alloc,
+        &program,
+        &setup,
+        receives,
+        correct,
+        &mut policy,
+        ticks,
+    )
 }

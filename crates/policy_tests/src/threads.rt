@@ -88,28 +88,59 @@ impl<'a> Asked<'a> {
             policy,
             gate,
         );
-        let (journal, ends) = match run {
-            Ok(run) => run,
-            Err(fault) => return Ok(String::from_str(alloc, number_of(fault))?),
-        };
+        match run {
+            Ok((journal, ends)) => self.told(alloc, plan, &journal, &ends),
+            Err(fault) => Ok(String::from_str(alloc, number_of(fault))?),
+        }
+    }
+
+    /// The ends, the report, and what the trace comes to as a schedule.
+    fn told<P: Plan>(
+        &self,
+        alloc: Global,
+        plan: P,
+        journal: &Journal<P>,
+        ends: &[Ended],
+    ) -> Result<String, Fault>
+        requires { P.nodes plan ≡ self.now.setup.now.nodes }
+    {
         let mut out = String::new(alloc);
-        for end in &ends {
+        for end in ends {
             writeln!(out, "{}", ended(*end))?;
         }
-        let text = report(alloc, &journal)?;
+        let text = report(alloc, journal)?;
+        self.add_report(text.as_str(), &mut out)?;
+        out.push_str(self.run_again(alloc, plan, journal, text.as_str())?)?;
+        Ok(out)
+    }
+
+    /// Adds the lines of a report that are shown.
+    fn add_report(&self, text: &str, out: &mut String) -> Result<(), Fault> {
         for line in text.lines() {
             if self.shown == Shown::Whole || line.starts_with("node ") {
                 writeln!(out, "{line}")?;
             }
         }
+        Ok(())
+    }
+
+    /// Whether the trace, run as a schedule, has the same report.
+    fn run_again<P: Plan>(
+        &self,
+        alloc: Global,
+        plan: P,
+        journal: &Journal<P>,
+        text: &str,
+    ) -> Result<&'static str, Fault>
+        requires { P.nodes plan ≡ self.now.setup.now.nodes }
+    {
         let events = events_of(alloc, journal.book().trace())?;
         match run_schedule(alloc, self.program, self.setup, plan, &events) {
-            Ok(again) if report(alloc, &again)? == text => out.push_str("the same again\n")?,
-            Ok(_) => out.push_str("another report\n")?,
-            Err(RunFault::NoMemory) => return Err(Fault::NoMemory),
-            Err(_) => out.push_str("no schedule\n")?,
+            Ok(again) if report(alloc, &again)?.as_str() == text => Ok("the same again\n"),
+            Ok(_) => Ok("another report\n"),
+            Err(RunFault::NoMemory) => Err(Fault::NoMemory),
+            Err(_) => Ok("no schedule\n"),
         }
-        Ok(out)
     }
 }
 
