@@ -1,5 +1,5 @@
 -- Frames, and the bytes that spell them.
-use Rattle.std.proofs.Common.{◌≡◌, ℕ, ◌+◌, ◌*◌, ◌-◌, ◌<◌, ◌≤◌, List, Option, Some, None, length, arith, refl, ap, subst}
+use Rattle.std.proofs.Common.{◌≡◌, ℕ, ◌+◌, ◌*◌, ◌-◌, ◌<◌, ◌≤◌, List, Some, length, arith, refl, ap, subst}
 use Rattle.std.proofs.Common.{◌∙◌, sym}
 use Rattle.std.proofs.Math.Nat.{mul-le-mul_right}
 use Rattle.round_lang.specs.declared.value.Value.{Value}
@@ -14,7 +14,7 @@ use Rattle.frame_format.specs.Spelling.{Spells}
 use Rattle.frame_views.specs.Writing.{AreToAll, first_copy, frame_size, nth_frame}
 use Rattle.step_machine.specs.declared.event.Name.{Name}
 use Rattle.step_machine.specs.Sealed.{copied_as}
-use Rattle.step_machine.specs.Framing.{AreSpoken, IsNamed, IsSealed, frame_in, message_at, name_in}
+use Rattle.step_machine.specs.Framing.{IsNamed, IsSealed, frame_in, message_at, name_in}
 use Rattle.step_machine.specs.Framing.{wire, written_as}
 
 pub some_same : {X : Type 0} (a b : X) → Some a ≡ Some b → a ≡ b
@@ -78,13 +78,3 @@ within_all s from round to m bytes within h =
     let whole : s.nodes - 0 ≡ s.nodes = omega arith in
     let long : length bytes ≡ s.nodes * size = h.long ∙ ap (λ (x : ℕ). x * size) whole in
     omega (arith, e, most, long)
-
--- the same, spoken by equal names
-pub spoken_as : (s t : Format) (i j r q : ℕ) (m : Option (List Value)) (bytes : Option (List ℕ)) → s ≡ t → i ≡ j → r ≡ q → AreSpoken s i r m bytes → AreSpoken t j q m bytes
-spoken_as s t i j r q m bytes a b e h =
-    subst (λ x. AreSpoken t j x m bytes) e (subst (λ x. AreSpoken t x r m bytes) b (subst (λ x. AreSpoken x i r m bytes) a h))
-
--- what is spoken of a message, where there are bytes
-pub spoken_message : (s : Format) (from round : ℕ) (m : Option (List Value)) (bytes : List ℕ) → AreSpoken s from round m (Some bytes) → (x : List Value) × ((m ≡ Some x) × AreToAll s from round x 0 bytes)
-spoken_message s from round None bytes h = absurd h
-spoken_message s from round (Some x) bytes h = (x, (refl, h))

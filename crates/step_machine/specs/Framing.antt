@@ -1,13 +1,11 @@
 -- Messages as the bytes of frames.
-use Rattle.std.specs.Prelude.{◌≡◌, ℕ, ⊤, List, Option, Some, None}
-use Rattle.std.specs.Option.{ForSome}
+use Rattle.std.specs.Prelude.{◌≡◌, ℕ, List}
 use Rattle.round_lang.specs.declared.value.Value.{Value}
 use Rattle.frame_format.specs.declared.frame.Frame.{Frame as Written}
 use Rattle.frame_format.specs.declared.version.FrameVersion.TheVariants.{V2}
 use Rattle.frame_format.specs.Formats.{Format}
 use Rattle.frame_format.specs.Reading.{IsFrame, frame_at}
 use Rattle.frame_format.specs.Spelling.{Spells}
-use Rattle.frame_views.specs.Writing.{AreToAll}
 use Rattle.step_machine.specs.declared.event.Name.{Name}
 use Rattle.step_machine.specs.Sealed.{Frame}
 
@@ -56,15 +54,3 @@ pub record IsSealed (s : Format) (bytes : List ℕ) : Type 0 where
 pub record IsNamed (s : Format) (n : Name) (bytes : List ℕ) : Type 0 where
   pub sealed : IsSealed s bytes
   pub name_is : name_in (frame_at s bytes) ≡ n
-
--- a frame that has this name, which is that of a copy 0, or silence
-pub record IsReady (s : Format) (n : Name) (frame : Option (List ℕ)) : Type 0 where
-  pub original : n.copy ≡ 0
-  pub named : ForSome frame (IsNamed s n)
-
--- what a node says to all in a round: the frames of a message, one behind the other, or silence
-abbrev pub AreSpoken : Format → ℕ → ℕ → Option (List Value) → Option (List ℕ) → Type 0
-AreSpoken s from round None None = ⊤
-AreSpoken s from round (Some message) (Some bytes) = AreToAll s from round message 0 bytes
-AreSpoken s from round None (Some bytes) = ⊥
-AreSpoken s from round (Some message) None = ⊥

@@ -3,6 +3,8 @@ pub use Rattle.round_meaning.specs.Setups
 pub use Rattle.step_code.specs.Turns
 pub mod Sealed
 pub mod Framing
+pub mod Saying
+pub mod Preparing
 pub mod Nodes
 pub mod Reading
 pub mod NodeInside

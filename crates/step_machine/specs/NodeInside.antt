@@ -11,7 +11,8 @@ use Rattle.frame_format.specs.Formats.{Format, format_of}
 use Rattle.step_code.specs.Turns.{IsOfState}
 use Rattle.step_machine.specs.declared.node.Node.TheInside.{Inside}
 use Rattle.step_machine.specs.declared.origin.Origin.{Origin}
-use Rattle.step_machine.specs.Framing.{AreSpoken}
+use Rattle.step_machine.specs.declared.spoken.Spoken.{Spoken}
+use Rattle.step_machine.specs.Saying.{AreSpoken, origin_of}
 use Rattle.step_machine.specs.Sealed.{HasStateTypes}
 use Rattle.step_machine.specs.Nodes.{AreHeld, NodeView, algorithm_in}
 
@@ -37,12 +38,13 @@ pub record IsOwnState (p : ProgramTree) (s : Setup) (vs : List Value) : Type 0 w
   pub kinds : IsOfState p vs
   pub types : HasStateTypes (algorithm_of p s) vs
 
--- the bytes, where there are any, are the frames of what node i in a state sends to every node
-pub record AreToldToAll (p : ProgramTree) (s : Setup) (i round : ℕ) (state : List Value)
-    (frames : Option (List ℕ)) : Type 0 where
+-- what is spoken is what node i in a state sends to every node
+pub record IsToldToAll (p : ProgramTree) (s : Setup) (i round : ℕ) (state : List Value)
+    (a : Spoken) : Type 0 where
   pub message : Option (List Value)
   pub told : (dest : ℕ) → (algorithm_of p s).send round state i dest ≡ message
-  pub frames_are : AreSpoken (format_of p s.nodes) i round message frames
+  pub origin : IsOrigin state (format_of p s.nodes) (origin_of a)
+  pub spoken : AreSpoken i round message a
 
 -- the node is one of its setup's, its state and the room of the next one are states of its program,
 -- the frames that it holds are of its round and those after it, what it keeps as the origin of its
@@ -57,5 +59,4 @@ pub record IsKept (s : Inside) : Type 0 where
   pub held : AreHeld (algorithm_in (node_seen s)) s.setup.nodes s.me s.round s.held.items
   pub origin : ForSome s.origin (λ o. IsOrigin s.state (format_of s.machine s.setup.nodes)
       (arc_value o))
-  pub spoken : ForSome s.spoken (λ a.
-      AreToldToAll s.machine s.setup s.me s.round s.state a.frames)
+  pub spoken : ForSome s.spoken (IsToldToAll s.machine s.setup s.me s.round s.state)

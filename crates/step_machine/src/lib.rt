@@ -8,9 +8,9 @@ mod machine;
 mod node;
 mod origin;
 mod prepared;
+mod said;
 mod sealed;
 mod spoken;
-mod writing;
 
 pub use event::{Event, InFlight, MAX_COPY, Name};
 pub use node::{Finished, Node, ROUNDS_HELD, Taken};

@@ -2,7 +2,7 @@
 ghost use Rattle.std.specs.Arc.{arc_value};
 ghost use Rattle.std.specs.Borrow.{sem};
 ghost use Rattle.std.specs.Prelude.{◌≡◌, ◌≢◌, suc, ◌+◌, ◌<◌, ◌≤◌, ◌↔◌, IfOk, IsSome, None};
-ghost use Rattle.std.specs.Prelude.{option_map, replicate};
+ghost use Rattle.std.specs.Prelude.{replicate};
 ghost use Rattle.std.specs.Option.{ForSome};
 ghost use Rattle.round_meaning.specs.Rounds.{algorithm_of};
 ghost use Rattle.round_meaning.specs.Setups.{IsSetup};
@@ -10,7 +10,6 @@ ghost use Rattle.step_machine.specs.Sealed.{IsPrepared, Spells};
 ghost use Rattle.step_machine.specs.Nodes.{HasSettled, IsDoubled, IsEnd, IsSameTurn, ahead};
 ghost use Rattle.step_machine.specs.Nodes.{algorithm_in, format_in, held_with, sent_to};
 ghost use Rattle.step_machine.specs.NodeInside.{IsOrigin};
-ghost use Rattle.step_machine.specs.Framing.{message_at, IsNamed};
 ghost use Rattle.frame_format.specs.Formats.{kinds_at};
 ghost use Rattle.frame_format.specs.Spelling.{AreOf};
 
@@ -23,8 +22,6 @@ use crate::origin::Origin;
 use crate::prepared::Prepared;
 use crate::sealed::Sealed;
 use crate::spoken::Spoken;
-use crate::writing::frame_of;
-use bytes::Bytes;
 pub use finished::Finished;
 use frame_format::Layout;
 use round_check::Checked;
@@ -56,7 +53,8 @@ pub enum Taken {
 /// it holds of its round and of the three after it. The two states change places as it goes on.
 ///
 /// A copy of the state is shared by all that the node sends in its round. Where that is the same
-/// for all, it's computed once, and the frames to all are kept in one piece of memory.
+/// for all, it's computed once, and the frames to all are kept in one piece of memory, which is
+/// shared by the messages.
 #[derive(Drop)]
 pub struct Node {
     alloc: Global,
@@ -163,34 +161,18 @@ impl Node {
             round: self.round,
             copy: 0,
         };
-        let origin = self.shared_origin()?;
-        let frame = self.frame_to(name)?;
-        Ok(Prepared::new(name, origin, frame))
-    }
-
-    /// The frame of what it sends under a name of its round, none of silence.
-    fn frame_to(&mut self, name: Name) -> Result<Option<Bytes>, NoMemory>
-        requires from { name.from ≡ self.old.me }
-        requires to { name.to < self.old.setup.nodes }
-        requires round { name.round ≡ self.old.round }
-        requires original { name.copy ≡ 0 }
-        requires last { self.old.round ≤ self.old.setup.rounds }
-        ensures named { IfOk result (λ frame. ForSome frame (IsNamed (format_in self.old) name)) }
-        ensures says { IfOk result (λ frame. option_map (message_at (format_in self.old)) frame
-            ≡ sent_to self.old name.to) }
-        ensures same { self.new ≡ self.old }
-    {
         if let Some(spoken) = &self.spoken {
-            return spoken.frame_to(&self.layout, name);
+            return spoken.prepared(name);
         }
-        let message = self.message_to(name.to)?;
+        let message = self.message_to(dest)?;
+        let origin = self.shared_origin()?;
         if !is_broadcast(self.machine.program(), self.round) {
-            return frame_of(self.alloc, &self.layout, name, message);
+            return Prepared::new(name, origin, message);
         }
-        let spoken = Spoken::new(self.alloc, &self.layout, self.me, self.round, message)?;
-        let frame = spoken.frame_to(&self.layout, name)?;
+        let spoken = Spoken::new(origin, self.me, self.round, message)?;
+        let prepared = spoken.prepared(name)?;
         self.spoken = Some(spoken);
-        Ok(frame)
+        Ok(prepared)
     }
 
     /// What it sends to `dest`, none for silence.

@@ -1,51 +1,85 @@
 //! Messages on their way.
 ghost use Rattle.std.specs.Arc.{arc_value};
-ghost use Rattle.std.specs.Prelude.{◌≡◌, ◌≤◌, IfOk};
-ghost use Rattle.frame_format.specs.Reading.{frame_at};
+ghost use Rattle.std.specs.Prelude.{◌≡◌, ◌<◌, ◌≤◌, IfOk};
+ghost use Rattle.frame_format.specs.Formats.{kinds_at};
+ghost use Rattle.frame_format.specs.Spelling.{AreOf};
 ghost use Rattle.step_machine.specs.Sealed.{max_copy};
 ghost use Rattle.step_machine.specs.Framing.{frame_in, wire, IsSealed, IsSpelling};
+ghost use Rattle.step_machine.specs.Saying.{frame_from, layout_in, IsFrameFrom};
 
 use crate::event::Name;
 use crate::origin::Origin;
-use bytes::Bytes;
+use crate::said::Said;
 use frame_format::{copy_of, from_of, round_of, spelled_is_read, to_of};
-use frame_views::{FieldsView, FrameView, write_copy};
-use round_lang::{NoMemory, Vars};
+use frame_views::{FieldsView, FrameView, write_copy, write_frame};
+use round_lang::{Message, NoMemory, Vars};
 use std::marker::Model;
 use std::sync::Arc;
 
-/// A message as the bytes of its frame, which name it, with the state that its sender was in. The
-/// state is shared, since one state sends many messages, and so are the bytes of the frames that
-/// say the same to all.
+/// A message as the bytes of its frame, which name it, with the state that its sender was in. Both
+/// are shared: one state sends many messages, and the frames that say the same to all lie in one
+/// piece of memory, each from its place on.
 #[derive(Drop)]
 pub struct Sealed {
-    origin: Arc<Origin>,
-    bytes: Bytes,
+    said: Arc<Said>,
+    first: usize,
 }
 
 impl Model for Sealed {
     ghost use Rattle.std.specs.Arc.{arc_value};
     ghost use Rattle.step_machine.specs.Sealed.{Frame};
-    ghost use Rattle.step_machine.specs.Framing.{frame_in, IsSealed};
+    ghost use Rattle.step_machine.specs.Saying.{frame_from, IsFrameFrom};
 
     ghost Value = { Frame };
 
-    ghost view = { λ s. frame_in (arc_value (arc_value s.origin).layout)
-        (arc_value s.origin).state s.bytes };
+    ghost view = { λ s. frame_from (arc_value s.said) s.first };
 
-    ghost invariant = { λ s. IsSealed (arc_value (arc_value s.origin).layout) s.bytes };
+    ghost invariant = { λ s. IsFrameFrom (arc_value s.said) s.first };
 }
 
 impl Sealed {
     ghost use Rattle.std.specs.Arc.{arc_value};
     ghost use Rattle.step_machine.specs.Sealed.{copied_as};
 
-    pub(crate) fn new(origin: Arc<Origin>, bytes: Bytes) -> Sealed
-        requires { IsSealed (arc_value (arc_value origin).layout) bytes }
-        ensures { result ≡ frame_in (arc_value (arc_value origin).layout)
-            (arc_value origin).state bytes }
+    /// The frame that lies from a place on.
+    #[inline(always)]
+    pub(crate) fn new(said: Arc<Said>, first: usize) -> Sealed
+        requires { IsFrameFrom (arc_value said) first }
+        ensures { result ≡ frame_from (arc_value said) first }
     {
-        Sealed { origin, bytes }
+        Sealed { said, first }
+    }
+
+    /// A message under its name, as a frame of its own.
+    pub(crate) fn written(
+        origin: Arc<Origin>,
+        name: Name,
+        message: &Message,
+    ) -> Result<Sealed, NoMemory>
+        requires from { name.from < (layout_in (arc_value origin)).nodes }
+        requires to { name.to < (layout_in (arc_value origin)).nodes }
+        requires first { 1 ≤ name.round }
+        requires last { name.round ≤ 4096 }
+        requires copy { name.copy ≤ max_copy }
+        requires kinds { AreOf (layout_in (arc_value origin)).values
+            (kinds_at (layout_in (arc_value origin)) name.round) message.now }
+        ensures { IfOk result (λ frame. frame ≡ record {
+          name = name;
+          state = (arc_value origin).state;
+          message = message.now;
+        }) }
+    {
+        let Name {
+            from,
+            to,
+            round,
+            copy,
+        } = name;
+        spelled_is_read(&origin.layout);
+        let size = origin.layout.len(round);
+        let mut frames = vec![in origin.alloc; 0u8; size]?;
+        write_frame(&origin.layout, from, to, round, copy, message, &mut frames);
+        alone(origin, frames)
     }
 
     /// The same message as another copy, 0 to 3; the state is shared.
@@ -53,20 +87,18 @@ impl Sealed {
         requires { copy ≤ max_copy }
         ensures { IfOk result (λ frame. frame ≡ copied_as copy self.now) }
     {
-        let origin = Arc::try_clone(&self.origin)?;
+        let origin = Arc::try_clone(&self.said.origin)?;
         spelled_is_read(&origin.layout);
-        let mut bytes = Vec::from_slice(origin.alloc, self.bytes.as_slice())?;
-        write_copy(copy, &mut bytes);
-        Ok(Sealed {
-            origin,
-            bytes: Bytes::from_vec(bytes)?,
-        })
+        let mut frames = Vec::from_slice(origin.alloc, self.said.part(self.first))?;
+        write_copy(copy, &mut frames);
+        alone(origin, frames)
     }
 
+    #[inline(always)]
     pub fn name(&self) -> Name
         ensures { result ≡ self.now.name }
     {
-        let bytes = self.bytes.as_slice();
+        let bytes = self.said.part(self.first);
         Name {
             from: from_of(bytes),
             to: to_of(bytes),
@@ -76,30 +108,49 @@ impl Sealed {
     }
 
     /// The state that its sender was in.
+    #[inline(always)]
     pub fn state(&self) -> &Vars
         ensures { result.now ≡ self.now.state }
     {
-        &self.origin.state
+        &self.said.origin.state
     }
 
     /// The frame, where it lies: it has the message's name and its fields.
     pub fn view(&self) -> FrameView<'_>
         ensures { result ≡ wire self.now }
     {
-        FrameView::over(&self.origin.layout, self.bytes.as_slice())
+        FrameView::over(&self.said.origin.layout, self.said.part(self.first))
     }
 
     /// The fields of its message, where they lie.
+    #[inline(always)]
     pub fn fields(&self) -> FieldsView<'_, '_>
         ensures { result ≡ self.now.message }
     {
-        FieldsView::of_frame(&self.origin.layout, self.bytes.as_slice())
+        FieldsView::of_frame(&self.said.origin.layout, self.said.part(self.first))
     }
 
     /// The frame's bytes.
+    #[inline(always)]
     pub fn bytes(&self) -> &[u8]
         ensures { IsSpelling self.now result.now }
     {
-        self.bytes.as_slice()
+        self.said.part(self.first)
     }
+}
+
+/// A frame that shares its memory with no other.
+fn alone(origin: Arc<Origin>, frames: Vec<u8>) -> Result<Sealed, NoMemory>
+    requires { IsSealed (layout_in (arc_value origin)) frames.items }
+    ensures { IfOk result (λ frame. frame
+        ≡ frame_in (layout_in (arc_value origin)) (arc_value origin).state frames.items) }
+{
+    let alloc = origin.alloc;
+    let said = Said {
+        origin,
+        size: frames.len(),
+        frames,
+    };
+    let said = Arc::new(alloc, said)?;
+    Ok(Sealed::new(said, 0))
 }

@@ -1,65 +1,75 @@
 //! What a node says to all.
+ghost use Rattle.std.specs.Arc.{arc_value};
 ghost use Rattle.std.specs.Option.{ForSome};
-ghost use Rattle.std.specs.Prelude.{◌≡◌, ◌<◌, ◌≤◌, IfOk, List, Option, option_map};
+ghost use Rattle.std.specs.Prelude.{◌≡◌, ◌<◌, ◌≤◌, IfOk, List, Option};
 ghost use Rattle.round_lang.specs.declared.value.Value.{Value};
 ghost use Rattle.frame_format.specs.Formats.{kinds_at};
 ghost use Rattle.frame_format.specs.Spelling.{AreOf};
-ghost use Rattle.step_machine.specs.Framing.{message_at, AreSpoken, IsNamed};
+ghost use Rattle.step_machine.specs.Saying.{layout_in, origin_of, AreSpoken};
 
 use crate::event::Name;
-use crate::writing::frames_to_all;
-use bytes::Bytes;
-use frame_format::{Layout, spelled_is_read};
+use crate::origin::Origin;
+use crate::prepared::Prepared;
+use crate::said::Said;
+use crate::sealed::Sealed;
+use frame_format::spelled_is_read;
 use round_lang::{Message, NoMemory};
-use std::alloc::Global;
+use std::sync::Arc;
 
-/// What a node says to all in a round: the frames of its message, which lie one behind the other,
-/// or silence.
+/// What a node says to all in a round: the frames of its message to each node, or silence.
 #[derive(Drop)]
-pub(crate) struct Spoken {
-    frames: Option<Bytes>,
+pub(crate) enum Spoken {
+    Frames(Arc<Said>),
+    Silence(Arc<Origin>),
 }
 
 impl Spoken {
     pub(crate) fn new(
-        alloc: Global,
-        layout: &Layout,
+        origin: Arc<Origin>,
         from: u32,
         round: u32,
         message: Option<Message>,
     ) -> Result<Spoken, NoMemory>
-        requires from { from < layout.now.nodes }
+        requires from { from < (layout_in (arc_value origin)).nodes }
         requires first { 1 ≤ round }
         requires last { round ≤ 4096 }
-        requires kinds { ForSome message (AreOf layout.now.values (kinds_at layout.now round)) }
-        ensures { IfOk result (λ spoken. AreSpoken layout.now from round message spoken.frames) }
+        requires kinds { ForSome message (AreOf (layout_in (arc_value origin)).values
+            (kinds_at (layout_in (arc_value origin)) round)) }
+        ensures origin { IfOk result (λ spoken. origin_of spoken ≡ arc_value origin) }
+        ensures spoken { IfOk result (AreSpoken from round message) }
     {
-        let frames = match message {
-            Some(message) => Some(frames_to_all(alloc, layout, from, round, &message)?),
-            None => None,
+        let Some(message) = message else {
+            return Ok(Spoken::Silence(origin));
         };
-        Ok(Spoken { frames })
+        let alloc = origin.alloc;
+        let said = Said::to_all(origin, from, round, &message)?;
+        let said = Arc::new(alloc, said)?;
+        Ok(Spoken::Frames(said))
     }
 
-    /// The frame to one of the nodes, which lies among the others.
-    pub(crate) fn frame_to(&self, layout: &Layout, name: Name) -> Result<Option<Bytes>, NoMemory>
+    /// What is said to one of the nodes.
+    #[inline(always)]
+    pub(crate) fn prepared(&self, name: Name) -> Result<Prepared, NoMemory>
         requires spoken { (message : Option (List Value))
-            × AreSpoken layout.now name.from name.round message self.now.frames }
-        requires to { name.to < layout.now.nodes }
-        requires first { 1 ≤ name.round }
-        requires last { name.round ≤ 4096 }
+            × AreSpoken name.from name.round message self.now }
+        requires to { name.to < (layout_in (origin_of self.now)).nodes }
         requires original { name.copy ≡ 0 }
-        ensures named { IfOk result (λ frame. ForSome frame (IsNamed layout.now name)) }
-        ensures message { (message : Option (List Value))
-            → AreSpoken layout.now name.from name.round message self.now.frames
-            → IfOk result (λ frame. option_map (message_at layout.now) frame ≡ message) }
+        ensures { (message : Option (List Value))
+            → AreSpoken name.from name.round message self.now
+            → IfOk result (λ p. p ≡ record {
+              name = name;
+              state = (origin_of self.now).state;
+              message = message;
+            }) }
     {
-        let Some(frames) = &self.frames else {
-            return Ok(None);
-        };
-        spelled_is_read(layout);
-        let size = layout.len(name.round);
-        let first = name.to as usize * size;
-        Ok(Some(frames.slice(first..first + size)?))
+        match self {
+            Spoken::Silence(origin) => Ok(Prepared::silent(name, Arc::try_clone(origin)?)),
+            Spoken::Frames(said) => {
+                spelled_is_read(&said.origin.layout);
+                let first = name.to as usize * said.size;
+                let frame = Sealed::new(Arc::try_clone(said)?, first);
+                Ok(Prepared::message(name, frame))
+            }
+        }
     }
 }

@@ -7,7 +7,7 @@ use Rattle.round_meaning.specs.Rounds.{algorithm_of}
 use Rattle.round_meaning.specs.Typed.{IsInboxOf}
 use Rattle.frame_format.specs.Formats.{format_of}
 use Rattle.step_machine.specs.Nodes.{AreHeld, IsHeld, inbox_of}
-use Rattle.step_machine.specs.NodeInside.{AreToldToAll, IsOrigin, IsOwnState}
+use Rattle.step_machine.specs.NodeInside.{IsOrigin, IsOwnState, IsToldToAll}
 use Rattle.step_machine.specs.Reading.{AreOfRound}
 use Rattle.step_machine.specs.Sealed.{HasStateTypes, HeldRow, KeepsTypes}
 use Rattle.step_machine.proofs.HeldFrames.{are_of_round, held_typed}
@@ -48,5 +48,5 @@ invariant_of-self c =
       next = subst (λ (p : ProgramTree). IsOwnState p s.setup c.end.new.next) same (record { kinds = c.end.ensures.kinds; types = types });
       held = subst (λ (p : ProgramTree). AreHeld (algorithm_of p s.setup) s.setup.nodes s.me s.round s.held.items) same kept.held;
       origin = subst (λ (p : ProgramTree). ForSome s.origin (λ o. IsOrigin s.state (format_of p s.setup.nodes) (arc_value o))) same kept.origin;
-      spoken = subst (λ (p : ProgramTree). ForSome s.spoken (λ x. AreToldToAll p s.setup s.me s.round s.state x.frames)) same kept.spoken;
+      spoken = subst (λ (p : ProgramTree). ForSome s.spoken (IsToldToAll p s.setup s.me s.round s.state)) same kept.spoken;
     }

@@ -1,37 +1,38 @@
-use Rattle.std.proofs.Common.{◌≡◌, ℕ, List, ap, arith, length, subst, sym, ◌∙◌}
+use Rattle.std.proofs.Common.{◌≡◌, ap, arith, length, subst, ◌∙◌}
 use Rattle.std.proofs.lemmas.List.{take_at}
 use Rattle.std.specs.Arc.{arc_value}
-use Rattle.frame_format.specs.Formats.{Format}
+use Rattle.std.specs.Prelude.{IfOk}
 use Rattle.frame_format.specs.Reading.{SpelledIsRead}
-use Rattle.frame_format.specs.Spelling.{Spells}
-use Rattle.step_machine.specs.declared.origin.Origin.{Origin}
-use Rattle.step_machine.specs.Framing.{IsSealed, frame_in}
-use Rattle.step_machine.specs.Sealed.{copied_as}
-use Rattle.step_machine.proofs.Framing.{sealed_copy}
+use Rattle.step_machine.specs.declared.said.Said.{Said}
+use Rattle.step_machine.specs.Saying.{bytes_from, layout_in}
+use Rattle.step_machine.specs.Sealed.{Frame, copied_as}
+use Rattle.step_machine.proofs.Saying.{copy_is}
 use Rattle.step_machine.proofs.sealed.Sealed.copied.Goals as goal
 
-abbrev layout_of : Origin → Format
-layout_of o = arc_value o.layout
-
--- the bytes are those of the copy, under the layout of the original
-copy_is : (c : goal.In_ok-from_vec) → IsSealed (layout_of (arc_value c.self.inside.origin)) c.in_ok-from_vec.field-0
-    × (frame_in (layout_of (arc_value c.self.inside.origin)) (arc_value c.self.inside.origin).state c.in_ok-from_vec.field-0
-    ≡ copied_as c.args.copy (frame_in (layout_of (arc_value c.self.inside.origin)) (arc_value c.self.inside.origin).state c.self.inside.bytes))
-copy_is c =
-    let layout = layout_of (arc_value c.self.inside.origin) in
-    let read : SpelledIsRead layout = subst SpelledIsRead (c.deref-2.ensures ∙ ap layout_of (c.deref.ensures ∙ c.in_ok-origin.ensures)) c.spelled_is_read.ensures in
-    let old : c.deref_mut.result.now ≡ c.self.inside.bytes = c.deref_mut.ensures.value ∙ c.in_ok-bytes.ensures.items ∙ c.as_slice.ensures in
-    let long : length c.write_copy.new.bytes ≡ c.in_ok-bytes.bytes.len = omega (arith, c.write_copy.auto.bytes, c.deref_mut.ensures.len) in
-    let new : c.in_ok-from_vec.field-0 ≡ c.write_copy.new.bytes = c.in_ok-from_vec.ensures.ok ∙ take_at c.write_copy.new.bytes _ c.in_ok-bytes.bytes.len long in
-    sealed_copy layout (arc_value c.self.inside.origin).state c.self.inside.bytes c.in_ok-from_vec.field-0 c.args.copy read c.self.invariant
-    (λ f spells second. subst (λ (b : List ℕ). Spells layout b (record f { copy = c.args.copy })) (sym new)
-    (c.write_copy.ensures layout f (subst (λ (b : List ℕ). Spells layout b f) (sym old) spells) second))
-
-pub invariant_of-result : goal.invariant_of-result
-invariant_of-result c = subst (λ (l : Format). IsSealed l c.in_ok-from_vec.field-0) (sym (ap layout_of c.in_ok-origin.ensures)) (copy_is c).0
+pub alone-requires : goal.alone-requires
+alone-requires c =
+    let d = arc_value c.self.inside.said in
+    let o = arc_value c.in_ok-origin.origin in
+    let new = c.write_copy.new.bytes in
+    let first = c.self.inside.first in
+    let from : o ≡ arc_value d.origin = c.in_ok-origin.ensures ∙ ap (λ (x : Said). arc_value x.origin) c.deref.ensures in
+    let read : SpelledIsRead (layout_in o) = subst SpelledIsRead (c.deref-3.ensures ∙ ap layout_in c.deref-2.ensures) c.spelled_is_read.ensures in
+    let old : c.deref_mut.result.now ≡ bytes_from d first =
+    c.deref_mut.ensures.value ∙ c.in_ok-frames.ensures.items ∙ c.part.ensures ∙ ap (λ (x : Said). bytes_from x first) c.deref-5.ensures in
+    let long : length new ≡ c.in_ok-frames.frames.len = omega (arith, c.write_copy.auto.bytes, c.deref_mut.ensures.len) in
+    (copy_is d first c.args.copy o _ _ new from read c.self.invariant old (take_at new _ c.in_ok-frames.frames.len long) c.write_copy.ensures).0
 
 pub returns : goal.returns
 returns c =
-    ap (λ (o : Origin). frame_in (layout_of o) o.state c.in_ok-from_vec.field-0) c.in_ok-origin.ensures
-    ∙ (copy_is c).1
-    ∙ ap (copied_as c.args.copy) c.self.view_is
+    let d = arc_value c.self.inside.said in
+    let o = arc_value c.in_ok-origin.origin in
+    let new = c.write_copy.new.bytes in
+    let first = c.self.inside.first in
+    let from : o ≡ arc_value d.origin = c.in_ok-origin.ensures ∙ ap (λ (x : Said). arc_value x.origin) c.deref.ensures in
+    let read : SpelledIsRead (layout_in o) = subst SpelledIsRead (c.deref-3.ensures ∙ ap layout_in c.deref-2.ensures) c.spelled_is_read.ensures in
+    let old : c.deref_mut.result.now ≡ bytes_from d first =
+    c.deref_mut.ensures.value ∙ c.in_ok-frames.ensures.items ∙ c.part.ensures ∙ ap (λ (x : Said). bytes_from x first) c.deref-5.ensures in
+    let long : length new ≡ c.in_ok-frames.frames.len = omega (arith, c.write_copy.auto.bytes, c.deref_mut.ensures.len) in
+    subst (λ (f : Frame). IfOk c.alone.result (λ frame. frame ≡ f))
+    ((copy_is d first c.args.copy o _ _ new from read c.self.invariant old (take_at new _ c.in_ok-frames.frames.len long) c.write_copy.ensures).1 ∙ ap (copied_as c.args.copy) c.self.view_is)
+    c.alone.ensures

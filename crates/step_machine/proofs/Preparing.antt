@@ -1,0 +1,52 @@
+-- What a node prepares.
+use Rattle.std.proofs.Common.{◌≡◌, ℕ, List, Option, ap, refl, subst, sym, ◌∙◌}
+use Rattle.std.specs.Prelude.{Err, IfOk, Ok, Result}
+use Rattle.round_lang.specs.declared.value.Value.{Value}
+use Rattle.round_meaning.specs.Rounds.{algorithm_of}
+use Rattle.step_machine.specs.declared.event.Name.{Name}
+use Rattle.step_machine.specs.declared.node.Node.TheInside.{Inside}
+use Rattle.step_machine.specs.declared.spoken.Spoken.{Spoken}
+use Rattle.step_machine.specs.Nodes.{NodeView, algorithm_in, sent_to}
+use Rattle.step_machine.specs.NodeInside.{IsToldToAll, node_seen}
+use Rattle.step_machine.specs.Saying.{origin_of}
+use Rattle.step_machine.specs.Sealed.{HasStateTypes, IsPrepared, Ready}
+
+-- a result that is so where there is one
+pub if_ok_so : {T E : Type 0} (r : Result T E) (P Q : T → Type 0) → ((x : T) → P x → Q x) → IfOk r P → IfOk r Q
+if_ok_so (Ok x) P Q so h = so x h
+if_ok_so (Err e) P Q so h = tt
+
+-- what a node has ready for another in its round
+abbrev pub ready_in : NodeView → ℕ → Ready
+ready_in n dest = record {
+  name = record { from = n.me; to = dest; round = n.round; copy = 0 };
+  state = n.state;
+  message = sent_to n dest;
+}
+
+-- it says what the node's state sends
+pub ready_is : (s : Inside) (n : NodeView) (dest : ℕ) (p : Ready) → node_seen s ≡ n → HasStateTypes (algorithm_of s.machine s.setup) s.state → p ≡ ready_in n dest → IsPrepared (algorithm_in n) p
+ready_is s n dest p seen types e =
+    let typed : HasStateTypes (algorithm_in n) n.state = subst (λ (x : NodeView). HasStateTypes (algorithm_in x) x.state) seen types in
+    subst (IsPrepared (algorithm_in n)) (sym e) (record { says = refl; types = typed })
+
+-- from the node's fields
+pub ready_from : (s : Inside) (n : NodeView) (dest : ℕ) (state : List Value) (m : Option (List Value)) (p : Ready) → node_seen s ≡ n → state ≡ n.state → m ≡ sent_to n dest
+    → p ≡ record { name = record { from = s.me; to = dest; round = s.round; copy = 0 }; state = state; message = m } → p ≡ ready_in n dest
+ready_from s n dest state m p seen e f is =
+    let name : Name = record { from = s.me; to = dest; round = s.round; copy = 0 } in
+    let in_state : List Value → Ready = λ x. record { name = name; state = x; message = m } in
+    let saying : Option (List Value) → Ready = λ x. record { name = name; state = n.state; message = x } in
+    let under : NodeView → Ready = λ x. record {
+      name = record { from = x.me; to = dest; round = x.round; copy = 0 };
+      state = n.state;
+      message = sent_to n dest;
+    } in
+    is ∙ ap in_state e ∙ ap saying f ∙ ap under seen
+
+-- from what it keeps as said to all
+pub ready_told : (s : Inside) (n : NodeView) (dest : ℕ) (a : Spoken) (p : Ready) → node_seen s ≡ n → (told : IsToldToAll s.machine s.setup s.me s.round s.state a)
+    → p ≡ record { name = record { from = s.me; to = dest; round = s.round; copy = 0 }; state = (origin_of a).state; message = told.message } → p ≡ ready_in n dest
+ready_told s n dest a p seen told =
+    ready_from s n dest (origin_of a).state told.message p seen (told.origin.state_is ∙ ap (λ (x : NodeView). x.state) seen)
+    (sym (told.told dest) ∙ ap (λ (x : NodeView). sent_to x dest) seen)

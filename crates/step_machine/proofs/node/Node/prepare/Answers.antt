@@ -1,0 +1,60 @@
+use Rattle.std.proofs.Common.{◌≡◌, ◌<◌, ap, sym, subst, ◌∙◌}
+use Rattle.frame_format.specs.Formats.{Format}
+use Rattle.step_machine.specs.declared.origin.Origin.{Origin}
+use Rattle.step_machine.specs.Nodes.{NodeView}
+use Rattle.step_machine.specs.NodeInside.{node_seen}
+use Rattle.step_machine.specs.Saying.{AreSpoken, layout_in, origin_of}
+use Rattle.step_machine.proofs.Preparing.{if_ok_so, ready_from, ready_is, ready_told}
+use Rattle.step_machine.proofs.node.Node.prepare.Goals as goal
+
+pub prepared-requires-clause-spoken : goal.prepared-requires-clause-spoken
+prepared-requires-clause-spoken c =
+    let told = c.self.invariant.spoken c.in-Some.spoken c.in-Some.is in
+    (told.message, told.spoken)
+
+pub prepared-requires-clause-to : goal.prepared-requires-clause-to
+prepared-requires-clause-to c =
+    let told = c.self.invariant.spoken c.in-Some.spoken c.in-Some.is in
+    let nodes : (layout_in (origin_of c.in-Some.spoken)).nodes ≡ c.self.inside.setup.nodes = ap (λ (f : Format). f.nodes) told.origin.layout_is in
+    let seen : c.self.inside.setup.nodes ≡ c.args.self.now.setup.nodes = ap (λ (n : NodeView). n.setup.nodes) c.self.view_is in
+    subst (λ k. c.args.dest < k) (sym (nodes ∙ seen)) c.requires.dest
+
+pub returns-in-Some-clause-ready : goal.returns-in-Some-clause-ready
+returns-in-Some-clause-ready c =
+    let told = c.self.invariant.spoken c.in-Some.spoken c.in-Some.is in
+    if_ok_so c.prepared.result _ _ (λ p is. ready_told c.self.inside c.args.self.now c.args.dest c.in-Some.spoken p c.self.view_is told is)
+    (c.prepared.ensures told.message told.spoken)
+
+pub returns-in-Some-clause-prepared : goal.returns-in-Some-clause-prepared
+returns-in-Some-clause-prepared c =
+    let told = c.self.invariant.spoken c.in-Some.spoken c.in-Some.is in
+    if_ok_so c.prepared.result _ _
+    (λ p is. ready_is c.self.inside c.args.self.now c.args.dest p c.self.view_is c.self.invariant.state.types
+    (ready_told c.self.inside c.args.self.now c.args.dest c.in-Some.spoken p c.self.view_is told is))
+    (c.prepared.ensures told.message told.spoken)
+
+pub returns-clause-ready : goal.returns-clause-ready
+returns-clause-ready c =
+    let s = c.self.inside in
+    let n = c.args.self.now in
+    let m = c.in_ok-message.message in
+    let a = c.in_ok-spoken.spoken in
+    let seen : node_seen c.self-2.inside ≡ node_seen s = c.self-2.view_is ∙ c.in_ok-origin.ensures.same ∙ c.in_ok-message.ensures.same ∙ sym c.self.view_is in
+    let spoken : AreSpoken s.me s.round m a = subst (λ (x : NodeView). AreSpoken x.me x.round m a) seen c.in_ok-spoken.ensures.spoken in
+    let state : (origin_of a).state ≡ n.state =
+    ap (λ (o : Origin). o.state) c.in_ok-spoken.ensures.origin ∙ c.in_ok-origin.ensures.origin.state_is ∙ ap (λ (x : NodeView). x.state) c.in_ok-message.ensures.same in
+    let ready = ready_from s n c.args.dest (origin_of a).state m c.in_ok-prepared.prepared c.self.view_is state c.in_ok-message.ensures.says (c.in_ok-prepared.ensures m spoken) in
+    ready
+
+pub returns-clause-prepared : goal.returns-clause-prepared
+returns-clause-prepared c =
+    let s = c.self.inside in
+    let n = c.args.self.now in
+    let m = c.in_ok-message.message in
+    let a = c.in_ok-spoken.spoken in
+    let seen : node_seen c.self-2.inside ≡ node_seen s = c.self-2.view_is ∙ c.in_ok-origin.ensures.same ∙ c.in_ok-message.ensures.same ∙ sym c.self.view_is in
+    let spoken : AreSpoken s.me s.round m a = subst (λ (x : NodeView). AreSpoken x.me x.round m a) seen c.in_ok-spoken.ensures.spoken in
+    let state : (origin_of a).state ≡ n.state =
+    ap (λ (o : Origin). o.state) c.in_ok-spoken.ensures.origin ∙ c.in_ok-origin.ensures.origin.state_is ∙ ap (λ (x : NodeView). x.state) c.in_ok-message.ensures.same in
+    let ready = ready_from s n c.args.dest (origin_of a).state m c.in_ok-prepared.prepared c.self.view_is state c.in_ok-message.ensures.says (c.in_ok-prepared.ensures m spoken) in
+    ready_is s n c.args.dest c.in_ok-prepared.prepared c.self.view_is c.self.invariant.state.types ready
