@@ -2,6 +2,8 @@
 -- crates have one limit and stand on nothing common they agree.
 use Rattle.std.specs.Prelude.{◌≡◌, ◌+◌}
 use Rattle.command_words.specs.Values as words
+use Rattle.lockstep_runs.specs.Lockstep as tables
+use Rattle.lockstep_runs.specs.declared.lockstep.TheConstants as table_code
 use Rattle.round_lang.specs.Limits as language
 use Rattle.round_lang.specs.declared.parsing.TheConstants as language_code
 use Rattle.round_meaning.specs.Setups as setups
@@ -24,6 +26,7 @@ pub record LimitsAreDefined : Type 0 where
   pub plan_delta : plan_code.MAX_DELTA ≡ plans.max_delta
   pub plan_rounds : plan_code.MAX_ROUNDS ≡ plans.max_rounds
   pub rounds_held : node_code.ROUNDS_HELD ≡ machine.ahead + 1
+  pub entries : table_code.MAX_ENTRIES ≡ tables.max_entries
 
 -- a setup and a plan have as many nodes and rounds, and the words and a plan as large a bound
 pub record LimitsAgree : Type 0 where
