@@ -17,8 +17,8 @@ NUMBERS = """0 1 2 7 8 9 15 16 17 63 64 65 1024 1025 4096 4097 4294967295 429496
 SEPARATORS = [" "] * 12 + ["\n", "\n  ", "\t", "\r\n", "  ", " # a remark\n", "#é ( € $\n", "\r"]
 # For each type the forms, each with its level of tightness, and types and levels of its operands.
 OR, AND, NOT, COMPARED, SUM, PRODUCT, INDEXED, ATOM = range(1, 9)
-WRONG_SOURCES = """@gather:0 @gather:65 @other:2 @dls1:99999999999 @if:2 @ @gather @gather: @gather:+1
-@9:2 @é:2 @dls1:2:3 @_:64""".split()
+WRONG_SOURCES = """@gather:0 @gather:65 @other:2 @dls1:99999999999 @if:2 @ @gather @gather: 
+@gather:+1 @9:2 @é:2 @dls1:2:3 @_:64""".split()
 WRONG_LISTS = ["0,0", "", ",", "0,", "00", "4294967295", "4294967296", "x", "0,,1", "-1", "0, 1"]
 FORMS = {
     "num": [

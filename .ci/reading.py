@@ -559,7 +559,9 @@ def threads_complaint(words, files, out, trace):
         return "the report isn't the trace's"
     if any(kind in ("drop", "copy") for kind, *_ in events):
         return "the network lost or copied a message"
-    if threads.is_ticking and not (run.is_lockstep(events, stayed) and run.is_bounded(stayed, 1, 0)):
+    if threads.is_ticking and not (
+        run.is_lockstep(events, stayed) and run.is_bounded(stayed, 1, 0)
+    ):
         return "the ticks weren't kept"
     return ""
 
