@@ -40,7 +40,7 @@ pub fn is_one_program(one: &Checked, other: &Checked) -> bool
     one == other
 }
 
-#[tactic(auto, using(round_lang::specs::Equality::is_same_decides, round_meaning::proofs::EqualityLaws::setup_decides))]
+#[tactic(auto, using(round_meaning::proofs::EqualityLaws::setup_decides))]
 pub fn is_one_setup(one: &Setup, other: &Setup) -> bool
     ensures { IsTrue result ↔ (one.now ≡ other.now) }
 {

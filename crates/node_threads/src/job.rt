@@ -1,5 +1,5 @@
 //! What goes into a node's thread, and what comes back.
-ghost use Rattle.round_lang.specs.contracts.formula.Formula as formula;
+ghost use Rattle.round_lang.specs.contracts.formula.Formula as tree;
 ghost use Rattle.std.specs.Coded.{codes};
 ghost use Rattle.std.specs.Option.{ForSome};
 ghost use Rattle.std.specs.Prelude.{◌≡◌, IfSome};
@@ -26,7 +26,7 @@ pub(crate) struct Job<'a, P: Plan> {
     seat: Seat,
     node: Node,
     ghost planned: { IsPlanned P.nodes post.now plan rounds },
-    ghost together: { IsTogether post.now seat node } by { Prim.hlevel (codes, formula.the_row.coded) },
+    ghost paired: { IsTogether post.now seat node } by { Prim.hlevel (codes, tree.the_row.coded) },
     ghost place: { IsInPlace (P.start plan) rounds seat },
 }
 

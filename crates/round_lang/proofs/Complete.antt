@@ -24,7 +24,7 @@ use Rattle.round_lang.specs.Reading.{Reader, after, name_at, value_within, numbe
 use Rattle.round_lang.specs.Reading.{operator_at, operand, found, chain, chained, compared, negated}
 use Rattle.round_lang.specs.Reading.{closed, indexed, postfixed, called, has, brackets}
 use Rattle.round_lang.specs.Reading.{comprehension, atom, choice, chosen, postfixes, products, sums}
-use Rattle.round_lang.specs.Reading.{comparisons, negations, conjunctions, disjunctions, parse}
+use Rattle.round_lang.specs.Reading.{negations, conjunctions, disjunctions, parse}
 use Rattle.round_lang.specs.Reading.{formula}
 use Rattle.round_lang.proofs.Steps.{level_itself}
 use Rattle.round_lang.proofs.Ends.{Ends, ends_at_close, ends_at_then, ends_at_else, ends_at_comma}
@@ -226,7 +226,7 @@ module _ {k n : ℕ} {t : Tree} {ws rest : List Lexeme} where
   loosen_disjunction f = record { depth = f.depth; fuel = suc (suc k); low = f.low; enough = omega arith; is = chained_comes k Disjunction (conjunctions (parse k) (suc k)) t f.depth ws rest f.is }
 
   loosen_comparison : operator_at Comparison rest ≡ None → Finds (suc k) Sum n t ws rest → Comes k Comparison n t ws rest
-  unfolding parse comparisons compared operand
+  unfolding parse compared operand
   loosen_comparison e f = record { depth = f.depth; fuel = suc (suc k); low = f.low; enough = omega arith; is = rw (f.is, e) refl }
 
   loosen_negation : after m.Not ws ≡ None → Finds (suc k) Comparison n t ws rest → Comes k Negation n t ws rest
@@ -238,7 +238,7 @@ module _ {k n : ℕ} {t : Tree} {ws rest : List Lexeme} where
   loosen_whole e f = record { depth = f.depth; fuel = suc (suc k); low = f.low; enough = omega arith; is = rw (e, f.is) refl }
 
   loosen_postfix : after m.OpenSquare rest ≡ None → Finds (suc k) Atom n t ws rest → Comes k Postfix n t ws rest
-  unfolding parse postfixes postfixed
+  unfolding parse postfixed
   loosen_postfix e f = record { depth = f.depth; fuel = suc (suc k); low = f.low; enough = omega arith; is = rw (f.is, e) refl }
 
   loosen : (level : Level) → Reads (tighter level) n t ws rest → n ≤ suc k → Ends (before level) rest → Comes k (tighter level) n t ws rest → Comes k level n t ws rest
@@ -314,7 +314,7 @@ module _ {k n : ℕ} {a b : Tree} {ws xs rest : List Lexeme} (op : BinaryOperato
   }
 
   operated : (level : Level) → HasOperators level → level_of op ≡ Some level → Comes k (left_operand level) n a ws (infix_word op ∷ xs) → Finds k (tighter level) n b xs rest → Comes k level (suc n) (TBinary op a b) ws rest
-  unfolding parse comparisons compared
+  unfolding parse compared
   operated Disjunction has e c right = let r = chains_from Disjunction c.depth c.fuel c.low c.enough c.is e right in record { depth = r.depth; fuel = r.fuel; low = r.low; enough = r.enough; is = r.is }
   operated Conjunction has e c right = let r = chains_from Conjunction c.depth c.fuel c.low c.enough c.is e right in record { depth = r.depth; fuel = r.fuel; low = r.low; enough = r.enough; is = r.is }
   operated Sum has e c right = let r = chains_from Sum c.depth c.fuel c.low c.enough c.is e right in record { depth = r.depth; fuel = r.fuel; low = r.low; enough = r.enough; is = r.is }
@@ -353,7 +353,7 @@ module _ {k n : ℕ} {a : Tree} {ws rest : List Lexeme} (le : n ≤ k) where
   negated_comes p = comes_at (suc p.depth) (let l = p.low in omega arith) (rw p.is refl)
 
   indexed_comes : {b : Tree} {xs : List Lexeme} → Finds (suc k) Atom n a ws (mark m.OpenSquare ∷ xs) → Finds k Whole n b xs (mark m.CloseSquare ∷ rest) → Comes k Postfix (suc n) (TBinary binary.Entry a b) ws rest
-  unfolding parse postfixes postfixed indexed closed after same_mark
+  unfolding parse postfixed indexed closed after same_mark
   indexed_comes p q =
       let lt : ltb p.depth (suc k) ≡ true = lt-ltb p.depth (suc k) (let l = p.low in omega arith) in
       comes_at (suc (max p.depth q.depth)) (let l = p.low in let l2 = q.low in omega arith) (rw (p.is, lt, q.is) refl)

@@ -243,7 +243,6 @@ module _ (n : ℕ) (inner : Level → Reader) (h : (level : Level) (ws : List Le
   atom_good (infix_word op ∷ ws) x is = absurd cc
 
   postfixes_good : (ws : List Lexeme) (x : Found) → postfixes inner (suc n) ws ≡ Some x → Good Postfix (suc n) ws x
-  unfolding postfixes
   postfixes_good = postfixed_good (atom inner (suc n)) atom_good
 
   products_good : (ws : List Lexeme) (x : Found) → products inner (suc n) ws ≡ Some x → Good Product (suc n) ws x
@@ -255,7 +254,6 @@ module _ (n : ℕ) (inner : Level → Reader) (h : (level : Level) (ws : List Le
   sums_good = chained_good Sum refl (products inner (suc n)) products_good
 
   comparisons_good : (ws : List Lexeme) (x : Found) → comparisons inner (suc n) ws ≡ Some x → Good Comparison (suc n) ws x
-  unfolding comparisons
   comparisons_good = compared_good (sums inner (suc n)) sums_good
 
   negations_good : (ws : List Lexeme) (x : Found) → negations inner (suc n) ws ≡ Some x → Good Negation (suc n) ws x

@@ -199,7 +199,7 @@ module _ (inner : Level → Reader) (room : ℕ) where
   chosen below ws = or_else (after m.If ws) choice (below ws)
 
   -- each level, from the tightest
-  unfoldable pub postfixes : Reader
+  abbrev pub postfixes : Reader
   postfixes = postfixed atom
 
   unfoldable pub products : Reader
@@ -208,7 +208,7 @@ module _ (inner : Level → Reader) (room : ℕ) where
   unfoldable pub sums : Reader
   sums = chained Sum products
 
-  unfoldable pub comparisons : Reader
+  abbrev pub comparisons : Reader
   comparisons = compared sums
 
   unfoldable pub negations : Reader

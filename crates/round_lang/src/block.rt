@@ -2,7 +2,7 @@
 ghost use Rattle.std.specs.Prelude.{◌≡◌, ◌≤◌, ◌↔◌, IsTrue, length, vec_len};
 ghost use Rattle.round_lang.specs.Limits.{max_fields};
 
-use crate::equal::{same_assignments, same_fields, same_formulas};
+use crate::equal::same_parts;
 use crate::expr::Ty;
 use crate::formula::Formula;
 use crate::identifier::Identifier;
@@ -136,11 +136,11 @@ impl Block {
         ensures { IsTrue result ↔ (self.now ≡ other.now) }
     {
         self.number == other.number
-            && same_fields(&self.fields, &other.fields)
+            && same_parts(&self.fields, &other.fields)
             && self.condition.same(&other.condition)
-            && same_formulas(&self.sent, &other.sent)
-            && same_assignments(&self.on_message, &other.on_message)
-            && same_assignments(&self.end, &other.end)
+            && same_parts(&self.sent, &other.sent)
+            && same_parts(&self.on_message, &other.on_message)
+            && same_parts(&self.end, &other.end)
     }
 }
 

@@ -6,62 +6,31 @@ use crate::formula::Formula;
 use crate::identifier::Identifier;
 use crate::program::{Variable, VariableKind};
 
-pub(crate) fn same_names(one: &[Identifier], other: &[Identifier]) -> bool
-    ensures { IsTrue result ↔ (one.now ≡ other.now) }
-{
-    match (one, other) {
-        ([], []) => true,
-        ([a, one @ ..], [b, other @ ..]) => a.same(b) && same_names(one, other),
-        _ => false,
-    }
+/// A part of a program, which tells whether another one is the same.
+pub(crate) trait Part {
+    fn is_same(&self, other: &Self) -> bool
+        ensures { IsTrue result ↔ (self.now ≡ other.now) };
 }
 
-pub(crate) fn same_formulas(one: &[Formula], other: &[Formula]) -> bool
-    ensures { IsTrue result ↔ (one.now ≡ other.now) }
-{
-    match (one, other) {
-        ([], []) => true,
-        ([a, one @ ..], [b, other @ ..]) => a.same(b) && same_formulas(one, other),
-        _ => false,
-    }
+macro_rules! parts {
+    ($($part:ty),*) => {
+        $(impl Part for $part {
+            fn is_same(&self, other: &$part) -> bool {
+                self.same(other)
+            }
+        })*
+    };
 }
 
-pub(crate) fn same_fields(one: &[Field], other: &[Field]) -> bool
-    ensures { IsTrue result ↔ (one.now ≡ other.now) }
-{
-    match (one, other) {
-        ([], []) => true,
-        ([a, one @ ..], [b, other @ ..]) => a.same(b) && same_fields(one, other),
-        _ => false,
-    }
-}
+parts!(Identifier, Formula, Field, Assignment, Variable, Block);
 
-pub(crate) fn same_assignments(one: &[Assignment], other: &[Assignment]) -> bool
+/// Whether both lists have the same items in the same order.
+pub(crate) fn same_parts<T: Part>(one: &[T], other: &[T]) -> bool
     ensures { IsTrue result ↔ (one.now ≡ other.now) }
 {
     match (one, other) {
         ([], []) => true,
-        ([a, one @ ..], [b, other @ ..]) => a.same(b) && same_assignments(one, other),
-        _ => false,
-    }
-}
-
-pub(crate) fn same_variables(one: &[Variable], other: &[Variable]) -> bool
-    ensures { IsTrue result ↔ (one.now ≡ other.now) }
-{
-    match (one, other) {
-        ([], []) => true,
-        ([a, one @ ..], [b, other @ ..]) => a.same(b) && same_variables(one, other),
-        _ => false,
-    }
-}
-
-pub(crate) fn same_blocks(one: &[Block], other: &[Block]) -> bool
-    ensures { IsTrue result ↔ (one.now ≡ other.now) }
-{
-    match (one, other) {
-        ([], []) => true,
-        ([a, one @ ..], [b, other @ ..]) => a.same(b) && same_blocks(one, other),
+        ([a, one @ ..], [b, other @ ..]) => a.is_same(b) && same_parts(one, other),
         _ => false,
     }
 }

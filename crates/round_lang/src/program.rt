@@ -3,7 +3,7 @@ ghost use Rattle.std.specs.Prelude.{◌≡◌, ◌≤◌, ◌<◌, ◌↔◌, Is
 ghost use Rattle.round_lang.specs.Limits.{IsSized, max_period, max_values, max_variables};
 
 use crate::block::Block;
-use crate::equal::{same_blocks, same_names, same_variables};
+use crate::equal::same_parts;
 use crate::expr::Ty;
 use crate::formula::Formula;
 use crate::identifier::Identifier;
@@ -129,9 +129,9 @@ impl Program {
     {
         self.values == other.values
             && self.period == other.period
-            && same_variables(&self.variables, &other.variables)
-            && same_names(&self.decides, &other.decides)
-            && same_blocks(&self.blocks, &other.blocks)
+            && same_parts(&self.variables, &other.variables)
+            && same_parts(&self.decides, &other.decides)
+            && same_parts(&self.blocks, &other.blocks)
     }
 }
 

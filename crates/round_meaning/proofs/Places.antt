@@ -1,7 +1,7 @@
 -- No value of a checked program depends on what means nothing where it is computed.
 use Rattle.std.proofs.Common.{◌≡◌, ℕ, Bool, true, false, List, [], ◌∷◌, map, Some, None, cond}
 use Rattle.std.proofs.Common.{position, refl, ap, ◌∙◌}
-use Rattle.std.specs.Prelude.{◌||◌, not}
+use Rattle.std.specs.Prelude.{◌||◌}
 use Rattle.std.specs.List.{AllByRecursion, list_any}
 use Rattle.std.specs.Str.{bytes_eq}
 use Rattle.std.proofs.lemmas.List.Elements.{All-from_recursion}
@@ -24,11 +24,11 @@ use Rattle.round_check.proofs.Facts.{IsClear-typed, fails-not, neither}
 use Rattle.round_check.proofs.Sites.{Site, allowed, at_end, at_message, at_send, at_start}
 use Rattle.round_check.specs.Causes.{is_typed, not_allowed_here}
 use Rattle.round_check.specs.Rules.{Scope, allows, breaks, breaks_assignment, breaks_block}
-use Rattle.round_check.specs.Rules.{breaks_program, breaks_start, breaks_target, in_block}
+use Rattle.round_check.specs.Rules.{breaks_start, breaks_target, in_block}
 use Rattle.round_check.specs.Rules.{start_scope}
 use Rattle.round_meaning.specs.Meaning.{Env, bind, constant, value}
 use Rattle.round_meaning.specs.Places.{BeginsAnywhere, KeepsPlaces, PlacesAreKept}
-use Rattle.round_meaning.specs.Turn.{assigned, begins, put, runs, sent, with_vars}
+use Rattle.round_meaning.specs.Turn.{assigned, begins, put, runs, with_vars}
 use Rattle.round_meaning.proofs.Broadcasts.{set_of_same}
 use Rattle.round_meaning.proofs.RoundLaws.{map_same}
 

@@ -1,19 +1,17 @@
 -- The initial states of checked programs have their types.
-use Rattle.std.proofs.Common.{◌≡◌, ℕ, suc, ◌≤◌, true, cond, List, [], ◌∷◌, map, Option, Some, None}
-use Rattle.std.proofs.Common.{refl, sym, ◌∙◌, subst, arith}
+use Rattle.std.proofs.Common.{◌≡◌, ℕ, suc, ◌≤◌, true, List, [], ◌∷◌, map, None}
+use Rattle.std.proofs.Common.{refl, sym, subst, arith}
 use Rattle.std.specs.Prelude.{All}
 use Rattle.std.proofs.lemmas.List.Elements.{All-head}
 use Rattle.round_lang.specs.declared.program.Variable.{Variable}
 use Rattle.round_lang.specs.declared.program.VariableKind.{VariableKind}
 use Rattle.round_lang.specs.declared.program.VariableKind.TheVariants.{Input, State}
 use Rattle.round_lang.specs.Syntax.{ProgramTree}
-use Rattle.round_check.proofs.Facts.{first_input-typed}
 use Rattle.round_check.proofs.Starts.{StartsWith, starts_typed}
-use Rattle.round_check.specs.Causes.{first_input, input_name as checked_input, is_typed}
-use Rattle.round_check.specs.Names.{is_input}
+use Rattle.round_check.specs.Causes.{input_name, is_typed}
 use Rattle.round_check.specs.Types.{kind_type}
 use Rattle.round_meaning.specs.Meaning.{Env, bind, find_var}
-use Rattle.round_meaning.specs.Turn.{begins, bind_input, initial, input_name, name_by, node_env}
+use Rattle.round_meaning.specs.Turn.{begins, initial, node_env}
 use Rattle.round_meaning.specs.Typed.{Fits, HasType, IsState, IsStateOf, Suits}
 use Rattle.round_meaning.proofs.Sound.{value_typed}
 
@@ -42,19 +40,7 @@ module _ (p : ProgramTree) (few : p.values ≤ 64) (y : List ℕ) (n t x i : ℕ
   begins_typed (d ∷ ds) start =
       (begin_typed d.kind (All-head (λ (v : Variable). StartsWith y v.kind) d ds start), begins_typed ds (λ k e l. start (suc k) e (omega (arith, l))))
 
-named_alike : (k : VariableKind) (x : List ℕ) (a b : Option (List ℕ)) → a ≡ b → name_by k x a ≡ cond (is_input k) (Some x) b
-named_alike Input x a b same = refl
-named_alike (State r e) x a b same = same
-
--- the two ways to find the input's name agree
-input_name-first : (ds : List Variable) → input_name ds ≡ first_input ds
-input_name-first [] = refl
-input_name-first (d ∷ ds) = named_alike d.kind d.name (input_name ds) (first_input ds) (input_name-first ds)
-
 -- what a node begins with is a state of the program
 pub start_typed : (p : ProgramTree) → is_typed p ≡ true → p.values ≤ 64 → (n t x i : ℕ) → IsStateOf p (initial p n t x i)
 start_typed p typed few n t x i =
-    let y = checked_input p in
-    let named : input_name p.variables ≡ Some y = input_name-first p.variables ∙ first_input-typed p typed in
-    subst (λ (o : Option (List ℕ)). IsState p.values p.variables (map (λ (d : Variable). begins (bind_input o x (node_env p n t 0 i)) x d.kind) p.variables)) (sym named)
-    (begins_typed p few y n t x i p.variables (starts_typed p typed))
+    begins_typed p few (input_name p) n t x i p.variables (starts_typed p typed)

@@ -7,6 +7,7 @@ use Rattle.round_lang.specs.declared.value.Value.TheVariants.{Num}
 use Rattle.round_lang.specs.Tree.{TBinary, TNumber}
 use Rattle.round_meaning.specs.Meaning.{Env, value}
 use Rattle.round_meaning.specs.Rounds.{Algorithm, inbox, rounds}
+use Rattle.round_meaning.specs.Turn.{IsInbox}
 
 -- a sum is the numbers' sum, where that isn't past the greatest number
 abbrev pub SumsAreExact : Type 0
@@ -55,3 +56,9 @@ OnlyPastCounts =
     (a : Algorithm) (o p : ℕ → ℕ → ℕ → Bool) (n i : ℕ)
     → ((r k j : ℕ) → 0 < r → r ≤ n → k < a.nodes → j < a.nodes → o k r j ≡ p k r j) → i < a.nodes
     → rounds a o n i ≡ rounds a p n i
+
+-- what a node gets in a round is an inbox, whoever is omitted and whatever the senders' states are
+abbrev pub InboxesRise : Type 0
+InboxesRise =
+    (a : Algorithm) (omitted : ℕ → Bool) (states : ℕ → List Value) (r i : ℕ)
+    → IsInbox (inbox a omitted states r i)

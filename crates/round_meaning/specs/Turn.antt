@@ -1,5 +1,5 @@
 -- What a node sends in a round, and the state that the round ends with.
-use Rattle.std.specs.Prelude.{ℕ, ⊤, ◌+◌, ◌-◌, ◌≤◌, ◌/◌, ◌%◌, List, [], ◌∷◌, map, Option, Some, None}
+use Rattle.std.specs.Prelude.{ℕ, ⊤, ◌+◌, ◌-◌, ◌≤◌, ◌/◌, ◌%◌, List, [], ◌∷◌, map, Option, None, Some}
 use Rattle.std.specs.Prelude.{if◌then◌else◌, position, slice_set, slice_get}
 use Rattle.std.specs.Str.{bytes_eq}
 use Rattle.round_lang.specs.declared.block.Assignment.{Assignment}
@@ -13,6 +13,7 @@ use Rattle.round_lang.specs.Sets.{members}
 use Rattle.round_lang.specs.Syntax.{BlockTree, ProgramTree}
 use Rattle.round_lang.specs.Tree.{Tree}
 use Rattle.round_lang.specs.Values.{flag, set}
+use Rattle.round_check.specs.Causes.{input_name}
 use Rattle.round_meaning.specs.declared.received.Received.{Received}
 use Rattle.round_meaning.specs.Meaning.{Env, bind, find_var, or_value, value}
 
@@ -96,31 +97,15 @@ abbrev pub ended : Option BlockTree → Env → List Received → List Value →
 ended None env inbox vs = vs
 ended (Some b) env inbox vs = runs env b.end (folded b env inbox vs)
 
--- a variable's name x where it is the input, else the other
-abbrev pub name_by : VariableKind → List ℕ → Option (List ℕ) → Option (List ℕ)
-name_by Input x other = Some x
-name_by (State ty e) x other = other
-
--- the name of the input
-abbrev pub input_name : List Variable → Option (List ℕ)
-input_name [] = None
-input_name (d ∷ ds) = name_by d.kind d.name (input_name ds)
-
--- the input's name stands for the input x
-abbrev pub bind_input : Option (List ℕ) → ℕ → Env → Env
-bind_input None x env = env
-bind_input (Some name) x env = bind name env x
-
 -- a variable begins as the input, or with the value of its formula
 abbrev pub begins : Env → ℕ → VariableKind → Value
 begins env x Input = Num x
 begins env x (State ty e) = value e env
 
--- the initial state of node i whose input is x: its formulas know me, n, t and the input
+-- the initial state of node i whose input is x: its formulas know me, n, t and the input's name
 abbrev pub initial : ProgramTree → ℕ → ℕ → ℕ → ℕ → List Value
 initial p n t x i =
-    map (λ (d : Variable).
-    begins (bind_input (input_name p.variables) x (node_env p n t 0 i)) x d.kind) p.variables
+    map (λ (d : Variable). begins (bind (input_name p) (node_env p n t 0 i) x) x d.kind) p.variables
 
 -- the set that the variable of the first `decide` line holds, empty where there is no such line
 abbrev pub decided : ProgramTree → List Value → List (List ℕ) → ℕ

@@ -3,9 +3,9 @@ ghost use Rattle.round_meaning.specs.Typed.{EndsAreStates, SendsAreMessages, Sta
 ghost use Rattle.round_meaning.specs.Typed.{TypedValuesFit};
 ghost use Rattle.round_meaning.specs.Agreement.{Agreement, DecisionsAreLocked, NoOtherLocks};
 ghost use Rattle.round_meaning.specs.Agreement.{Validity};
-ghost use Rattle.round_meaning.specs.Laws.{DifferencesAreExact, DifferencesStop, OnlyPastCounts};
-ghost use Rattle.round_meaning.specs.Laws.{OnlySendersCount, OnlySendersCountInRuns, SumsAreExact};
-ghost use Rattle.round_meaning.specs.Laws.{SumsStop};
+ghost use Rattle.round_meaning.specs.Laws.{DifferencesAreExact, DifferencesStop, InboxesRise};
+ghost use Rattle.round_meaning.specs.Laws.{OnlyPastCounts, OnlySendersCount};
+ghost use Rattle.round_meaning.specs.Laws.{OnlySendersCountInRuns, SumsAreExact, SumsStop};
 ghost use Rattle.round_meaning.specs.Places.{PlacesAreKept};
 ghost use Rattle.round_meaning.specs.SetMembers.{SetsAreMembers};
 
@@ -34,6 +34,12 @@ pub fn only_senders_count()
 /// A state depends on the omissions of the rounds before it alone.
 pub fn only_past_counts()
     ensures { OnlyPastCounts }
+{}
+
+/// What a node gets in a round is an inbox: of each sender one message at most, in rising order of
+/// sender.
+pub fn inboxes_rise()
+    ensures { InboxesRise }
 {}
 
 /// The value of a typed expression has its type, in every environment that fits.

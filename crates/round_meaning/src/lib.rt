@@ -18,8 +18,8 @@ pub use broadcast::is_broadcast;
 pub use env::{Env, Scope};
 pub use evaluator::eval;
 pub use laws::{
-    decisions_agree, decisions_are_locked, numbers_stop, only_past_counts, only_senders_count,
-    places_are_kept, sets_are_members, typed_values_fit, types_are_kept,
+    decisions_agree, decisions_are_locked, inboxes_rise, numbers_stop, only_past_counts,
+    only_senders_count, places_are_kept, sets_are_members, typed_values_fit, types_are_kept,
 };
 pub use nodes::NodeSet;
 pub use omissions::{Omission, OmissionTable};

@@ -151,7 +151,7 @@ fn chain<'t, 'a>(
 }
 
 #[cycle(expr)]
-#[tactic(auto, unfolding(crate::specs::Reading::comparisons, crate::specs::Reading::compared, crate::specs::Reading::operand))]
+#[tactic(auto, unfolding(crate::specs::Reading::compared, crate::specs::Reading::operand))]
 fn comparison<'t, 'a>(parser: Parser, inner: usize, tokens: &'t [Token<'a>]) -> Nested<'t, 'a>
     requires { inner < MAX_NESTING }
     ensures gives { Gives expr_found result
@@ -191,7 +191,7 @@ fn negation<'t, 'a>(parser: Parser, inner: usize, tokens: &'t [Token<'a>]) -> Ne
 }
 
 #[cycle(expr)]
-#[tactic(auto, unfolding(crate::specs::Reading::postfixes, crate::specs::Reading::postfixed, crate::specs::Reading::indexed))]
+#[tactic(auto, unfolding(crate::specs::Reading::postfixed, crate::specs::Reading::indexed))]
 fn postfix<'t, 'a>(parser: Parser, inner: usize, tokens: &'t [Token<'a>]) -> Nested<'t, 'a>
     requires { inner < MAX_NESTING }
     ensures gives { Gives expr_found result

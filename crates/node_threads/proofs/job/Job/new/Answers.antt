@@ -21,6 +21,6 @@ invariant_of-result g c =
         sized = c.requires.nodes ∙ sym (ap (λ (r : Run _). r.setup.nodes) run);
         few = c.requires.lawful.sized.few_rounds;
       };
-      together = together_first _ p c.args.program.now s c.node-2.result a c.in_ok-node.node run c.in_ok-node.ensures c.node-2.ensures within one;
+      paired = together_first _ p c.args.program.now s c.node-2.result a c.in_ok-node.node run c.in_ok-node.ensures c.node-2.ensures within one;
       place = placed_first (g.P.Plan.start p) (g.P.Plan.receives p) (g.P.Plan.nodes p) (g.met.P.Plan.laws p) s.rounds a none one;
     }

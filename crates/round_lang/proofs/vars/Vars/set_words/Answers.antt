@@ -1,5 +1,5 @@
 use Rattle.std.proofs.Common.{◌≡◌, ◌∙◌, ap, sym, subst, length, map}
-use Rattle.round_lang.specs.Words.{kind_of, IsSpelled, values_of}
+use Rattle.round_lang.specs.Words.{kind_of, IsSpelled}
 use Rattle.round_lang.proofs.Lengths.{same_length}
 use Rattle.round_lang.proofs.vars.Vars.set_words.Goals as goal
 

@@ -1,5 +1,0 @@
-use Rattle.std.proofs.Common.{length}
-use Rattle.round_lang.proofs.equal.+same_blocks.Given as goal
-
-abbrev pub decreases-same_blocks : goal.decreases-same_blocks
-decreases-same_blocks l = length l.one.now
