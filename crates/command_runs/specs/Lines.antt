@@ -10,8 +10,7 @@ use Rattle.command_runs.specs.declared.refusal.Refusal.TheVariants.{Words, File,
 use Rattle.command_runs.specs.declared.refusal.Refusal.TheVariants.{Schedule, Library}
 use Rattle.command_runs.specs.declared.refusal.Refusal.TheVariants.{NoSuchProgram, Run, Write}
 use Rattle.command_runs.specs.declared.refusal.Refusal.TheVariants.{NoMemory, NodeNoMemory}
-use Rattle.command_words.specs.declared.words.WordsFault.{WordsFault}
-use Rattle.command_words.specs.declared.words.WordsFault.TheVariants as words
+use Rattle.command_words.specs.Lines.{words_line}
 use Rattle.round_check.specs.declared.fault.CheckFault.{CheckFault}
 use Rattle.round_check.specs.declared.fault.CheckFault.TheVariants as check
 use Rattle.round_lang.specs.declared.fault.LangFault.{LangFault}
@@ -22,18 +21,6 @@ use Rattle.schedule_text.specs.declared.fault.ScheduleFault.TheVariants as sched
 -- out of memory, whatever asked for it
 abbrev pub memory_line : List ℕ
 memory_line = codes "no memory\n"
-
--- a mistake in the words; the text of one that `clap` finds is its own
-abbrev pub words_line : WordsFault → Option (List ℕ)
-words_line (words.Refused error) = None
-words_line words.Missing = Some (codes "error: a value is missing\n")
-words_line words.Source = Some (codes "error: SOURCE is a file, or `@`, a name, `:` and digits\n")
-words_line words.List =
-    Some (codes "error: LIST is numbers of 0 to 4294967295 with commas between them\n")
-words_line words.Delta = Some (codes "error: D is a number of 1 to 1024\n")
-words_line words.Gst = Some (codes "error: G is a number of 0 to 4294967295\n")
-words_line words.Ticks = Some (codes "error: T is a number of 0 to 4294967295\n")
-words_line words.NoMemory = Some memory_line
 
 -- a text that is no program, with the place of what is wrong
 abbrev pub source_line : LangFault → List ℕ

@@ -1,10 +1,9 @@
 //! Why a command was refused.
 ghost use Rattle.std.specs.Prelude.{◌≡◌, IfSome, OnOk};
 ghost use Rattle.std.specs.Io.KnownBytes.{Appends};
-ghost use Rattle.std.specs.Fmt.{DisplaysOnOk, WritesOnOk};
+ghost use Rattle.std.specs.Fmt.{WritesOnOk};
 ghost use Rattle.command_runs.specs.Lines.{check_line, library_line, line_of, memory_line};
 ghost use Rattle.command_runs.specs.Lines.{run_line, schedule_line, source_line, status_of};
-ghost use Rattle.command_runs.specs.Lines.{words_line};
 
 use crate::desk::DeskFault;
 use adversary::{RunFault, ScheduleFault};
@@ -63,7 +62,7 @@ impl fmt::Display for Refusal {
 
     fn fmt<W: fmt::Write>(&self, f: &mut fmt::Formatter<W>) -> fmt::Result {
         match self {
-            Refusal::Words(fault) => write_words(fault, f),
+            Refusal::Words(fault) => write!(f, "{fault}"),
             Refusal::File => writeln!(f, "refused file"),
             Refusal::Source(fault) => write_source(*fault, f),
             Refusal::Check(fault) => write_check(*fault, f),
@@ -81,28 +80,6 @@ fn write_no_memory<W: fmt::Write>(f: &mut fmt::Formatter<W>) -> fmt::Result
     ensures { WritesOnOk W.write_str_gives f.old result memory_line f.new }
 {
     writeln!(f, "no memory")
-}
-
-fn write_words<W: fmt::Write>(fault: &WordsFault, f: &mut fmt::Formatter<W>) -> fmt::Result
-    ensures { DisplaysOnOk W.write_str_gives f.old result (words_line fault.now) f.new }
-{
-    match fault {
-        WordsFault::Refused(error) => write!(f, "{error}"),
-        WordsFault::Missing => writeln!(f, "error: a value is missing"),
-        WordsFault::Source => {
-            writeln!(f, "error: SOURCE is a file, or `@`, a name, `:` and digits")
-        }
-        WordsFault::List => {
-            writeln!(
-                f,
-                "error: LIST is numbers of 0 to 4294967295 with commas between them"
-            )
-        }
-        WordsFault::Delta => writeln!(f, "error: D is a number of 1 to 1024"),
-        WordsFault::Gst => writeln!(f, "error: G is a number of 0 to 4294967295"),
-        WordsFault::Ticks => writeln!(f, "error: T is a number of 0 to 4294967295"),
-        WordsFault::NoMemory => write_no_memory(f),
-    }
 }
 
 fn write_source<W: fmt::Write>(fault: LangFault, f: &mut fmt::Formatter<W>) -> fmt::Result

@@ -18,6 +18,7 @@ use crate::values::{MAX_DELTA, Source, read_list, read_number, read_source};
 use clap::ArgMatches;
 use clap::error::ErrorKind;
 use std::alloc::{AllocError, AllocFailed, Global};
+use std::fmt;
 
 /// A command with its values.
 #[derive(Debug, Drop, PartialEq, Eq)]
@@ -86,6 +87,33 @@ pub enum WordsFault {
     Ticks,
     /// Memory ran out. Nothing is known of the words.
     NoMemory,
+}
+
+/// One line, which ends with a line break as `clap`'s own text does.
+impl fmt::Display for WordsFault {
+    ghost use Rattle.command_words.specs.Lines.{words_line};
+
+    ghost output = { words_line };
+
+    fn fmt<W: fmt::Write>(&self, f: &mut fmt::Formatter<W>) -> fmt::Result {
+        match self {
+            WordsFault::Refused(error) => write!(f, "{error}"),
+            WordsFault::Missing => writeln!(f, "error: a value is missing"),
+            WordsFault::Source => {
+                writeln!(f, "error: SOURCE is a file, or `@`, a name, `:` and digits")
+            }
+            WordsFault::List => {
+                writeln!(
+                    f,
+                    "error: LIST is numbers of 0 to 4294967295 with commas between them"
+                )
+            }
+            WordsFault::Delta => writeln!(f, "error: D is a number of 1 to 1024"),
+            WordsFault::Gst => writeln!(f, "error: G is a number of 0 to 4294967295"),
+            WordsFault::Ticks => writeln!(f, "error: T is a number of 0 to 4294967295"),
+            WordsFault::NoMemory => writeln!(f, "no memory"),
+        }
+    }
 }
 
 impl<T: Drop> From<AllocFailed<T>> for WordsFault {

@@ -12,17 +12,41 @@ pub(crate) trait Part {
         ensures { IsTrue result ↔ (self.now ≡ other.now) };
 }
 
-macro_rules! parts {
-    ($($part:ty),*) => {
-        $(impl Part for $part {
-            fn is_same(&self, other: &$part) -> bool {
-                self.same(other)
-            }
-        })*
-    };
+impl Part for Identifier {
+    fn is_same(&self, other: &Identifier) -> bool {
+        self.same(other)
+    }
 }
 
-parts!(Identifier, Formula, Field, Assignment, Variable, Block);
+impl Part for Formula {
+    fn is_same(&self, other: &Formula) -> bool {
+        self.same(other)
+    }
+}
+
+impl Part for Field {
+    fn is_same(&self, other: &Field) -> bool {
+        self.same(other)
+    }
+}
+
+impl Part for Assignment {
+    fn is_same(&self, other: &Assignment) -> bool {
+        self.same(other)
+    }
+}
+
+impl Part for Variable {
+    fn is_same(&self, other: &Variable) -> bool {
+        self.same(other)
+    }
+}
+
+impl Part for Block {
+    fn is_same(&self, other: &Block) -> bool {
+        self.same(other)
+    }
+}
 
 /// Whether both lists have the same items in the same order.
 pub(crate) fn same_parts<T: Part>(one: &[T], other: &[T]) -> bool

@@ -1,0 +1,18 @@
+-- The line that each mistake in the words has on standard error.
+use Rattle.std.specs.Prelude.{ℕ, List, Option, Some, None, codes}
+use Rattle.command_words.specs.declared.words.WordsFault.{WordsFault}
+use Rattle.command_words.specs.declared.words.WordsFault.TheVariants.{Refused, Missing, Source}
+use Rattle.command_words.specs.declared.words.WordsFault.TheVariants.{List as BadList, Delta, Gst}
+use Rattle.command_words.specs.declared.words.WordsFault.TheVariants.{Ticks, NoMemory}
+
+-- a mistake in the words; the text of one that `clap` finds is its own
+abbrev pub words_line : WordsFault → Option (List ℕ)
+words_line (Refused error) = None
+words_line Missing = Some (codes "error: a value is missing\n")
+words_line Source = Some (codes "error: SOURCE is a file, or `@`, a name, `:` and digits\n")
+words_line BadList =
+    Some (codes "error: LIST is numbers of 0 to 4294967295 with commas between them\n")
+words_line Delta = Some (codes "error: D is a number of 1 to 1024\n")
+words_line Gst = Some (codes "error: G is a number of 0 to 4294967295\n")
+words_line Ticks = Some (codes "error: T is a number of 0 to 4294967295\n")
+words_line NoMemory = Some (codes "no memory\n")
