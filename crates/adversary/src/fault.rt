@@ -12,7 +12,7 @@ pub enum RunFault {
     /// The first event that names what the setup doesn't have is a step of no node.
     #[error("event {0} is a step of no node")]
     UnknownNode(usize),
-    /// It is a release of no message.
+    /// It is a release, drop or copy of no message.
     #[error("event {0} names no message")]
     UnknownMessage(usize),
     #[error("out of memory")]

@@ -6,12 +6,12 @@ ghost use Rattle.schedule_text.specs.Writing.{text_of};
 
 use round_lang::NoMemory;
 use round_meaning::Setup;
-use schedule_text::write_schedule;
+use schedule_text::write_stored_schedule;
 use slot_plans::PlanKind;
 use std::alloc::Global;
-use step_book::{StoredEvent, events_of};
+use step_book::StoredEvent;
 
-/// The text of a schedule whose events are those of a trace, as by [`write_schedule`].
+/// The text of a schedule whose events are those of a trace, as by [`write_stored_schedule`].
 pub fn write_trace(
     alloc: Global,
     setup: &Setup,
@@ -23,6 +23,5 @@ pub fn write_trace(
         → length (string_bytes text) ≤ max_text
         → Says (string_bytes text) setup.now plan trace.now) }
 {
-    let events = events_of(alloc, trace)?;
-    write_schedule(alloc, setup, plan, &events)
+    write_stored_schedule(alloc, setup, plan, trace)
 }

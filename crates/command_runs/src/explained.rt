@@ -13,6 +13,7 @@ use round_lang::NoMemory;
 use round_meaning::{MAX_NODES, NodeSet, Setup};
 use slot_plans::Plan;
 use std::alloc::Global;
+use step_journal::Journal;
 use stored_events::Events;
 
 /// The report of running a schedule's events in single steps: the run explained in rounds. Where
@@ -38,10 +39,34 @@ pub fn explained_run<P: Plan>(
     ensures validity { IfOk result
         (λ report. RunsAlgorithm1 program.now setup.now → AreInputs setup.now report.rows) }
 {
+    let (report, _journal) = explained(alloc, program, setup, plan, events)?;
+    Ok(report)
+}
+
+/// The same with the journal of the run.
+pub(crate) fn explained<P: Plan>(
+    alloc: Global,
+    program: &Checked,
+    setup: &Setup,
+    plan: P,
+    events: Events,
+) -> Result<(Report, Journal<P>), RunFault>
+    requires { IsLawful program.now.values setup.now → P.nodes plan ≡ setup.now.nodes }
+    ensures bad_setup { (result ≡ Err RunFault.BadSetup)
+        ↔ (IsLawful program.now.values setup.now → ⊥) }
+    ensures cause { IfErr result (RunCause setup.now events) }
+    ensures known { IfOk result (λ _answer. All (IsKnown setup.now) events) }
+    ensures explained { IfOk result
+        (λ answer. IsReportOf (P.start plan) program.now setup.now events answer.0) }
+    ensures agreement { IfOk result
+        (λ answer. RunsAlgorithm1 program.now setup.now → AreAgreed answer.0.rows) }
+    ensures validity { IfOk result
+        (λ answer. RunsAlgorithm1 program.now setup.now → AreInputs setup.now answer.0.rows) }
+{
     let journal = run_events(alloc, program, setup, plan, events)?;
     journal.agrees();
     match explain(alloc, &journal) {
-        Ok(report) => Ok(report),
+        Ok(report) => Ok((report, journal)),
         Err(NoMemory) => Err(RunFault::NoMemory),
     }
 }

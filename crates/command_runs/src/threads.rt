@@ -27,8 +27,10 @@ use round_lang::NoMemory;
 use simdutf8::compat::from_utf8;
 use slot_plans::{Growing, Known, Plan, PlanKind};
 use std::alloc::Global;
+use std::mem;
 use std::sync::Wait;
 use std::thread::Threads;
+use step_journal::Journal;
 
 /// A source, the file of a thread setup, and the file that gets the trace.
 #[derive(Clone, Copy)]
@@ -141,7 +143,10 @@ fn run_of<R: Threads + Wait + Sync, P: Plan + Send + Sync>(
     ensures refused { IfErr result (IsNotThreadedAs program.now setup.now.setup
         setup.now.stops.items) }
 {
-    Ok(explained_threads(rt, alloc, program, setup, plan)?)
+    let (run, journal) = threaded(rt, alloc, program, setup, plan)?;
+    // The command ends with its answer: the system takes the run's memory back as a whole.
+    mem::forget(journal);
+    Ok(run)
 }
 
 /// The report and the trace of a run in which a thread for each node takes its steps, and another
@@ -168,6 +173,31 @@ pub fn explained_threads<R: Threads + Wait + Sync, P: Plan + Send + Sync>(
     ensures validity { IfOk result (λ run. RunsAlgorithm1 program.now setup.now.setup
         → AreInputs setup.now.setup run.report.rows) }
 {
+    let (run, _journal) = threaded(rt, alloc, program, setup, plan)?;
+    Ok(run)
+}
+
+/// The same with the journal of the run.
+pub(crate) fn threaded<R: Threads + Wait + Sync, P: Plan + Send + Sync>(
+    rt: &R,
+    alloc: Global,
+    program: &Checked,
+    setup: &ThreadSetup,
+    plan: P,
+) -> Result<(ThreadRun, Journal<P>), RunFault>
+    requires { P.nodes plan ≡ setup.now.setup.nodes }
+    ensures bad_setup { (result ≡ Err RunFault.BadSetup)
+        ↔ (IsFitForThreads program.now.values setup.now.setup setup.now.stops.items → ⊥) }
+    ensures cause { IfErr result (λ fault. (fault ≡ RunFault.BadSetup)
+        ⊎ IsOfThreads fault) }
+    ensures explained { IfOk result
+        (λ answer. IsRunOf (P.start plan) program.now setup.now answer.0) }
+    ensures agreement { IfOk result
+        (λ answer. RunsAlgorithm1 program.now setup.now.setup
+        → AreAgreed answer.0.report.rows) }
+    ensures validity { IfOk result (λ answer. RunsAlgorithm1 program.now setup.now.setup
+        → AreInputs setup.now.setup answer.0.report.rows) }
+{
     let numbers = &setup.setup;
     let stops = setup.stops.as_slice();
     let (journal, ends) = run_threads(
@@ -182,11 +212,12 @@ pub fn explained_threads<R: Threads + Wait + Sync, P: Plan + Send + Sync>(
         Ok(trace) => trace,
         Err(NoMemory) => return Err(RunFault::NoMemory),
     };
-    Ok(ThreadRun {
+    let run = ThreadRun {
         report,
         trace,
         whole: had_memory(&ends),
-    })
+    };
+    Ok((run, journal))
 }
 
 /// Whether no thread ended out of memory.

@@ -117,7 +117,7 @@ pub(crate) fn commit_receive<P: Plan>(
         return Err(PostFault::Stranger);
     }
     book.agrees();
-    buffer.spelt();
+    buffer.honest();
     room(&mut seat.handed)?;
     match book.receive(node) {
         Ok(()) => {}

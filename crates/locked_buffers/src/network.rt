@@ -148,7 +148,7 @@ pub(crate) fn commit_copy<P: Plan>(
     }
     room(&mut relay.events)?;
     room(&mut relay.answers)?;
-    buffer.spelt();
+    buffer.honest();
     let made = book.make_copy(name)?;
     if made {
         if let Some(frame) = frame {

@@ -17,4 +17,4 @@ pub use fault::ScheduleFault;
 pub use laws::{one_meaning, one_reading};
 pub use pace::{Pace, Stop};
 pub use reading::{MAX_TEXT, Schedule, ThreadSetup, read_header, read_schedule, read_threads};
-pub use writing::write_schedule;
+pub use writing::{write_schedule, write_stored_schedule};

@@ -16,6 +16,7 @@ use round_meaning::Setup;
 use slot_plans::PlanKind;
 use std::alloc::Global;
 use step_machine::{Event, Name};
+use stored_events::StoredEvent;
 
 /// The text of a schedule, with no comments, however long it grows. Where the setup has an input
 /// and the text isn't longer than `MAX_TEXT`, it says just this, and so is read back as the same.
@@ -44,6 +45,36 @@ fn write_events(text: &mut String, events: &[Event]) -> Result<(), NoMemory>
 {
     for event in events {
         write_event(text, *event)?;
+    }
+    Ok(())
+}
+
+/// The same for events in few bytes.
+#[tactic(auto, unfolding(crate::specs::Writing::text_of))]
+pub fn write_stored_schedule(
+    alloc: Global,
+    setup: &Setup,
+    plan: PlanKind,
+    events: &[StoredEvent],
+) -> Result<String, NoMemory>
+    ensures spelled { IfOk result (λ text. string_bytes text ≡ text_of setup.now plan events.now) }
+    ensures read_back { IfOk result (λ text. 0 < length setup.now.inputs
+        → length (string_bytes text) ≤ max_text
+        → Says (string_bytes text) setup.now plan events.now) }
+{
+    let mut text = String::new(alloc);
+    write_header(&mut text, setup, plan)?;
+    write_stored_events(&mut text, events)?;
+    Ok(text)
+}
+
+fn write_stored_events(text: &mut String, events: &[StoredEvent]) -> Result<(), NoMemory>
+    ensures spelled { OnOk result (string_bytes text.new
+        ≡ string_bytes text.old ++ flat_map (λ e. line_text (event_line e)) events.now) }
+    ensures small { OnOk result (All IsSmallEvent events.now) }
+{
+    for event in events {
+        write_event(text, event.event())?;
     }
     Ok(())
 }

@@ -5,7 +5,7 @@ use Rattle.round_lang.specs.Syntax.{ProgramTree}
 use Rattle.round_meaning.specs.Rounds.{Algorithm, algorithm_of}
 use Rattle.round_meaning.specs.declared.setup.Setup.{Setup}
 use Rattle.step_machine.specs.declared.event.Name.{Name}
-use Rattle.step_machine.specs.Sealed.{Frame, Spells, max_copy}
+use Rattle.step_machine.specs.Sealed.{Frame, IsHonest, max_copy}
 use Rattle.step_book.specs.Agreement.{Row, row}
 use Rattle.step_book.specs.Tables.{read_at}
 
@@ -19,10 +19,10 @@ pub record BufferView : Type 0 where
   pub spare : ℕ
 
 -- each frame says what the state that it names sends
-pub record AreSpelt (a : Algorithm) (flying : List (List (Option Frame)))
+pub record AreHonest (a : Algorithm) (flying : List (List (Option Frame)))
     (waiting : List Frame) : Type 0 where
-  pub flies : (round place : ℕ) → IfSome (read_at None flying round place) (Spells a)
-  pub waits : All (Spells a) waiting
+  pub flies : (round place : ℕ) → IfSome (read_at None flying round place) (IsHonest a)
+  pub waits : All (IsHonest a) waiting
 
 -- the algorithm of a buffer's run
 abbrev pub run_of : BufferView → Algorithm
@@ -43,7 +43,7 @@ names_in fs = map (λ f. f.name) fs
 
 -- the frame is of the recorded state of its sender, and says what that state sends
 pub record IsGenuine (a : Algorithm) (rows : List Row) (f : Frame) : Type 0 where
-  pub spells : Spells a f
+  pub spells : IsHonest a f
   pub copy : f.name.copy ≤ max_copy
   pub first : 0 < f.name.round
   pub past : f.name.round ≤ length (row rows f.name.from)
@@ -54,4 +54,4 @@ pub record IsMail (a : Algorithm) (n i : ℕ) (f : Frame) : Type 0 where
   pub from : f.name.from < n
   pub copy : f.name.copy ≤ max_copy
   pub to : f.name.to ≡ i
-  pub spells : Spells a f
+  pub spells : IsHonest a f

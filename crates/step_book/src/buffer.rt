@@ -1,8 +1,8 @@
 //! The frames of one node.
 ghost use Rattle.std.specs.Prelude.{◌≡◌, ◌<◌, ◌++◌, [], IfOk, MatchOption, OnOk, None, Some};
 ghost use Rattle.std.specs.Prelude.{option_to_list, vec_len};
-ghost use Rattle.step_machine.specs.Sealed.{Spells};
-ghost use Rattle.step_book.specs.Buffers.{AreSpelt, IsSameRun, flying_at, run_of};
+ghost use Rattle.step_machine.specs.Sealed.{IsHonest};
+ghost use Rattle.step_book.specs.Buffers.{AreHonest, IsSameRun, flying_at, run_of};
 ghost use Rattle.step_book.specs.Tables.{HasPlace, Puts, SameTables};
 
 use crate::round_frames::RoundFrames;
@@ -34,8 +34,8 @@ impl Model for Buffer {
     ghost use Rattle.round_lang.specs.contracts.formula.Formula as formula;
     ghost use Rattle.round_meaning.specs.Rounds.{algorithm_of};
     ghost use Rattle.std.specs.Coded.{codes};
-    ghost use Rattle.step_machine.specs.Sealed.{Spells};
-    ghost use Rattle.step_book.specs.Buffers.{AreSpelt, BufferView};
+    ghost use Rattle.step_machine.specs.Sealed.{IsHonest};
+    ghost use Rattle.step_book.specs.Buffers.{AreHonest, BufferView};
 
     ghost Value = { BufferView };
 
@@ -49,7 +49,7 @@ impl Model for Buffer {
       spare = vec_capacity s.waiting - vec_len s.waiting;
     } };
 
-    ghost invariant = { λ s. AreSpelt (algorithm_of s.program s.setup) s.flying.items
+    ghost invariant = { λ s. AreHonest (algorithm_of s.program s.setup) s.flying.items
         s.waiting.items };
 }
 
@@ -85,8 +85,8 @@ impl Buffer {
     }
 
     /// Nothing at run time: each frame says what the state that it names sends.
-    pub fn spelt(&self)
-        ensures { AreSpelt (run_of self.now) self.now.flying self.now.waiting }
+    pub fn honest(&self)
+        ensures { AreHonest (run_of self.now) self.now.flying self.now.waiting }
     {
         let _waiting = &self.waiting;
     }
@@ -143,7 +143,7 @@ impl Buffer {
     #[inline(always)]
     pub fn put(&mut self, round: u32, place: usize, frame: Sealed)
         requires place { HasPlace self.old.flying round place }
-        requires spelt { Spells (run_of self.old) frame }
+        requires honest { IsHonest (run_of self.old) frame }
         ensures flying { Puts None self.old.flying self.new.flying round place (Some frame) }
         ensures waiting { self.new.waiting ≡ self.old.waiting }
         ensures run { IsSameRun self.old self.new }

@@ -15,7 +15,7 @@ use Rattle.round_meaning.specs.Rounds.{Algorithm, algorithm_of}
 use Rattle.step_machine.specs.declared.event.Event.{Event}
 use Rattle.step_machine.specs.declared.event.Event.TheVariants.{Step, Release, Drop, Copy}
 use Rattle.step_machine.specs.declared.event.Name.{Name}
-use Rattle.step_machine.specs.Sealed.{Frame, Ready, IsPrepared, Spells, copied_as, frame_of}
+use Rattle.step_machine.specs.Sealed.{Frame, Ready, IsPrepared, IsHonest, copied_as, frame_of}
 use Rattle.step_machine.specs.Sealed.{original}
 use Rattle.step_machine.specs.Nodes.{NodeView}
 use Rattle.step_book.specs.declared.mark.Mark.{Mark}
@@ -452,28 +452,28 @@ module _ {start : ℕ → ℕ} {v : Log} {bs : List BufferView} (f : Fits start 
       (mark ∙ ap (λ (b : Bool). if b then Flying else mark_in start v n) now) marks waits
 
 -- the frame of prepared work says what its state sends
-pub prepared_spells : (a : Algorithm) (p : Ready) (o : Option Frame) (frame : Frame) → IsPrepared a p → o ≡ frame_of p → o ≡ Some frame → Spells a frame
+pub prepared_spells : (a : Algorithm) (p : Ready) (o : Option Frame) (frame : Frame) → IsPrepared a p → o ≡ frame_of p → o ≡ Some frame → IsHonest a frame
 prepared_spells a p o frame work is some =
     let made = frame_made p frame (sym is ∙ some) in
-    subst (Spells a) (sym made.2) (record { says = work.says ∙ made.1; types = work.types })
+    subst (IsHonest a) (sym made.2) (record { says = work.says ∙ made.1; types = work.types })
 
--- what is spelt in a run is so in a buffer of it
-pub spells_of_run : (p : ProgramTree) (s : Setup) (b : BufferView) (frame : Frame) → IsOfRun p s b → Spells (algorithm_of p s) frame → Spells (run_of b) frame
+-- what is honest in a run is so in a buffer of it
+pub spells_of_run : (p : ProgramTree) (s : Setup) (b : BufferView) (frame : Frame) → IsOfRun p s b → IsHonest (algorithm_of p s) frame → IsHonest (run_of b) frame
 spells_of_run p s b frame of said =
-    subst (λ x. Spells (algorithm_of x b.setup) frame) (sym of.program)
-    (subst (λ x. Spells (algorithm_of p x) frame) (sym of.setup) said)
+    subst (λ x. IsHonest (algorithm_of x b.setup) frame) (sym of.program)
+    (subst (λ x. IsHonest (algorithm_of p x) frame) (sym of.setup) said)
 
 pub run_spells : {start : ℕ → ℕ} {v : Log} {bs : List BufferView} → Fits start v bs → (k : ℕ) (b : BufferView) (frame : Frame)
-    → k < v.setup.nodes → b ≡ get_or bs k b → Spells (algorithm_of v.program v.setup) frame → Spells (run_of b) frame
+    → k < v.setup.nodes → b ≡ get_or bs k b → IsHonest (algorithm_of v.program v.setup) frame → IsHonest (run_of b) frame
 run_spells {start} {v} {bs} f k b frame l h said =
     spells_of_run v.program v.setup b frame (subst (IsOfRun v.program v.setup) (sym h) (f.runs k b (let s = f.sized in omega arith))) said
 
 -- also where room was made in it
 pub run_spells_kept : {start : ℕ → ℕ} {v : Log} {bs : List BufferView} → Fits start v bs → (k : ℕ) (b0 b1 b2 : BufferView) (frame : Frame)
     → k < v.setup.nodes → b0 ≡ get_or bs k b0 → IsSameRun b0 b1 → b2 ≡ get_or (set bs k b1) k b2
-    → Spells (algorithm_of v.program v.setup) frame → Spells (run_of b2) frame
+    → IsHonest (algorithm_of v.program v.setup) frame → IsHonest (run_of b2) frame
 run_spells_kept {start} {v} {bs} f k b0 b1 b2 frame l h r h2 said =
     let is : b2 ≡ b1 = h2 ∙ get_or-set_same bs k b1 b2 (let s = f.sized in omega arith) in
     let was = run_spells f k b0 frame l h said in
-    subst (λ (b : BufferView). Spells (run_of b) frame) (sym is)
+    subst (λ (b : BufferView). IsHonest (run_of b) frame) (sym is)
     (spells_of_run b0.program b0.setup b1 frame (record { program = r.program; setup = r.setup }) was)

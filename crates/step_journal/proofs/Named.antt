@@ -9,13 +9,13 @@ use Rattle.round_lang.specs.Syntax.{ProgramTree}
 use Rattle.round_meaning.specs.Rounds.{Algorithm, algorithm_of}
 use Rattle.round_meaning.specs.declared.setup.Setup.{Setup}
 use Rattle.step_machine.specs.declared.event.Name.{Name}
-use Rattle.step_machine.specs.Sealed.{Frame, Spells}
+use Rattle.step_machine.specs.Sealed.{Frame, IsHonest}
 use Rattle.step_book.specs.declared.mark.Mark.{Mark}
 use Rattle.step_book.specs.declared.mark.Mark.TheVariants.{Unsent, Silent, Flying, Released, Lost}
 use Rattle.step_book.specs.Agreement.{Row, row}
 use Rattle.step_book.specs.Log.{IsFaithful, Log, mark_in}
 use Rattle.step_book.specs.Names.{IsName}
-use Rattle.step_book.specs.Buffers.{AreSpelt, IsGenuine, BufferView, flying_at, names_in, run_of}
+use Rattle.step_book.specs.Buffers.{AreHonest, IsGenuine, BufferView, flying_at, names_in, run_of}
 use Rattle.step_journal.specs.Fits.{Fits, Flies, IsOfRun, no_buffer, place_among, buffer_at}
 use Rattle.step_journal.specs.Fitting.{AreNamed, FitsNode, FliesAs, HoldsAt, IsRecorded, named}
 use Rattle.step_journal.proofs.BufferViews.{buffer_read}
@@ -23,7 +23,7 @@ use Rattle.step_journal.proofs.BufferViews.{buffer_read}
 recorded : (a : Algorithm) (rows : List Row) (f : Frame) → IsGenuine a rows f → IsRecorded rows f
 recorded a rows f h = record { copy = h.copy; first = h.first; past = h.past; own = h.own }
 
-genuine : (a : Algorithm) (rows : List Row) (f : Frame) → Spells a f → IsRecorded rows f → IsGenuine a rows f
+genuine : (a : Algorithm) (rows : List Row) (f : Frame) → IsHonest a f → IsRecorded rows f → IsGenuine a rows f
 genuine a rows f said h = record { spells = said; copy = h.copy; first = h.first; past = h.past; own = h.own }
 
 -- a sender that isn't one of the run's has no states
@@ -42,7 +42,7 @@ some_recorded : (a : Algorithm) (rows : List Row) (n : Name) (o : Option Frame)
 some_recorded a rows n None h = h
 some_recorded a rows n (Some f) h = (h.0, recorded a rows f h.1)
 
-some_genuine : (a : Algorithm) (rows : List Row) (n : Name) (o : Option Frame) → IfSome o (Spells a)
+some_genuine : (a : Algorithm) (rows : List Row) (n : Name) (o : Option Frame) → IfSome o (IsHonest a)
     → IsSomeAnd o (λ f. (f.name ≡ n) × IsRecorded rows f) → IsSomeAnd o (λ f. (f.name ≡ n) × IsGenuine a rows f)
 some_genuine a rows n None said h = h
 some_genuine a rows n (Some f) said h = (h.0, genuine a rows f said h.1)
@@ -57,7 +57,7 @@ flies_holds a rows n Silent o h = none_flies rows n Silent o (λ e. absurd (cc))
 flies_holds a rows n (Released x) o h = none_flies rows n (Released x) o (λ e. absurd (cc)) h
 flies_holds a rows n Lost o h = none_flies rows n Lost o (λ e. absurd (cc)) h
 
-holds_flies : (a : Algorithm) (rows : List Row) (n : Name) (m : Mark) (o : Option Frame) → IfSome o (Spells a) → HoldsAt rows n m o → Flies a rows n m o
+holds_flies : (a : Algorithm) (rows : List Row) (n : Name) (m : Mark) (o : Option Frame) → IfSome o (IsHonest a) → HoldsAt rows n m o → Flies a rows n m o
 holds_flies a rows n Flying o said h = some_genuine a rows n o said (h.flies refl)
 holds_flies a rows n Unsent o said h = h.stays (λ e. absurd (cc))
 holds_flies a rows n Silent o said h = h.stays (λ e. absurd (cc))
@@ -137,33 +137,33 @@ fits_at start v bs i b l h f =
 -- the nodes' buffers up to one fit
 abbrev pub FitTo : (ℕ → ℕ) → Log → List BufferView → ℕ → Type 0
 FitTo start v bs n =
-    (i : ℕ) → i < n → FitsNode start v i (buffer_at bs i) × AreSpelt (run_of (buffer_at bs i)) (buffer_at bs i).flying (buffer_at bs i).waiting
+    (i : ℕ) → i < n → FitsNode start v i (buffer_at bs i) × AreHonest (run_of (buffer_at bs i)) (buffer_at bs i).flying (buffer_at bs i).waiting
 
 pub fit_none : (start : ℕ → ℕ) (v : Log) (bs : List BufferView) → FitTo start v bs 0
 fit_none start v bs = λ i l. absurd (omega arith)
 
 pub fit_more : (start : ℕ → ℕ) (v : Log) (bs : List BufferView) (n : ℕ) (b : BufferView) → n < length bs → b ≡ get_or bs n b
-    → FitsNode start v n b → AreSpelt (run_of b) b.flying b.waiting → FitTo start v bs n → FitTo start v bs (n + 1)
+    → FitsNode start v n b → AreHonest (run_of b) b.flying b.waiting → FitTo start v bs n → FitTo start v bs (n + 1)
 fit_more start v bs n b l h here said before = λ i m. each i m (cases_lt i n)
   where
     was : buffer_at bs n ≡ b
     was = buffer_read bs n b l h
 
-    each : (i : ℕ) → i < n + 1 → (i < n) ⊎ (n ≤ i) → FitsNode start v i (buffer_at bs i) × AreSpelt (run_of (buffer_at bs i)) (buffer_at bs i).flying (buffer_at bs i).waiting
+    each : (i : ℕ) → i < n + 1 → (i < n) ⊎ (n ≤ i) → FitsNode start v i (buffer_at bs i) × AreHonest (run_of (buffer_at bs i)) (buffer_at bs i).flying (buffer_at bs i).waiting
     each i m (inl low) = before i low
     each i m (inr high) =
         let is : n ≡ i = omega arith in
-        subst (λ k. FitsNode start v k (buffer_at bs k) × AreSpelt (run_of (buffer_at bs k)) (buffer_at bs k).flying (buffer_at bs k).waiting) is
-        (subst (λ (x : BufferView). FitsNode start v n x × AreSpelt (run_of x) x.flying x.waiting) (sym was) (here, said))
+        subst (λ k. FitsNode start v k (buffer_at bs k) × AreHonest (run_of (buffer_at bs k)) (buffer_at bs k).flying (buffer_at bs k).waiting) is
+        (subst (λ (x : BufferView). FitsNode start v n x × AreHonest (run_of x) x.flying x.waiting) (sym was) (here, said))
 
--- what is spelt in a buffer of the run is spelt in the run
-spelt_in : {p : ProgramTree} {s : Setup} (b : BufferView) (o : Option Frame) → b.program ≡ p → b.setup ≡ s → IfSome o (Spells (run_of b)) → IfSome o (Spells (algorithm_of p s))
+-- what is honest in a buffer of the run is honest in the run
+spelt_in : {p : ProgramTree} {s : Setup} (b : BufferView) (o : Option Frame) → b.program ≡ p → b.setup ≡ s → IfSome o (IsHonest (run_of b)) → IfSome o (IsHonest (algorithm_of p s))
 spelt_in {p} {s} b o program setup h =
-    subst (λ q. IfSome o (Spells (algorithm_of q s))) program (subst (λ t. IfSome o (Spells (algorithm_of b.program t))) setup h)
+    subst (λ q. IfSome o (IsHonest (algorithm_of q s))) program (subst (λ t. IfSome o (IsHonest (algorithm_of b.program t))) setup h)
 
-spelt_all : {p : ProgramTree} {s : Setup} (b : BufferView) (fs : List Frame) → b.program ≡ p → b.setup ≡ s → All (Spells (run_of b)) fs → All (Spells (algorithm_of p s)) fs
+spelt_all : {p : ProgramTree} {s : Setup} (b : BufferView) (fs : List Frame) → b.program ≡ p → b.setup ≡ s → All (IsHonest (run_of b)) fs → All (IsHonest (algorithm_of p s)) fs
 spelt_all {p} {s} b fs program setup h =
-    subst (λ q. All (Spells (algorithm_of q s)) fs) program (subst (λ t. All (Spells (algorithm_of b.program t)) fs) setup h)
+    subst (λ q. All (IsHonest (algorithm_of q s)) fs) program (subst (λ t. All (IsHonest (algorithm_of b.program t)) fs) setup h)
 
 pub fit_all : (start : ℕ → ℕ) (v : Log) (bs : List BufferView) → length bs ≡ v.setup.nodes → FitTo start v bs v.setup.nodes → Fits start v bs
 fit_all start v bs sized all =

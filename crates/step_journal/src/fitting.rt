@@ -20,7 +20,7 @@ pub(crate) fn fits<P: Plan>(book: &Book<P>, buffers: &[Buffer]) -> bool
     }
     for node in 0..nodes {
         let buffer = &buffers[node as usize];
-        buffer.spelt();
+        buffer.honest();
         if !fits_node(book, node, buffer) {
             return false;
         }

@@ -16,7 +16,7 @@ use Rattle.round_lang.specs.Syntax.{ProgramTree}
 use Rattle.round_meaning.specs.declared.setup.Setup.{Setup}
 use Rattle.round_meaning.specs.Rounds.{Algorithm, algorithm_of}
 use Rattle.round_meaning.specs.Typed.{IsInboxOf, IsMessageOf}
-use Rattle.step_machine.specs.Sealed.{Frame, HeldRow, KeepsTypes, Spells, held_at}
+use Rattle.step_machine.specs.Sealed.{Frame, HeldRow, KeepsTypes, IsHonest, held_at}
 use Rattle.step_machine.specs.Nodes.{AreHeld, HasPlaces, IsFrom, IsHeld, ahead, inbox_of}
 use Rattle.step_machine.specs.Reading.{AreOfRound, MayBeOfRound}
 use Rattle.step_machine.proofs.Typing.{message_of_round, sends_typed}
@@ -179,7 +179,7 @@ inbox_held a n i r held size h =
 -- ---- what is sent has its types
 
 -- the message of a frame is one of its round's
-pub typed_frame : (a : Algorithm) (f : Frame) → Spells a f → (p : ProgramTree) (s : Setup) → KeepsTypes p → a ≡ algorithm_of p s → IsMessageOf p f.name.round f.message
+pub typed_frame : (a : Algorithm) (f : Frame) → IsHonest a f → (p : ProgramTree) (s : Setup) → KeepsTypes p → a ≡ algorithm_of p s → IsMessageOf p f.name.round f.message
 typed_frame a f h p s keeps same =
     subst (λ (o : Option (List Value)). IfSome o (IsMessageOf p f.name.round)) h.says
     (sends_typed a p s keeps same f.name.round f.state f.name.from f.name.to h.types)

@@ -9,7 +9,7 @@ use Rattle.round_meaning.specs.declared.received.Received.{Received}
 use Rattle.round_meaning.specs.declared.setup.Setup.{Setup}
 use Rattle.round_meaning.specs.Rounds.{Algorithm, algorithm_of}
 use Rattle.frame_format.specs.Formats.{Format, format_of}
-use Rattle.step_machine.specs.Sealed.{Frame, HeldRow, Spells, held_at}
+use Rattle.step_machine.specs.Sealed.{Frame, HeldRow, IsHonest, held_at}
 
 -- how many rounds ahead of its round a node keeps frames
 abbrev pub ahead : ℕ
@@ -56,7 +56,7 @@ pub record IsFrom (a : Algorithm) (j i r : ℕ) (f : Frame) : Type 0 where
   pub from : f.name.from ≡ j
   pub to : f.name.to ≡ i
   pub round : f.name.round ≡ r
-  pub spells : Spells a f
+  pub spells : IsHonest a f
 
 -- each frame held is of its sender and of the round, to the node, and says what its state sends
 pub record IsHeld (a : Algorithm) (n i r : ℕ) (held : HeldRow) : Type 0 where

@@ -52,7 +52,7 @@ HasStateTypes a vs =
     (p : ProgramTree) (s : Setup) → KeepsTypes p → a ≡ algorithm_of p s → IsStateOf p vs
 
 -- the frame says what the state that it names sends, which has the types of the algorithm's states
-pub record Spells (a : Algorithm) (f : Frame) : Type 0 where
+pub record IsHonest (a : Algorithm) (f : Frame) : Type 0 where
   pub says : sent_under a f.name f.state ≡ Some f.message
   pub types : HasStateTypes a f.state
 

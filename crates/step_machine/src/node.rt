@@ -6,7 +6,7 @@ ghost use Rattle.std.specs.Prelude.{replicate};
 ghost use Rattle.std.specs.Option.{ForSome};
 ghost use Rattle.round_meaning.specs.Rounds.{algorithm_of};
 ghost use Rattle.round_meaning.specs.Setups.{IsSetup};
-ghost use Rattle.step_machine.specs.Sealed.{IsPrepared, Spells};
+ghost use Rattle.step_machine.specs.Sealed.{IsPrepared, IsHonest};
 ghost use Rattle.step_machine.specs.Nodes.{HasSettled, IsDoubled, IsEnd, IsSameTurn, ahead};
 ghost use Rattle.step_machine.specs.Nodes.{algorithm_in, format_in, held_with, sent_to};
 ghost use Rattle.step_machine.specs.NodeInside.{IsOrigin};
@@ -218,7 +218,7 @@ impl Node {
     pub fn take(&mut self, frame: Sealed) -> Taken
         requires from { frame.name.from < self.old.setup.nodes }
         requires to { frame.name.to ≡ self.old.me }
-        requires spells { Spells (algorithm_in self.old) frame }
+        requires spells { IsHonest (algorithm_in self.old) frame }
         ensures late { (result ≡ Taken.Late) ↔ (frame.name.round < self.old.round) }
         ensures early { (result ≡ Taken.Early) ↔ (self.old.round + ahead < frame.name.round) }
         ensures doubled { (result ≡ Taken.Doubled) ↔ IsDoubled self.old frame }

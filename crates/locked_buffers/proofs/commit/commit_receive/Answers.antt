@@ -13,4 +13,4 @@ returns-clause-mail g c =
     subst (λ (a : Account). All (IsMail (algorithm_by run) run.setup.nodes a.node) frames) c.seat.view_is
     (mail_waits g.P.Plan.start run c.args.book.now c.args.buffer.now c.seat.inside.node frames c.waiting.result.now c.waiting-else-not-has_book.result.now
     (c.has_book.ensures.0 c.if-not-has_book.false) c.requires.of_run (c.are_named.ensures.0 c.if-not-are_named.false)
-    c.waiting.ensures c.waiting-else-not-has_book.ensures.value c.spelt.ensures c.agrees.ensures.faithful c.take-frames.ensures.taken)
+    c.waiting.ensures c.waiting-else-not-has_book.ensures.value c.honest.ensures c.agrees.ensures.faithful c.take-frames.ensures.taken)

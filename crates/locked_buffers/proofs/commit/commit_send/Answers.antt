@@ -4,8 +4,8 @@ use Rattle.std.proofs.Common.{rules}
 use Rattle.locked_buffers.proofs.commit.commit_send.Goals as goal
 use Rattle.locked_buffers.proofs.commit.commit_send.Goals.{in-Some-into_sealed, in_default}
 
-pub put-requires-clause-spelt : goal.put-requires-clause-spelt
-put-requires-clause-spelt g c =
+pub put-requires-clause-honest : goal.put-requires-clause-honest
+put-requires-clause-honest g c =
     let run = c.args.run.now in
     let said = prepared_spells (algorithm_by run) c.args.prepared c.into_sealed.result c.in-Some-into_sealed.frame c.requires.work c.into_sealed.ensures c.in-Some-into_sealed.is in
     spells_of_run run.program run.setup c.args.buffer.now c.in-Some-into_sealed.frame c.requires.of_run said

@@ -5,8 +5,8 @@ use Rattle.step_journal.specs.Fits.{place_among}
 use Rattle.locked_buffers.proofs.Copies.{spelt_made}
 use Rattle.locked_buffers.proofs.network.commit_copy.Goals as goal
 
-pub put-requires-clause-spelt : goal.put-requires-clause-spelt
-put-requires-clause-spelt g c =
+pub put-requires-clause-honest : goal.put-requires-clause-honest
+put-requires-clause-honest g c =
     let same : IsSameRun c.args.buffer.now c.args.buffer.now = record { program = refl; setup = refl } in
     spelt_made c.args.buffer.now c.args.buffer.now c.args.name.copy c.args.name.round (place_among c.args.run.now.setup.nodes (original c.args.name)) c.args.frame c.in-Some.frame
-    c.spelt.ensures c.requires.copied c.in-Some.is same
+    c.honest.ensures c.requires.copied c.in-Some.is same

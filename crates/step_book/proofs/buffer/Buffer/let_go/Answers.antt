@@ -3,7 +3,7 @@ use Rattle.std.specs.Prelude.{All, IfSome}
 use Rattle.std.proofs.lemmas.List.{get_or_default}
 use Rattle.std.proofs.lemmas.List.Elements.{All-push}
 use Rattle.round_meaning.specs.Rounds.{algorithm_of}
-use Rattle.step_machine.specs.Sealed.{Spells}
+use Rattle.step_machine.specs.Sealed.{IsHonest}
 use Rattle.step_book.specs.Buffers.{BufferView}
 use Rattle.step_book.specs.Tables.{HasPlace}
 use Rattle.step_book.proofs.Tables.{puts_table}
@@ -12,7 +12,7 @@ use Rattle.step_book.proofs.buffer.Buffer.let_go.Goals as goal
 
 pub invariant_of-self : goal.invariant_of-self
 invariant_of-self c =
-    let says = Spells (algorithm_of c.self.inside.program c.self.inside.setup) in
+    let says = IsHonest (algorithm_of c.self.inside.program c.self.inside.setup) in
     let rounds = c.self.inside.flying.items in
     let frames = c.index_mut.result.now in
     let there = subst (λ (b : BufferView). HasPlace b.flying c.args.round c.args.place) (sym c.self.view_is) c.requires.place in

@@ -1,7 +1,7 @@
 use Rattle.std.proofs.Common.{◌≡◌, Option, ap, subst, sym, ◌∙◌}
 use Rattle.std.specs.Prelude.{IfSome, IsSome}
 use Rattle.round_meaning.specs.Rounds.{algorithm_of}
-use Rattle.step_machine.specs.Sealed.{Frame, Spells, original}
+use Rattle.step_machine.specs.Sealed.{Frame, IsHonest, original}
 use Rattle.step_book.specs.Log.{IsFlying, Recorded, SameMarksBut, SameWaiting, mark_in}
 use Rattle.step_book.specs.Buffers.{IsGenuine}
 use Rattle.step_journal.proofs.BufferViews.{fits_kept, fits_made, fits_not_made, fits_view, name_view}
@@ -71,14 +71,14 @@ invariant_of-self-in_err-made-2 g c =
     (fits_kept c.self.invariant c.args.name.to c.index_mut-buffer.result.now c.reserve_flying.new.self a.to c.index_mut-buffer.ensures.value c.reserve_flying.ensures.run
     c.in_ok-reserve_flying.ensures.flying c.in_ok-reserve_flying.ensures.waiting)
 
-pub put-requires-clause-spelt : goal.put-requires-clause-spelt
-put-requires-clause-spelt g c =
+pub put-requires-clause-honest : goal.put-requires-clause-honest
+put-requires-clause-honest g c =
     let n = c.args.name in
     let a = name_view n c.self.view_is c.requires.name in
     let genuine = subst (λ (o : Option Frame). IfSome o (λ frame. IsGenuine (algorithm_of c.args.self.now.log.program c.args.self.now.log.setup) c.args.self.now.log.rows frame)) c.in-Some.is c.in_ok-frame.ensures.genuine in
     run_spells_kept c.self.invariant n.to c.index_mut-buffer.result.now c.reserve_flying.new.self c.index_mut-buffer-then-made.result.now c.in-Some.frame
     a.to c.index_mut-buffer.ensures.value c.reserve_flying.ensures.run c.index_mut-buffer-then-made.ensures.value
-    (subst (λ (z : Recorded _). Spells (algorithm_of z.log.program z.log.setup) c.in-Some.frame) (sym c.self.view_is) genuine.spells)
+    (subst (λ (z : Recorded _). IsHonest (algorithm_of z.log.program z.log.setup) c.in-Some.frame) (sym c.self.view_is) genuine.spells)
 
 pub returns-then-made-clause-marks : goal.returns-then-made-clause-marks
 returns-then-made-clause-marks g c =

@@ -61,8 +61,8 @@ pub returns-in-None-clause-marks : goal.returns-in-None-clause-marks
 returns-in-None-clause-marks g c =
     subst (λ (z : Recorded _). SameMarksBut (g.P.Plan.start z.plan) c.args.prepared.name z.log c.record_send.new.self.log) c.self.view_is c.in-Ok-record_send.ensures.marks
 
-pub put-requires-clause-spelt : goal.put-requires-clause-spelt
-put-requires-clause-spelt g c =
+pub put-requires-clause-honest : goal.put-requires-clause-honest
+put-requires-clause-honest g c =
     let s = c.self.inside.book in
     let p = c.args.prepared in
     let a = name_view p.name c.self.view_is c.requires.name in

@@ -2,7 +2,7 @@ use Rattle.std.proofs.Common.{◌≡◌, ◌+◌, ◌-◌, ◌<◌, ◌≤◌, S
 use Rattle.std.proofs.Common.{length, sym, subst}
 use Rattle.std.proofs.lemmas.List.{get_or_read_under}
 use Rattle.step_machine.specs.declared.event.Name.{Name}
-use Rattle.step_machine.specs.Sealed.{HeldRow, Spells}
+use Rattle.step_machine.specs.Sealed.{HeldRow, IsHonest}
 use Rattle.step_machine.specs.Nodes.{AreHeld, IsFrom, NodeView, ahead, algorithm_in}
 use Rattle.step_machine.specs.NodeInside.{node_seen}
 use Rattle.step_machine.proofs.HeldFrames.{one_row}
@@ -41,7 +41,7 @@ invariant_of-self-2 c =
       from = sym from;
       to = c.requires.to ∙ sym (ap (λ (n : NodeView). n.me) seen);
       round = omega (arith, round, begun);
-      spells = subst (λ (n : NodeView). Spells (algorithm_in n) c.args.frame) (sym seen) c.requires.spells;
+      spells = subst (λ (n : NodeView). IsHonest (algorithm_in n) c.args.frame) (sym seen) c.requires.spells;
     } in
     let rows = c.self.invariant.held.places.rows in
     let there : c.index_mut-held.result.now ≡ get_or c.self.inside.held.items row [] = get_or_read_under c.self.inside.held.items row _ _ _ c.index_mut-held.ensures.value (omega (arith, rows, near)) refl in
