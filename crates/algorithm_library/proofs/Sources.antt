@@ -54,7 +54,7 @@ reads : (k : ℕ)
     → ((scanned 400 gather_rest >>= behind_count k) ≡ Some (gather_tree k))
     × ((scanned 600 count_votes_rest >>= behind_count k) ≡ Some (count_votes_tree k))
     × ((scanned 2000 dls1_rest >>= behind_count k) ≡ Some (dls1 k))
-unfolding step symbol_step short_symbol long_symbol keyword frame_word choice_word type_word operator_word constant_word call_word same_mark reading.after reading.after_equal reading.name_at reading.type_at reading.value_within reading.number_at reading.begins_with reading.begins_name reading.same_level reading.operator_at reading.operand reading.chain reading.chained reading.compared reading.negated reading.closed reading.indexed reading.postfixed reading.called reading.has reading.brackets reading.comprehension reading.atom reading.choice reading.chosen reading.postfixes reading.products reading.sums reading.comparisons reading.negations reading.conjunctions reading.disjunctions reading.parse reading.formula parts.counted_name parts.many parts.listed parts.state parts.input parts.decide parts.begins_declaration parts.declaration parts.declarations parts.declared parts.assignment parts.assignments parts.field parts.fields parts.sent parts.head parts.sending parts.on_message parts.ending parts.block parts.blocks
+unfolding step symbol_step short_symbol long_symbol keyword frame_word choice_word type_word operator_word constant_word call_word same_mark reading.after reading.after_equal reading.name_at reading.type_at reading.value_within reading.number_at reading.begins_with reading.begins_name reading.same_level reading.operator_at reading.operand reading.chain reading.chained reading.compared reading.negated reading.closed reading.indexed reading.postfixed reading.called reading.has reading.brackets reading.comprehension reading.atom reading.choice reading.chosen reading.products reading.sums reading.negations reading.conjunctions reading.disjunctions reading.parse reading.formula parts.counted_name parts.many parts.listed parts.state parts.input parts.decide parts.begins_declaration parts.declaration parts.declarations parts.declared parts.assignment parts.assignments parts.field parts.fields parts.sent parts.head parts.sending parts.on_message parts.ending parts.block parts.blocks
 reads k = (refl, refl, refl)
 
 pub gather_source : (k : ℕ) → 1 ≤ k → k ≤ 64 → IsSource (text_of gather_rest k) (gather_tree k)
