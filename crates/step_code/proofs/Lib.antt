@@ -1,4 +1,5 @@
 pub mod Runs
+pub mod JoinedRuns
 pub mod Steps
 pub mod Holding
 pub mod Ops

@@ -4,11 +4,13 @@ ghost use Rattle.step_code.specs.Assignments.{body_code, body_top, values_code, 
 ghost use Rattle.step_code.specs.Assignments.{BodyNumbers, ValuesNumbers};
 ghost use Rattle.step_code.specs.Code.{code_of, place_of, top_of, HasSmallNumbers};
 ghost use Rattle.step_code.specs.Compiled.{block_view, BlockNumbers, BlocksNumbers};
+ghost use Rattle.step_code.specs.Joined.{joined_code};
 ghost use Rattle.step_code.specs.Layout.{block_code, block_top, blocks_top, free_place};
 ghost use Rattle.step_code.specs.Layout.{message_names, message_place, state_names, state_place};
 
 use crate::emit::emit;
 use crate::instr::Instr;
+use crate::joining::join_jumps;
 use crate::layout::{place_fields, place_variables};
 use crate::names::{Known, Scope};
 use crate::pieces::{Piece, emit_body, emit_values};
@@ -61,12 +63,13 @@ fn body_piece(
     d: u16,
 ) -> Result<Piece, NoMemory>
     ensures code { IfOk result (λ r. r.code.items
-        ≡ body_code k names.now variables.now body.now d) }
+        ≡ joined_code (body_code k names.now variables.now body.now d)) }
     ensures top { IfOk result (λ r. r.top ≡ body_top k names.now body.now d) }
     ensures numbers { OnOk result (BodyNumbers body.now) }
 {
     let mut code = Vec::new(alloc);
     let top = emit_body(&mut code, k, names, variables, body, d)?;
+    join_jumps(code.as_mut_slice());
     Ok(Piece { code, top })
 }
 
@@ -78,12 +81,14 @@ fn sent_piece(
     p: u16,
     d: u16,
 ) -> Result<Piece, NoMemory>
-    ensures code { IfOk result (λ r. r.code.items ≡ values_code k names.now formulas.now p d) }
+    ensures code { IfOk result (λ r. r.code.items
+        ≡ joined_code (values_code k names.now formulas.now p d)) }
     ensures top { IfOk result (λ r. r.top ≡ values_top k names.now formulas.now d) }
     ensures numbers { OnOk result (ValuesNumbers formulas.now) }
 {
     let mut code = Vec::new(alloc);
     let top = emit_values(&mut code, k, names, formulas, p, d)?;
+    join_jumps(code.as_mut_slice());
     Ok(Piece { code, top })
 }
 
@@ -95,7 +100,8 @@ fn condition_piece(
     formula: &Formula,
     d: u16,
 ) -> Result<(Piece, u16), NoMemory>
-    ensures code { IfOk result (λ r. r.0.code.items ≡ code_of k names.now formula.now d) }
+    ensures code { IfOk result (λ r. r.0.code.items
+        ≡ joined_code (code_of k names.now formula.now d)) }
     ensures top { IfOk result (λ r. r.0.top ≡ top_of k names.now formula.now d) }
     ensures place { IfOk result (λ r. r.1 ≡ place_of names.now formula.now d) }
     ensures numbers { OnOk result (HasSmallNumbers formula.now) }
@@ -104,6 +110,7 @@ fn condition_piece(
     let scope = Scope::Outermost(names);
     let value = emit(&mut code, k, &scope, formula.expr(), d)?;
     let top = value.top;
+    join_jumps(code.as_mut_slice());
     Ok((Piece { code, top }, value.place))
 }
 

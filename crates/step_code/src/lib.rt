@@ -6,6 +6,7 @@ mod changes;
 mod emit;
 mod fields;
 mod instr;
+mod joining;
 mod layout;
 mod names;
 mod pieces;

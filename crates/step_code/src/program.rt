@@ -13,6 +13,7 @@ ghost use Rattle.step_code.specs.Turns.{IsOfRound, IsOfState, IsPart};
 
 use crate::block_code::{BlockCode, compile_blocks};
 use crate::instr::Instr;
+use crate::joining::join_jumps;
 use crate::layout::place_variables;
 use crate::names::Known;
 use crate::pieces::{Piece, emit_starts};
@@ -215,5 +216,6 @@ fn start_piece(
     })?;
     let mut code = Vec::new(alloc);
     let top = emit_starts(&mut code, k, &names, tree.variables(), state, message)?;
+    join_jumps(code.as_mut_slice());
     Ok(Piece { code, top })
 }
