@@ -4,6 +4,7 @@ pub mod Steps
 pub mod Holding
 pub mod Ops
 pub mod Changing
+pub mod Compared
 pub mod Visiting
 pub mod Logical
 pub mod Finding

@@ -2,6 +2,7 @@ pub mod Machine
 pub mod Joined
 pub mod Going
 pub mod Changes
+pub mod Comparing
 pub mod Seeking
 pub mod Code
 pub mod Where

@@ -3,6 +3,7 @@
 
 mod block_code;
 mod changes;
+mod comparing;
 mod emit;
 mod fields;
 mod instr;
