@@ -1,3 +1,4 @@
+-- The rounds of a plan follow each other, and each step lies in one.
 use Rattle.std.proofs.Common.{◌≡◌, ℕ, zero, suc, ◌+◌, ◌-◌, ◌^◌, ◌<◌, ◌≤◌, ⊎_elim, refl, arith}
 use Rattle.std.proofs.lemmas.Bool.{cases_lt}
 use Rattle.slot_plans.specs.Limits.{max_rounds}

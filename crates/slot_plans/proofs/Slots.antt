@@ -1,3 +1,4 @@
+-- A step has one slot.
 use Rattle.std.proofs.Common.{◌≡◌, ℕ, ◌+◌, Bool, true, false, IsTrue, ◌↔◌, refl, ap, sym, subst}
 use Rattle.std.proofs.Common.{arith}
 use Rattle.slot_plans.specs.declared.slot.Slot.{Slot}

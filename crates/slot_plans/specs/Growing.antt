@@ -1,3 +1,4 @@
+-- The plan whose rounds grow by one step each: where a round starts.
 use Rattle.std.specs.Prelude.{ℕ, ◌+◌, ◌-◌, ◌*◌, ◌/◌}
 use Rattle.slot_plans.specs.declared.growing.Growing.{Growing}
 

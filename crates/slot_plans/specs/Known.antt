@@ -1,3 +1,4 @@
+-- The plan whose rounds all have one length: where a round starts.
 use Rattle.std.specs.Prelude.{ℕ, ◌+◌, ◌-◌, ◌*◌}
 use Rattle.slot_plans.specs.declared.known.Known.{Known}
 

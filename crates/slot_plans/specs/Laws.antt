@@ -1,3 +1,4 @@
+-- That both plans keep the laws of a plan. These are proofs, and nobody needs to believe them.
 use Rattle.std.proofs.Common.{◌≡◌, ℕ, ◌+◌, ◌-◌, ◌*◌, ◌/◌, true, ◌&&◌, eqb, ap, ◌∙◌, subst, arith}
 use Rattle.std.proofs.Common.{rules}
 use Rattle.std.specs.Coded.{×_prop, le_prop}

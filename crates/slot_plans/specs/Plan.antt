@@ -1,3 +1,4 @@
+-- What a plan is, and which of its rounds are clear.
 use Rattle.std.specs.Prelude.{◌≡◌, ℕ, ◌+◌, ◌^◌, ◌<◌, ◌≤◌, Option, Some, None}
 use Rattle.slot_plans.specs.Limits.{max_delta, max_nodes, max_rounds}
 

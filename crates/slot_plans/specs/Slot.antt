@@ -1,3 +1,4 @@
+-- What a node's step is for, by its number.
 use Rattle.std.specs.Prelude.{◌≡◌, ℕ, ◌+◌, ◌<◌, ◌≤◌, ◌↔◌, Bool, IsTrue}
 use Rattle.slot_plans.specs.declared.slot.Slot.{Slot}
 use Rattle.slot_plans.specs.declared.slot.Slot.TheVariants.{Send, Receive}
