@@ -73,8 +73,8 @@ fn write_stored_events(text: &mut String, events: &[StoredEvent]) -> Result<(), 
         ≡ string_bytes text.old ++ flat_map (λ e. line_text (event_line e)) events.now) }
     ensures small { OnOk result (All IsSmallEvent events.now) }
 {
-    for event in events {
-        write_event(text, event.event())?;
+    for stored in events {
+        write_event(text, stored.event())?;
     }
     Ok(())
 }

@@ -1,9 +1,9 @@
-use Rattle.std.proofs.Common.{arith}
+use Rattle.std.proofs.Common.{◌∙◌, arith, subst}
 use Rattle.std.proofs.lemmas.Grind.{common_steps}
 use Rattle.std.proofs.lemmas.List.Elements.{All-more}
 use Rattle.schedule_text.specs.Small.{IsSmallEvent}
 use Rattle.schedule_text.proofs.writing.write_stored_events.Goals as goal
 
-pub loop-event-preserved : goal.loop-event-preserved
-loop-event-preserved c =
-    (grind (arith, common_steps), All-more IsSmallEvent c.args.events.now c.loop-event.event-index _ c.loop-event-test.true c.loop-event.invariant.1 c.write_event.ensures.small)
+pub loop-stored-preserved : goal.loop-stored-preserved
+loop-stored-preserved c =
+    (grind (arith, common_steps), All-more IsSmallEvent c.args.events.now c.loop-stored.stored-index _ c.loop-stored-test.true c.loop-stored.invariant.1 (subst IsSmallEvent (c.event.ensures ∙ c.stored-item.is) c.write_event.ensures.small))

@@ -5,5 +5,5 @@ use Rattle.schedule_text.specs.Small.{IsSmallEvent}
 use Rattle.schedule_text.specs.Writing.{event_line, line_text}
 use Rattle.schedule_text.proofs.writing.write_stored_events.Given as goal
 
-abbrev pub invariant-loop-event : goal.invariant-loop-event
-invariant-loop-event l = (string_bytes l.text ≡ string_bytes l.initial.text ++ flat_map (λ e. line_text (event_line e)) (take l.event-index l.events)) × All IsSmallEvent (take l.event-index l.events)
+abbrev pub invariant-loop-stored : goal.invariant-loop-stored
+invariant-loop-stored l = (string_bytes l.text ≡ string_bytes l.initial.text ++ flat_map (λ e. line_text (event_line e)) (take l.stored-index l.events)) × All IsSmallEvent (take l.stored-index l.events)
