@@ -1,5 +1,5 @@
 -- The line that each refusal has on standard error, and the exit status.
-use Rattle.std.specs.Prelude.{ℕ, ◌++◌, List, Option, Some, None, codes}
+use Rattle.std.specs.Prelude.{ℕ, ◌++◌, List, Option, Some, codes}
 use Rattle.std.specs.Fmt.{decimal}
 use Rattle.adversary.specs.declared.fault.RunFault.{RunFault}
 use Rattle.adversary.specs.declared.fault.RunFault.TheVariants as run

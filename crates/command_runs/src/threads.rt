@@ -143,7 +143,7 @@ fn run_of<R: Threads + Wait + Sync, P: Plan + Send + Sync>(
     ensures refused { IfErr result (IsNotThreadedAs program.now setup.now.setup
         setup.now.stops.items) }
 {
-    let (run, journal) = threaded(rt, alloc, program, setup, plan)?;
+    let (run, journal) = explained_by_threads(rt, alloc, program, setup, plan)?;
     // The command ends with its answer: the system takes the run's memory back as a whole.
     mem::forget(journal);
     Ok(run)
@@ -173,12 +173,12 @@ pub fn explained_threads<R: Threads + Wait + Sync, P: Plan + Send + Sync>(
     ensures validity { IfOk result (λ run. RunsAlgorithm1 program.now setup.now.setup
         → AreInputs setup.now.setup run.report.rows) }
 {
-    let (run, _journal) = threaded(rt, alloc, program, setup, plan)?;
+    let (run, _journal) = explained_by_threads(rt, alloc, program, setup, plan)?;
     Ok(run)
 }
 
 /// The same with the journal of the run.
-pub(crate) fn threaded<R: Threads + Wait + Sync, P: Plan + Send + Sync>(
+pub(crate) fn explained_by_threads<R: Threads + Wait + Sync, P: Plan + Send + Sync>(
     rt: &R,
     alloc: Global,
     program: &Checked,
