@@ -2,9 +2,11 @@ pub mod Runs
 pub mod JoinedRuns
 pub mod Steps
 pub mod Holding
+pub mod Moved
 pub mod Ops
 pub mod Changing
 pub mod Compared
+pub mod Choosing
 pub mod Visiting
 pub mod Logical
 pub mod Finding
@@ -13,6 +15,7 @@ pub mod Correct
 pub mod Patch
 pub mod Typing
 pub mod Sound
+pub mod InPlace
 pub mod Assigned
 pub mod Areas
 pub mod Small

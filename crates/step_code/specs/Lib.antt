@@ -3,8 +3,10 @@ pub mod Joined
 pub mod Going
 pub mod Changes
 pub mod Comparing
+pub mod Setwise
 pub mod Seeking
 pub mod Code
+pub mod InPlace
 pub mod Where
 pub mod Assignments
 pub mod Layout

@@ -15,6 +15,7 @@ mod program;
 mod room;
 mod run;
 mod seeking;
+mod setwise;
 mod single;
 mod step;
 mod turn;
