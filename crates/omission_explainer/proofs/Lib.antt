@@ -1,4 +1,5 @@
 pub mod Texts
+pub mod Cuts
 pub mod Members
 pub mod Parts
 pub mod Outcomes

@@ -1,6 +1,6 @@
 //! A report's text.
 ghost use Rattle.std.specs.Prelude.{◌≡◌, ◌+◌, ◌<◌, ◌≤◌, ◌++◌, [], OnOk, codes, length};
-ghost use Rattle.std.specs.Prelude.{if◌then◌else◌};
+ghost use Rattle.std.specs.Prelude.{if◌then◌else◌, slice_index};
 ghost use Rattle.std.specs.Fmt.{decimal};
 ghost use Rattle.std.specs.Io.KnownBytes.{Appends};
 ghost use Rattle.std.specs.List.{flat_map};
@@ -15,7 +15,7 @@ ghost use Rattle.omission_explainer.specs.Report.{type_at, value_text, variable_
 use crate::report::{Report, ReportRow};
 use crate::short_text::{ROOM, ShortText};
 use itoa::Buffer;
-use round_lang::{Ty, ValueSet, Vars};
+use round_lang::{Kind, Ty, ValueSet, Vars};
 use round_meaning::NodeSet;
 use std::io;
 use std::io::Write;
@@ -313,9 +313,10 @@ fn write_entries<W: Write>(
 {
     make_room(text, out)?;
     text.push(b'[');
+    let entries = entries_of(state, place);
     let mut has_entry = false;
     for value in 0..values {
-        let entry = state.entry(place, value);
+        let entry = entry_at(entries, value);
         if entry != 0 {
             make_room(text, out)?;
             push_entry(has_entry, value, entry, text);
@@ -327,8 +328,36 @@ fn write_entries<W: Write>(
     Ok(())
 }
 
+/// The entries of the row at a place, none where there is no row. They are found once for all of
+/// them, since most are 0.
+fn entries_of(state: &Vars, place: usize) -> &[u64]
+    ensures { result.now ≡ row (at state.now place) }
+{
+    let mut words = state.as_words();
+    for (i, kind) in state.kinds().iter().enumerate() {
+        if i == place {
+            return match *kind {
+                Kind::Row(size) => &words[..size],
+                _ => &[],
+            };
+        }
+        words = &words[kind.size()..];
+    }
+    &[]
+}
+
+/// The entry of a value, 0 past the row's end.
+fn entry_at(entries: &[u64], value: u32) -> u64
+    ensures { result ≡ slice_index entries.now value }
+{
+    match entries.get(value as usize) {
+        Some(entry) => *entry,
+        None => 0,
+    }
+}
+
 /// Appends an entry, behind a comma where it isn't the first.
-fn push_entry(is_next: bool, value: u32, entry: u32, text: &mut ShortText)
+fn push_entry(is_next: bool, value: u32, entry: u64, text: &mut ShortText)
     requires { length text.old + piece ≤ room }
     ensures { text.new ≡ text.old
         ++ ((if is_next then codes "," else []) ++ (decimal value ++ codes ":" ++ decimal entry)) }
@@ -338,5 +367,5 @@ fn push_entry(is_next: bool, value: u32, entry: u32, text: &mut ShortText)
     }
     push_number(u64::from(value), text);
     text.push(b':');
-    push_number(u64::from(entry), text);
+    push_number(entry, text);
 }

@@ -1,6 +1,5 @@
-use Rattle.std.proofs.Common.{◌+◌, [], ap, sym, subst, arith}
-use Rattle.std.specs.Prelude.{codes, if◌then◌else◌}
-use Rattle.std.specs.Fmt.{decimal}
+use Rattle.std.proofs.Common.{◌≡◌, ◌∙◌, ◌+◌, [], ap, sym, subst, arith}
+use Rattle.std.specs.Prelude.{codes, if◌then◌else◌, slice_index}
 use Rattle.round_lang.specs.Values.{at, row}
 use Rattle.omission_explainer.specs.Report.{entry_text, is_entered}
 use Rattle.omission_explainer.proofs.Texts.{TellsPassing, entry_absent, entry_there}
@@ -14,8 +13,10 @@ pub loop-value-preserved : goal.loop-value-preserved
 loop-value-preserved g c =
     let out = g.W.Write.contents in
     let i = c.loop-value.value in
-    let e = c.entry-entry.result in
+    let e = c.entry_at-entry.result in
     let entries = row (at c.args.state.now c.args.place) in
+    let is : e ≡ slice_index entries i =
+    c.entry_at-entry.ensures ∙ ap (λ l. slice_index l i) c.entries_of-entries.ensures in
     let now = c.loop-value.has_entry in
     let old = out c.args.out.now in
     let s = c.args.text.now in
@@ -23,13 +24,13 @@ loop-value-preserved g c =
       | then-entry-ne0+in_ok-make_room-2 w ↦
           let room = w.make_room-then-entry-ne0.new in
           let told = tells_pushed (out c.loop-value.out) (out room.out) c.loop-value.text room.text w.push_entry.new.text _ w.in_ok-make_room-2.ensures.same w.push_entry.ensures in
-          let more = entry_told (out c.loop-value.out) (out room.out) c.loop-value.text w.push_entry.new.text entries (if now then codes "," else []) i e c.entry-entry.ensures told in
-          let all = passing_taken old (out c.loop-value.out) (out room.out) s c.loop-value.text w.push_entry.new.text (entry_text entries) (is_entered entries) i now c.loop-value.invariant (entry_there entries i e c.entry-entry.ensures w.if-entry-ne0.true) more in
+          let more = entry_told (out c.loop-value.out) (out room.out) c.loop-value.text w.push_entry.new.text entries (if now then codes "," else []) i e is told in
+          let all = passing_taken old (out c.loop-value.out) (out room.out) s c.loop-value.text w.push_entry.new.text (entry_text entries) (is_entered entries) i now c.loop-value.invariant (entry_there entries i e is w.if-entry-ne0.true) more in
           subst (λ o. TellsPassing old s o c.if-entry-ne0.text (entry_text entries) (is_entered entries) (i + 1) c.if-entry-ne0.has_entry) (sym (ap out w.out-is))
           (subst (λ t. TellsPassing old s (out room.out) t (entry_text entries) (is_entered entries) (i + 1) c.if-entry-ne0.has_entry) (sym w.text-is)
           (subst (λ h. TellsPassing old s (out room.out) w.push_entry.new.text (entry_text entries) (is_entered entries) (i + 1) h) (sym w.has_entry-is) all))
       | else-entry-ne0 w ↦
-          let all = passing_passed old (out c.loop-value.out) s c.loop-value.text (entry_text entries) (is_entered entries) i now c.loop-value.invariant (entry_absent entries i e c.entry-entry.ensures w.if-entry-ne0.false) in
+          let all = passing_passed old (out c.loop-value.out) s c.loop-value.text (entry_text entries) (is_entered entries) i now c.loop-value.invariant (entry_absent entries i e is w.if-entry-ne0.false) in
           subst (λ o. TellsPassing old s o c.if-entry-ne0.text (entry_text entries) (is_entered entries) (i + 1) c.if-entry-ne0.has_entry) (sym (ap out w.out-is))
           (subst (λ t. TellsPassing old s (out c.loop-value.out) t (entry_text entries) (is_entered entries) (i + 1) c.if-entry-ne0.has_entry) (sym w.text-is)
           (subst (λ h. TellsPassing old s (out c.loop-value.out) c.loop-value.text (entry_text entries) (is_entered entries) (i + 1) h) (sym w.has_entry-is) all))
