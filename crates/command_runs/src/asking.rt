@@ -7,7 +7,7 @@ ghost use Rattle.command_runs.specs.Stages.{IsNoReadIn, IsNotRunAs, IsScheduleIn
 ghost use Rattle.schedule_text.specs.declared.kind.Kind.TheVariants as kinds;
 
 use crate::desk::Desk;
-use crate::explained::{Terms, explained, judged_run};
+use crate::explained::{Terms, explained_run, judged_run};
 use crate::refusal::Refusal;
 use crate::sources::Opened;
 use crate::texts::{Text, begin_utf8};
@@ -134,7 +134,7 @@ fn answer_of<P: Plan>(
     let Schedule { setup, events, .. } = schedule;
     match question {
         Question::Report { decided } => {
-            let (report, journal) = explained(alloc, program, &setup, plan, events)?;
+            let (report, journal) = explained_run(alloc, program, &setup, plan, events)?;
             // The command ends with its answer: the system takes the run's memory back as a whole.
             mem::forget(journal);
             Ok(Answer::Report { report, decided })

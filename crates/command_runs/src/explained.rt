@@ -18,33 +18,11 @@ use stored_events::Events;
 
 /// The report of running a schedule's events in single steps: the run explained in rounds. Where
 /// the program is Algorithm 1, for a setup with fewer than half of the nodes faulty, all decisions
-/// in it are equal, and each is some node's input.
+/// in it are equal, and each is some node's input. The journal of the run is handed out too:
+/// whoever is done with it may leave its memory to the system.
 ///
 /// Refusals are those of `run_events`.
 pub fn explained_run<P: Plan>(
-    alloc: Global,
-    program: &Checked,
-    setup: &Setup,
-    plan: P,
-    events: Events,
-) -> Result<Report, RunFault>
-    requires { IsLawful program.now.values setup.now → P.nodes plan ≡ setup.now.nodes }
-    ensures bad_setup { (result ≡ Err RunFault.BadSetup)
-        ↔ (IsLawful program.now.values setup.now → ⊥) }
-    ensures cause { IfErr result (RunCause setup.now events) }
-    ensures known { IfOk result (λ _answer. All (IsKnown setup.now) events) }
-    ensures explained { IfOk result (IsReportOf (P.start plan) program.now setup.now events) }
-    ensures agreement { IfOk result
-        (λ report. RunsAlgorithm1 program.now setup.now → AreAgreed report.rows) }
-    ensures validity { IfOk result
-        (λ report. RunsAlgorithm1 program.now setup.now → AreInputs setup.now report.rows) }
-{
-    let (report, _journal) = explained(alloc, program, setup, plan, events)?;
-    Ok(report)
-}
-
-/// The same with the journal of the run.
-pub(crate) fn explained<P: Plan>(
     alloc: Global,
     program: &Checked,
     setup: &Setup,

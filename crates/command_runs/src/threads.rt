@@ -143,7 +143,7 @@ fn run_of<R: Threads + Wait + Sync, P: Plan + Send + Sync>(
     ensures refused { IfErr result (IsNotThreadedAs program.now setup.now.setup
         setup.now.stops.items) }
 {
-    let (run, journal) = explained_by_threads(rt, alloc, program, setup, plan)?;
+    let (run, journal) = explained_threads(rt, alloc, program, setup, plan)?;
     // The command ends with its answer: the system takes the run's memory back as a whole.
     mem::forget(journal);
     Ok(run)
@@ -152,33 +152,11 @@ fn run_of<R: Threads + Wait + Sync, P: Plan + Send + Sync>(
 /// The report and the trace of a run in which a thread for each node takes its steps, and another
 /// one is the network, which releases each message as soon as it can. Where the program is
 /// Algorithm 1, for a setup with fewer than half of the nodes faulty, all decisions in it are
-/// equal, and each is some node's input.
+/// equal, and each is some node's input. The journal of the run is handed out too: whoever is done
+/// with it may leave its memory to the system.
 ///
 /// Refusals are those of `run_threads`. Like it, this needn't return.
 pub fn explained_threads<R: Threads + Wait + Sync, P: Plan + Send + Sync>(
-    rt: &R,
-    alloc: Global,
-    program: &Checked,
-    setup: &ThreadSetup,
-    plan: P,
-) -> Result<ThreadRun, RunFault>
-    requires { P.nodes plan ≡ setup.now.setup.nodes }
-    ensures bad_setup { (result ≡ Err RunFault.BadSetup)
-        ↔ (IsFitForThreads program.now.values setup.now.setup setup.now.stops.items → ⊥) }
-    ensures cause { IfErr result (λ fault. (fault ≡ RunFault.BadSetup)
-        ⊎ IsOfThreads fault) }
-    ensures explained { IfOk result (IsRunOf (P.start plan) program.now setup.now) }
-    ensures agreement { IfOk result
-        (λ run. RunsAlgorithm1 program.now setup.now.setup → AreAgreed run.report.rows) }
-    ensures validity { IfOk result (λ run. RunsAlgorithm1 program.now setup.now.setup
-        → AreInputs setup.now.setup run.report.rows) }
-{
-    let (run, _journal) = explained_by_threads(rt, alloc, program, setup, plan)?;
-    Ok(run)
-}
-
-/// The same with the journal of the run.
-pub(crate) fn explained_by_threads<R: Threads + Wait + Sync, P: Plan + Send + Sync>(
     rt: &R,
     alloc: Global,
     program: &Checked,

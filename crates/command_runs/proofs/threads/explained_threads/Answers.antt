@@ -16,7 +16,7 @@ use Rattle.schedule_text.specs.Texts.{Says}
 use Rattle.schedule_text.specs.Writing.{text_of}
 use Rattle.step_book.specs.Agreed.{JournalAgrees}
 use Rattle.step_book.specs.Log.{Recorded, mark_in, waiting_in}
-use Rattle.command_runs.proofs.threads.explained_by_threads.Goals as goal
+use Rattle.command_runs.proofs.threads.explained_threads.Goals as goal
 
 -- a number that can't be 0 isn't
 some : (n : ℕ) → ¬ ¬ (0 < n) → 0 < n

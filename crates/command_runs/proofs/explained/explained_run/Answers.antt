@@ -10,7 +10,7 @@ use Rattle.round_meaning.specs.Rounds.{algorithm_of}
 use Rattle.round_meaning.specs.declared.setup.Setup.{Setup}
 use Rattle.step_book.specs.Agreed.{JournalAgrees}
 use Rattle.step_book.specs.Log.{mark_in, waiting_in}
-use Rattle.command_runs.proofs.explained.explained.Goals as goal
+use Rattle.command_runs.proofs.explained.explained_run.Goals as goal
 
 pub returns-in-Ok-clause-explained : goal.returns-in-Ok-clause-explained
 returns-in-Ok-clause-explained g c =
