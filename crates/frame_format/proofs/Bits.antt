@@ -1,3 +1,4 @@
+-- Numbers of so many bits have no bit above them.
 use Rattle.std.proofs.Common.{◌≡◌, ℕ, ◌/◌, ◌^◌, ◌<◌, ◌≤◌, eqb, ltb, arith, inl, inr}
 use Rattle.std.specs.Prelude.{not}
 use Rattle.std.proofs.lemmas.Nat.{pow_pos, div_below, le-div}

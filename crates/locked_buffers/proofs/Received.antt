@@ -31,7 +31,7 @@ mail_waits start r b s i frames ws ns book buffer named held waits honest faith 
         let f = get_or ws k d in
         let h = named.recorded k d l in
         record {
-          spells = subst (λ u. IsHonest (algorithm_of r.program u) f) buffer.setup (subst (λ p. IsHonest (algorithm_of p s.setup) f) buffer.program (says k d l));
+          honest = subst (λ u. IsHonest (algorithm_of r.program u) f) buffer.setup (subst (λ p. IsHonest (algorithm_of p s.setup) f) buffer.program (says k d l));
           copy = h.copy;
           first = h.first;
           past = h.past;

@@ -122,7 +122,7 @@ same_entry w j i q s true (Some m) (Some h) e f g =
     let k = g h refl in
     let tag : tag_of h ≡ tagged j i q s = cc in
     let state_is : h.state ≡ s = ap (λ (t : Tag). t.state) tag in
-    let says = k.spells.says in
+    let says = k.honest.says in
     let sends : w.algorithm.send h.name.round h.state h.name.from h.name.to ≡ w.algorithm.send (suc q) s j i =
     ap (λ r. w.algorithm.send r h.state h.name.from h.name.to) k.round ∙ ap (λ x. w.algorithm.send (suc q) x h.name.from h.name.to) state_is
     ∙ ap (λ x. w.algorithm.send (suc q) s x h.name.to) k.from ∙ ap (w.algorithm.send (suc q) s j) k.to in

@@ -43,7 +43,7 @@ names_in fs = map (λ f. f.name) fs
 
 -- the frame is of the recorded state of its sender, and says what that state sends
 pub record IsGenuine (a : Algorithm) (rows : List Row) (f : Frame) : Type 0 where
-  pub spells : IsHonest a f
+  pub honest : IsHonest a f
   pub copy : f.name.copy ≤ max_copy
   pub first : 0 < f.name.round
   pub past : f.name.round ≤ length (row rows f.name.from)
@@ -54,4 +54,4 @@ pub record IsMail (a : Algorithm) (n i : ℕ) (f : Frame) : Type 0 where
   pub from : f.name.from < n
   pub copy : f.name.copy ≤ max_copy
   pub to : f.name.to ≡ i
-  pub spells : IsHonest a f
+  pub honest : IsHonest a f

@@ -66,14 +66,14 @@ place_apart nodes n m a b to apart e =
 -- a frame is as genuine where a row grew
 grown_frame : (a : Algorithm) (rows next : List Row) (k : ℕ) (x : List Value) (g : Frame) → RowOf rows k x g.name.from next → IsGenuine a rows g → IsGenuine a next g
 grown_frame a rows next k x g (Stays e) h = record {
-  spells = h.spells;
+  honest = h.honest;
   copy = h.copy;
   first = h.first;
   past = (let p = h.past in let s = ap length e in omega arith);
   own = ap (λ r. get_or r (g.name.round - 1) []) e ∙ h.own;
 }
 grown_frame a rows next k x g (Grown same e) h = record {
-  spells = h.spells;
+  honest = h.honest;
   copy = h.copy;
   first = h.first;
   past = (let p = h.past in let s = ap length e ∙ length_push (row rows k) x in let t = ap (λ z. length (row rows z)) same in omega arith);
@@ -388,7 +388,7 @@ module _ {start : ℕ → ℕ} {v : Log} {bs : List BufferView} (f : Fits start 
       let made = frame_made p frame (sym is ∙ some) in
       let named : frame.name ≡ p.name = ap (λ (x : Frame). x.name) made.2 in
       let first = a.first in
-      let genuine : IsGenuine a0 v.rows frame = subst (λ (x : Frame). IsGenuine a0 v.rows x) (sym made.2) (record { spells = record { says = work.says ∙ made.1; types = work.types }; copy = a.copy; first = a.first; past = omega arith; own = fit.2 }) in
+      let genuine : IsGenuine a0 v.rows frame = subst (λ (x : Frame). IsGenuine a0 v.rows x) (sym made.2) (record { honest = record { says = work.says ∙ made.1; types = work.types }; copy = a.copy; first = a.first; past = omega arith; own = fit.2 }) in
       let there : Puts None b2.flying b3.flying p.name.round (place_among v.setup.nodes p.name) (Some frame) =
       subst (λ (x : Name). Puts None b2.flying b3.flying x.round (place_among v.setup.nodes x) (Some frame)) en
       (subst (λ (z : ℕ). Puts None b2.flying b3.flying n.round z (Some frame)) at puts) in
@@ -437,7 +437,7 @@ module _ {start : ℕ → ℕ} {v : Log} {bs : List BufferView} (f : Fits start 
       let found = flight_read (original n) place b first (original_named v.setup.nodes v.setup.rounds n a) at h is in
       let g = found.1 in (
         ap (λ (x : Frame). x.name) made ∙ ap (λ (x : Name). record x { copy = n.copy }) found.0,
-        subst (λ (x : Frame). IsGenuine (algorithm_of v.program v.setup) v.rows x) (sym made) (record { spells = record { says = g.spells.says; types = g.spells.types }; copy = a.copy; first = g.first; past = g.past; own = g.own }),
+        subst (λ (x : Frame). IsGenuine (algorithm_of v.program v.setup) v.rows x) (sym made) (record { honest = record { says = g.honest.says; types = g.honest.types }; copy = a.copy; first = g.first; past = g.past; own = g.own }),
       )
 
   pub original_on : (n : Name) (place : ℕ) (b : BufferView) (first : Frame) → IsName v.setup n → place ≡ place_among v.setup.nodes (original n) → b ≡ get_or bs n.to b → flying_at b n.round place ≡ Some first → IsFlying start v (original n)
@@ -469,10 +469,10 @@ run_spells {start} {v} {bs} f k b frame l h said =
     spells_of_run v.program v.setup b frame (subst (IsOfRun v.program v.setup) (sym h) (f.runs k b (let s = f.sized in omega arith))) said
 
 -- also where room was made in it
-pub run_spells_kept : {start : ℕ → ℕ} {v : Log} {bs : List BufferView} → Fits start v bs → (k : ℕ) (b0 b1 b2 : BufferView) (frame : Frame)
+pub run_honest_kept : {start : ℕ → ℕ} {v : Log} {bs : List BufferView} → Fits start v bs → (k : ℕ) (b0 b1 b2 : BufferView) (frame : Frame)
     → k < v.setup.nodes → b0 ≡ get_or bs k b0 → IsSameRun b0 b1 → b2 ≡ get_or (set bs k b1) k b2
     → IsHonest (algorithm_of v.program v.setup) frame → IsHonest (run_of b2) frame
-run_spells_kept {start} {v} {bs} f k b0 b1 b2 frame l h r h2 said =
+run_honest_kept {start} {v} {bs} f k b0 b1 b2 frame l h r h2 said =
     let is : b2 ≡ b1 = h2 ∙ get_or-set_same bs k b1 b2 (let s = f.sized in omega arith) in
     let was = run_spells f k b0 frame l h said in
     subst (λ (b : BufferView). IsHonest (run_of b) frame) (sym is)

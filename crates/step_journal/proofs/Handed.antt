@@ -71,7 +71,7 @@ mail_of w t a rows n i frames long names genuine = λ k d l.
       from = subst (λ z. (get_or frames k d).name.from < z) long (from_in rows _ _ one.first one.past (cases_lt _ _));
       copy = one.copy;
       to = frame_to i frames (All-same (IsTo i) _ _ names (to_waiting w i t)) k d l;
-      spells = one.spells;
+      honest = one.honest;
     }
 
 -- a genuine frame is the message of the run in rounds
@@ -83,7 +83,7 @@ said_of start v f is g =
     let own = is.stated f.name.from (f.name.round - 1) from (omega arith) in
     record {
       state = sym g.own ∙ own;
-      message = ap (sent_under (algorithm_of v.program v.setup) f.name) (sym own ∙ g.own) ∙ g.spells.says;
+      message = ap (sent_under (algorithm_of v.program v.setup) f.name) (sym own ∙ g.own) ∙ g.honest.says;
     }
 
 pub all_said : (start : ℕ → ℕ) (v : Log) (frames : List Frame) → IsFaithful start v → All (IsGenuine (algorithm_of v.program v.setup) v.rows) frames → All (IsSaid start v) frames

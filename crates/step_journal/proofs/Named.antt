@@ -24,7 +24,7 @@ recorded : (a : Algorithm) (rows : List Row) (f : Frame) → IsGenuine a rows f 
 recorded a rows f h = record { copy = h.copy; first = h.first; past = h.past; own = h.own }
 
 genuine : (a : Algorithm) (rows : List Row) (f : Frame) → IsHonest a f → IsRecorded rows f → IsGenuine a rows f
-genuine a rows f said h = record { spells = said; copy = h.copy; first = h.first; past = h.past; own = h.own }
+genuine a rows f said h = record { honest = said; copy = h.copy; first = h.first; past = h.past; own = h.own }
 
 -- a sender that isn't one of the run's has no states
 pub recorded_node : {start : ℕ → ℕ} {v : Log} {f : Frame} → IsFaithful start v → v.setup.nodes ≤ f.name.from → IsRecorded v.rows f → ⊥

@@ -14,8 +14,16 @@ use Rattle.frame_format.specs.Spelling.{Spells}
 use Rattle.frame_views.specs.Writing.{AreToAll, first_copy, frame_size, nth_frame}
 use Rattle.step_machine.specs.declared.event.Name.{Name}
 use Rattle.step_machine.specs.Sealed.{copied_as}
-use Rattle.step_machine.specs.Framing.{IsNamed, IsSealed, frame_in, message_at, name_in}
-use Rattle.step_machine.specs.Framing.{wire, written_as}
+use Rattle.step_machine.specs.Framing.{IsSealed, frame_in, name_in, wire, written_as}
+
+-- the message that bytes spell, alone
+abbrev pub message_at : Format → List ℕ → List Value
+message_at s bytes = (frame_at s bytes).message
+
+-- the bytes spell a frame of version 2 that has this name
+pub record IsNamed (s : Format) (n : Name) (bytes : List ℕ) : Type 0 where
+  pub sealed : IsSealed s bytes
+  pub name_is : name_in (frame_at s bytes) ≡ n
 
 pub some_same : {X : Type 0} (a b : X) → Some a ≡ Some b → a ≡ b
 some_same a b h = cc

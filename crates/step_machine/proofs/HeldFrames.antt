@@ -195,7 +195,7 @@ module _ (a : Algorithm) (n i r : ℕ) (held : HeldRow) (size : length held ≡ 
   typed_at : (j : ℕ) → j < length held → ForSome (held_at held j) (λ f. IsMessageOf p r f.message)
   typed_at j l f is =
       let from = h.each j (omega (arith, size)) f is in
-      subst (λ q. IsMessageOf p q f.message) from.round (typed_frame a f from.spells p s keeps same)
+      subst (λ q. IsMessageOf p q f.message) from.round (typed_frame a f from.honest p s keeps same)
 
   -- the frames held of a round have messages of the round
   pub held_typed : IsInboxOf p r (inbox_of held)

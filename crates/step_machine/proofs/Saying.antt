@@ -14,9 +14,10 @@ use Rattle.step_machine.specs.declared.event.Name.{Name}
 use Rattle.step_machine.specs.declared.origin.Origin.{Origin}
 use Rattle.step_machine.specs.declared.said.Said.{Said}
 use Rattle.step_machine.specs.Sealed.{Frame, copied_as}
-use Rattle.step_machine.specs.Framing.{IsNamed, IsSealed, frame_in, message_at, written_as}
+use Rattle.step_machine.specs.Framing.{IsSealed, frame_in, written_as}
 use Rattle.step_machine.specs.Saying.{IsFrameFrom, IsToAll, bytes_from, frame_from, layout_in}
-use Rattle.step_machine.proofs.Framing.{sealed_copy, spelled_named, spoken_to, within_all}
+use Rattle.step_machine.proofs.Framing.{IsNamed, message_at, sealed_copy, spelled_named, spoken_to}
+use Rattle.step_machine.proofs.Framing.{within_all}
 
 whole : (bytes : List ℕ) (n : ℕ) → n ≡ length bytes → slice_range bytes 0 (0 + n) ≡ bytes
 whole bytes n e = take_all (0 + n - 0) bytes (omega (arith, e))

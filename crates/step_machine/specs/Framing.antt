@@ -41,16 +41,7 @@ frame_in s state bytes = record {
   message = (frame_at s bytes).message;
 }
 
--- the message alone
-abbrev pub message_at : Format → List ℕ → List Value
-message_at s bytes = (frame_at s bytes).message
-
 -- the bytes spell a frame of version 2
 pub record IsSealed (s : Format) (bytes : List ℕ) : Type 0 where
   pub frame : IsFrame s bytes
   pub second : (frame_at s bytes).version ≡ V2
-
--- and the frame has this name
-pub record IsNamed (s : Format) (n : Name) (bytes : List ℕ) : Type 0 where
-  pub sealed : IsSealed s bytes
-  pub name_is : name_in (frame_at s bytes) ≡ n

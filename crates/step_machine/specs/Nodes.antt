@@ -56,7 +56,7 @@ pub record IsFrom (a : Algorithm) (j i r : ℕ) (f : Frame) : Type 0 where
   pub from : f.name.from ≡ j
   pub to : f.name.to ≡ i
   pub round : f.name.round ≡ r
-  pub spells : IsHonest a f
+  pub honest : IsHonest a f
 
 -- each frame held is of its sender and of the round, to the node, and says what its state sends
 pub record IsHeld (a : Algorithm) (n i r : ℕ) (held : HeldRow) : Type 0 where

@@ -218,7 +218,7 @@ impl Node {
     pub fn take(&mut self, frame: Sealed) -> Taken
         requires from { frame.name.from < self.old.setup.nodes }
         requires to { frame.name.to ≡ self.old.me }
-        requires spells { IsHonest (algorithm_in self.old) frame }
+        requires honest { IsHonest (algorithm_in self.old) frame }
         ensures late { (result ≡ Taken.Late) ↔ (frame.name.round < self.old.round) }
         ensures early { (result ≡ Taken.Early) ↔ (self.old.round + ahead < frame.name.round) }
         ensures doubled { (result ≡ Taken.Doubled) ↔ IsDoubled self.old frame }

@@ -11,10 +11,10 @@ take-taken-requires-clause-to c =
     let held = c.loop-frame.invariant in
     (for_now _ _ _ held.same (next_for _ _ _ _ _ _ c.in-Some.ensures.steps.0 held.frames).0).to
 
-pub take-taken-requires-clause-spells : goal.take-taken-requires-clause-spells
-take-taken-requires-clause-spells c =
+pub take-taken-requires-clause-honest : goal.take-taken-requires-clause-honest
+take-taken-requires-clause-honest c =
     let held = c.loop-frame.invariant in
-    (for_now _ _ _ held.same (next_for _ _ _ _ _ _ c.in-Some.ensures.steps.0 held.frames).0).spells
+    (for_now _ _ _ held.same (next_for _ _ _ _ _ _ c.in-Some.ensures.steps.0 held.frames).0).honest
 
 pub loop-frame-preserved : goal.loop-frame-preserved
 loop-frame-preserved c =

@@ -5,7 +5,7 @@ use Rattle.step_machine.specs.Sealed.{Frame, IsHonest, original}
 use Rattle.step_book.specs.Log.{IsFlying, Recorded, SameMarksBut, SameWaiting, mark_in}
 use Rattle.step_book.specs.Buffers.{IsGenuine}
 use Rattle.step_journal.proofs.BufferViews.{fits_kept, fits_made, fits_not_made, fits_view, name_view}
-use Rattle.step_journal.proofs.BufferViews.{place_view, run_spells_kept}
+use Rattle.step_journal.proofs.BufferViews.{place_view, run_honest_kept}
 use Rattle.step_journal.proofs.journal.Journal.copy_frame.Goals as goal
 
 pub invariant_of-self-in_default : goal.invariant_of-self-in_default
@@ -76,9 +76,9 @@ put-requires-clause-honest g c =
     let n = c.args.name in
     let a = name_view n c.self.view_is c.requires.name in
     let genuine = subst (λ (o : Option Frame). IfSome o (λ frame. IsGenuine (algorithm_of c.args.self.now.log.program c.args.self.now.log.setup) c.args.self.now.log.rows frame)) c.in-Some.is c.in_ok-frame.ensures.genuine in
-    run_spells_kept c.self.invariant n.to c.index_mut-buffer.result.now c.reserve_flying.new.self c.index_mut-buffer-then-made.result.now c.in-Some.frame
+    run_honest_kept c.self.invariant n.to c.index_mut-buffer.result.now c.reserve_flying.new.self c.index_mut-buffer-then-made.result.now c.in-Some.frame
     a.to c.index_mut-buffer.ensures.value c.reserve_flying.ensures.run c.index_mut-buffer-then-made.ensures.value
-    (subst (λ (z : Recorded _). IsHonest (algorithm_of z.log.program z.log.setup) c.in-Some.frame) (sym c.self.view_is) genuine.spells)
+    (subst (λ (z : Recorded _). IsHonest (algorithm_of z.log.program z.log.setup) c.in-Some.frame) (sym c.self.view_is) genuine.honest)
 
 pub returns-then-made-clause-marks : goal.returns-then-made-clause-marks
 returns-then-made-clause-marks g c =

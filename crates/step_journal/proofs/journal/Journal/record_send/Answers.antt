@@ -4,7 +4,7 @@ use Rattle.step_machine.specs.declared.event.Name.{Name}
 use Rattle.step_book.specs.Log.{Recorded, SameMarksBut, SameWaiting, mark_in}
 use Rattle.step_journal.proofs.BufferViews.{fit_view, fits_hushed, fits_kept, fits_sent, fits_view}
 use Rattle.step_journal.proofs.BufferViews.{name_view, place_view, prepared_spells}
-use Rattle.step_journal.proofs.BufferViews.{run_spells_kept, work_view}
+use Rattle.step_journal.proofs.BufferViews.{run_honest_kept, work_view}
 use Rattle.step_journal.proofs.journal.Journal.record_send.Goals as goal
 
 pub invariant_of-self-in-Some : goal.invariant_of-self-in-Some
@@ -67,6 +67,6 @@ put-requires-clause-honest g c =
     let p = c.args.prepared in
     let a = name_view p.name c.self.view_is c.requires.name in
     let to = subst (λ (n : Name). n.to < s.log.setup.nodes) (sym c.name-name.ensures.value) a.to in
-    run_spells_kept c.self.invariant c.name-name.result.to c.index_mut-buffer.result.now c.reserve_flying.new.self c.index_mut-buffer-in-Some.result.now c.in-Some.frame
+    run_honest_kept c.self.invariant c.name-name.result.to c.index_mut-buffer.result.now c.reserve_flying.new.self c.index_mut-buffer-in-Some.result.now c.in-Some.frame
     to c.index_mut-buffer.ensures.value c.reserve_flying.ensures.run c.index_mut-buffer-in-Some.ensures.value
     (prepared_spells (algorithm_of s.log.program s.log.setup) p c.into_sealed.result c.in-Some.frame (work_view p c.self.view_is c.requires.work) c.into_sealed.ensures c.in-Some.is)

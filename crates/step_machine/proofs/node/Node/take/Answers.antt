@@ -41,7 +41,7 @@ invariant_of-self-2 c =
       from = sym from;
       to = c.requires.to ∙ sym (ap (λ (n : NodeView). n.me) seen);
       round = omega (arith, round, begun);
-      spells = subst (λ (n : NodeView). IsHonest (algorithm_in n) c.args.frame) (sym seen) c.requires.spells;
+      honest = subst (λ (n : NodeView). IsHonest (algorithm_in n) c.args.frame) (sym seen) c.requires.honest;
     } in
     let rows = c.self.invariant.held.places.rows in
     let there : c.index_mut-held.result.now ≡ get_or c.self.inside.held.items row [] = get_or_read_under c.self.inside.held.items row _ _ _ c.index_mut-held.ensures.value (omega (arith, rows, near)) refl in
