@@ -32,7 +32,8 @@ impl<'k, 'a> Model for FieldsView<'k, 'a> {
 }
 
 impl<'k, 'a> FieldsView<'k, 'a> {
-    pub(crate) fn over(kinds: &'k [Kind], bytes: &'a [u8]) -> FieldsView<'k, 'a>
+    /// The fields of these kinds that the bytes begin with.
+    pub fn over(kinds: &'k [Kind], bytes: &'a [u8]) -> FieldsView<'k, 'a>
         requires block { IsBlock kinds.now }
         requires room { size kinds.now ≤ length bytes.now }
         ensures { result ≡ fields_at kinds.now bytes.now }

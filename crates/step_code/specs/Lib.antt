@@ -16,3 +16,4 @@ pub mod Compiled
 pub mod Rooms
 pub mod Inside
 pub mod Turns
+pub mod RoundInside

@@ -9,7 +9,6 @@ ghost use Rattle.step_code.specs.Code.{size_of};
 ghost use Rattle.step_code.specs.Layout.{behind, field_types};
 ghost use Rattle.step_code.specs.Relation.{HoldAll, Holds, Keeps};
 
-use crate::room::Room;
 use round_lang::{Field, Message, Ty, ValueSet};
 
 /// What a message's fields are read from: `values` is the list of values that it stands for.
@@ -60,7 +59,7 @@ pub(crate) fn load_fields<F: Fields>(
     fields: &[Field],
     k: u32,
     place: usize,
-    room: &mut Room,
+    room: &mut [u64],
 )
     requires within { behind k place (field_types fields.now) ≤ length room.old }
     requires near { behind k place (field_types fields.now) < 2 ^ 16 }
@@ -88,7 +87,7 @@ fn load_field<F: Fields>(
     ty: Ty,
     k: u32,
     place: usize,
-    room: &mut Room,
+    room: &mut [u64],
 ) -> usize
     requires within { place + size_of k ty ≤ length room.old }
     requires near { place + size_of k ty < 2 ^ 16 }
@@ -99,9 +98,9 @@ fn load_field<F: Fields>(
     ensures keeps { Keeps place room.old room.new }
 {
     match ty {
-        Ty::Num => room.put(place, u64::from(message.num(field))),
-        Ty::Bool => room.put(place, u64::from(message.flag(field))),
-        Ty::Set => room.put(place, message.set(field).bits),
+        Ty::Num => room[place] = u64::from(message.num(field)),
+        Ty::Bool => room[place] = u64::from(message.flag(field)),
+        Ty::Set => room[place] = message.set(field).bits,
         Ty::Row => {
             load_row(message, field, k, place, room);
             return k as usize;
@@ -110,7 +109,7 @@ fn load_field<F: Fields>(
     1
 }
 
-fn load_row<F: Fields>(message: &F, field: usize, k: u32, place: usize, room: &mut Room)
+fn load_row<F: Fields>(message: &F, field: usize, k: u32, place: usize, room: &mut [u64])
     requires within { place + k ≤ length room.old }
     requires near { place + k < 2 ^ 16 }
     ensures entries { (v : ℕ) → v < k → slice_index room.new (place + v)
@@ -120,6 +119,6 @@ fn load_row<F: Fields>(message: &F, field: usize, k: u32, place: usize, room: &m
     ensures keeps { Keeps place room.old room.new }
 {
     for v in 0..k {
-        room.put(place + v as usize, u64::from(message.entry(field, v)));
+        room[place + v as usize] = u64::from(message.entry(field, v));
     }
 }

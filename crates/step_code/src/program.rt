@@ -17,6 +17,7 @@ use crate::joining::join_jumps;
 use crate::layout::place_variables;
 use crate::names::Known;
 use crate::pieces::{Piece, emit_starts};
+use crate::round_code::RoundCode;
 use crate::single::further;
 use round_check::Checked;
 use round_lang::{Block, Message, NoMemory, Program, Shape, Ty, Vars};
@@ -133,6 +134,23 @@ impl StepProgram {
         let code = code_in(self.blocks.as_slice(), place)?;
         let free = code.free as usize;
         Some(Part { block, code, free })
+    }
+
+    /// The code of a round, none where the round has no block.
+    pub fn of_round(&self, round: u32) -> Option<RoundCode<'_>>
+        ensures some { IfSome result (λ code. code
+            ≡ record { program = self.now; round = round }) }
+        ensures none { IsNone result → block_at self.now round ≡ None }
+    {
+        let part = self.part(round)?;
+        Some(RoundCode {
+            program: self,
+            round,
+            part,
+            kinds: self.shape(round, part.block).kinds(),
+            values: self.values(),
+            message: self.message_place(),
+        })
     }
 
     /// The kinds of a message's values in a round.

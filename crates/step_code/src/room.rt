@@ -1,6 +1,6 @@
 //! The room of a program.
 ghost use Rattle.std.specs.Prelude.{◌≡◌, ◌≤◌, ◌<◌, ◌+◌, ◌-◌, ℕ, IfOk, length, take, drop};
-ghost use Rattle.std.specs.Prelude.{slice_index, slice_set};
+ghost use Rattle.std.specs.Prelude.{slice_index};
 ghost use Rattle.round_lang.specs.Words.{kind_of, values_of, IsSpelled};
 ghost use Rattle.std.specs.Prelude.{map};
 ghost use Rattle.step_code.specs.Machine.{run, Fine};
@@ -21,7 +21,7 @@ const INLINE: usize = 64;
 /// The words that a program's code runs over. It's made once; no run takes memory.
 #[derive(Drop)]
 pub struct Room {
-    words: SmallVec<u64, INLINE>,
+    pub(crate) words: SmallVec<u64, INLINE>,
 }
 
 impl Model for Room {
@@ -48,14 +48,6 @@ impl Room {
         ensures { result ≡ slice_index self.now place }
     {
         self.words.as_slice()[place]
-    }
-
-    /// Writes a word to a place.
-    pub(crate) fn put(&mut self, place: usize, word: u64)
-        requires { place < length self.old }
-        ensures { self.new ≡ slice_set self.old place word }
-    {
-        self.words.as_mut_slice()[place] = word;
     }
 
     /// Writes these words from a place on.

@@ -17,7 +17,7 @@ ghost use Rattle.step_code.specs.Turns.{env_words, HasState, HasTurn, InTurn, Is
 ghost use Rattle.step_code.specs.Turns.{IsPart, Loaded, Sending};
 
 use crate::block_code::BlockCode;
-use crate::fields::{Fields, load_fields};
+use crate::fields::Fields;
 use crate::program::StepProgram;
 use crate::room::Room;
 use round_lang::{Block, Message, NoMemory, Vars};
@@ -95,21 +95,9 @@ impl StepProgram {
             (inbox ++ record { from = from; message = F.values fields.now } ∷ []) room.new }
         ensures long { length room.new ≡ length room.old }
     {
-        let Some(part) = self.part(round) else {
-            return;
-        };
-        let k = self.values();
-        room.fill(11, &[u64::from(from)]);
-        load_fields(
-            fields,
-            0,
-            part.block.fields(),
-            k,
-            self.message_place(),
-            room,
-        );
-        room.run(k, &part.code.on_message);
-        room.fill(11, &[0]);
+        if let Some(code) = self.of_round(round) {
+            code.message(from, fields, room);
+        }
     }
 
     /// Ends the round: writes the new state over one; takes no memory.

@@ -1,5 +1,6 @@
 pub mod Typing
 pub mod HeldFrames
 pub mod Framing
+pub mod KnownKinds
 pub mod Saying
 pub mod Preparing

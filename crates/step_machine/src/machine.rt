@@ -17,7 +17,7 @@ use round_lang::{Message, NoMemory, Vars};
 use round_meaning::{Setup, types_are_kept};
 use std::alloc::Global;
 use std::marker::Model;
-use step_code::{Room, StepProgram, compile};
+use step_code::{Room, RoundCode, StepProgram, compile};
 
 /// A program's code with a room that it runs in, seen by contracts as the program. Code reads
 /// words, of the kinds that the program's states and messages have.
@@ -105,7 +105,7 @@ impl Machine {
         ensures same { self.new ≡ self.old }
     {
         self.code.init_turn(setup, round, me, state, &mut self.room);
-        take_all(&self.code, round, held, &mut self.room);
+        take_round(&self.code, round, held, &mut self.room);
         self.code.end(round, next, &mut self.room);
     }
 }
@@ -117,38 +117,51 @@ pub(crate) fn keeps_types(program: &Checked)
     types_are_kept(program);
 }
 
-/// Takes a message, which is read where it lies.
-fn take(code: &StepProgram, round: u32, frame: &Sealed, room: &mut Room)
-    requires long { length room.old ≡ room_of code.now }
-    requires kinds { IsOfRound code.now round frame.now.message }
-    ensures takes { (s : OneSetup) (i : ℕ) (old : List Value) (inbox : List Received)
-        → InTurn code.now s round i old inbox room.old
-        → InTurn code.now s round i old
-        (inbox ++ record { from = frame.now.name.from; message = frame.now.message } ∷ [])
-        room.new }
-    ensures long { length room.new ≡ length room.old }
+/// Takes the messages of a round, in rising order of sender.
+fn take_round(program: &StepProgram, round: u32, held: &[Option<Sealed>], room: &mut Room)
+    requires long { length room.old ≡ room_of program.now }
+    requires kinds { AreOfRound program.now round held.now }
+    ensures { (s : OneSetup) (i : ℕ) (old : List Value) (inbox : List Received)
+        → InTurn program.now s round i old inbox room.old
+        → InTurn program.now s round i old (inbox ++ inbox_of held.now) room.new }
 {
-    let fields = FrameFields {
-        fields: frame.fields(),
-    };
-    code.message(round, frame.name().from, &fields, room);
+    if let Some(code) = program.of_round(round) {
+        take_all(&code, held, room);
+    }
 }
 
 /// Takes the messages, in rising order of sender.
-fn take_all(code: &StepProgram, round: u32, held: &[Option<Sealed>], room: &mut Room)
-    requires long { length room.old ≡ room_of code.now }
-    requires kinds { AreOfRound code.now round held.now }
+fn take_all(code: &RoundCode<'_>, held: &[Option<Sealed>], room: &mut Room)
+    requires long { length room.old ≡ room_of code.now.program }
+    requires kinds { AreOfRound code.now.program code.now.round held.now }
     ensures { (s : OneSetup) (i : ℕ) (old : List Value) (inbox : List Received)
-        → InTurn code.now s round i old inbox room.old
-        → InTurn code.now s round i old (inbox ++ inbox_of held.now) room.new }
+        → InTurn code.now.program s code.now.round i old inbox room.old
+        → InTurn code.now.program s code.now.round i old (inbox ++ inbox_of held.now) room.new }
 {
     match held {
         [] => {}
         [first, rest @ ..] => {
             if let Some(frame) = first {
-                take(code, round, frame, room);
+                take(code, frame, room);
             }
-            take_all(code, round, rest, room);
+            take_all(code, rest, room);
         }
     }
+}
+
+/// Takes a message, which is read where it lies.
+fn take(code: &RoundCode<'_>, frame: &Sealed, room: &mut Room)
+    requires long { length room.old ≡ room_of code.now.program }
+    requires kinds { IsOfRound code.now.program code.now.round frame.now.message }
+    ensures takes { (s : OneSetup) (i : ℕ) (old : List Value) (inbox : List Received)
+        → InTurn code.now.program s code.now.round i old inbox room.old
+        → InTurn code.now.program s code.now.round i old
+        (inbox ++ record { from = frame.now.name.from; message = frame.now.message } ∷ [])
+        room.new }
+    ensures long { length room.new ≡ length room.old }
+{
+    let fields = FrameFields {
+        fields: frame.fields_of(code.kinds()),
+    };
+    code.message(frame.name().from, &fields, room);
 }

@@ -1,6 +1,7 @@
 //! Messages on their way.
 ghost use Rattle.std.specs.Arc.{arc_value};
-ghost use Rattle.std.specs.Prelude.{◌≡◌, ◌<◌, ◌≤◌, IfOk};
+ghost use Rattle.std.specs.Prelude.{◌≡◌, ◌<◌, ◌≤◌, IfOk, map};
+ghost use Rattle.round_lang.specs.Words.{kind_of};
 ghost use Rattle.frame_format.specs.Formats.{kinds_at};
 ghost use Rattle.frame_format.specs.Spelling.{AreOf};
 ghost use Rattle.step_machine.specs.Sealed.{max_copy};
@@ -10,9 +11,9 @@ ghost use Rattle.step_machine.specs.Saying.{frame_from, layout_in, IsFrameFrom};
 use crate::event::Name;
 use crate::origin::Origin;
 use crate::said::Said;
-use frame_format::{copy_of, from_of, round_of, spelled_is_read, to_of};
+use frame_format::{FrameVersion, copy_of, from_of, round_of, spelled_is_read, to_of};
 use frame_views::{FieldsView, FrameView, write_copy, write_frame};
-use round_lang::{Message, NoMemory, Vars};
+use round_lang::{Kind, Message, NoMemory, Vars};
 use std::marker::Model;
 use std::sync::Arc;
 
@@ -128,6 +129,17 @@ impl Sealed {
         ensures { result ≡ self.now.message }
     {
         FieldsView::of_frame(&self.said.origin.layout, self.said.part(self.first))
+    }
+
+    /// The same fields, of which the kinds are known.
+    #[inline(always)]
+    pub(crate) fn fields_of<'a>(&'a self, kinds: &'a [Kind]) -> FieldsView<'a, 'a>
+        requires { map kind_of self.now.message ≡ kinds.now }
+        ensures { result ≡ self.now.message }
+    {
+        self.said.origin.layout.lawful();
+        let bytes = self.said.part(self.first);
+        FieldsView::over(kinds, &bytes[FrameVersion::V2.header_size()..])
     }
 
     /// The frame's bytes.
