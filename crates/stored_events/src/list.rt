@@ -1,5 +1,6 @@
 //! Lists of events in few bytes.
-ghost use Rattle.std.specs.Prelude.{◌≡◌, ◌++◌, ◌∷◌, [], IfOk, IsTrue, OnErr, OnOk, false};
+ghost use Rattle.std.specs.Prelude.{◌≡◌, ◌<◌, ◌++◌, ◌∷◌, [], IfOk, IsTrue, OnErr, OnOk, false};
+ghost use Rattle.std.specs.Prelude.{vec_capacity, vec_len};
 ghost use Rattle.stored_events.specs.Stored.{AreLate, IsFew, IsFewName};
 
 use crate::event::{StoredEvent, events_of};
@@ -29,14 +30,14 @@ impl Model for Events {
 }
 
 impl Events {
-    /// No events, with room for so many.
-    pub fn new(alloc: Global, room: usize) -> Result<Events, NoMemory>
-        ensures { IfOk result (λ events. events ≡ []) }
+    /// No events; takes no memory.
+    pub fn new(alloc: Global) -> Events
+        ensures { result ≡ [] }
     {
-        Ok(Events {
-            few: Vec::with_capacity(alloc, room)?,
+        Events {
+            few: Vec::new(alloc),
             whole: Vec::new(alloc),
-        })
+        }
     }
 
     /// Adds an event.
@@ -46,7 +47,9 @@ impl Events {
         ensures err { OnErr result (self.new ≡ self.old) }
     {
         if self.whole.is_empty() && is_few(event) {
-            self.few.reserve(1)?;
+            if self.few.len() == self.few.capacity() {
+                make_room(&mut self.few)?;
+            }
             self.few.push_reserved(StoredEvent::new(event));
         } else {
             self.whole.push(event)?;
@@ -62,13 +65,12 @@ impl Events {
         (&self.few, &self.whole)
     }
 
-    /// The same, taken apart.
-    pub fn into_parts(self) -> (Vec<StoredEvent>, Vec<Event>)
-        ensures all { self ≡ result.0.items ++ result.1.items }
-        ensures late { AreLate result.1.items }
+    /// Takes all events away and keeps their memory.
+    pub fn clear(&mut self)
+        ensures { self.new ≡ [] }
     {
-        let Events { few, whole } = self;
-        (few, whole)
+        self.few.clear();
+        self.whole.clear();
     }
 
     /// The events as they are elsewhere.
@@ -79,6 +81,16 @@ impl Events {
         events.extend_from_slice(&self.whole)?;
         Ok(events)
     }
+}
+
+/// Makes room for one event more. It stands apart, since a list seldom grows.
+#[inline(never)]
+fn make_room(events: &mut Vec<StoredEvent>) -> Result<(), NoMemory>
+    ensures same { events.new.items ≡ events.old.items }
+    ensures room { OnOk result (vec_len events.new < vec_capacity events.new) }
+{
+    events.reserve(1)?;
+    Ok(())
 }
 
 /// Whether an event can be stored in 6 bytes.
