@@ -4,6 +4,7 @@ pub mod Inputs
 pub mod Lines
 pub mod Digits
 pub mod Split
+pub mod FirstWords
 pub mod FirstLines
 pub mod Written
 pub mod Words
@@ -13,3 +14,8 @@ pub mod Sound
 pub mod OneReading
 pub mod Answered
 pub mod Decimals
+pub mod Utf8
+pub mod Pieces
+pub mod Intakes
+pub mod Drained
+pub mod Readers

@@ -1,11 +1,12 @@
 -- The number at the front of a text.
-use Rattle.std.proofs.Common.{◌≡◌, ◌≢◌, ℕ, ◌+◌, ◌*◌, ◌<◌, ◌≤◌, Bool, true, false, cond, eqb, ◌&&◌, List}
+use Rattle.std.proofs.Common.{◌≡◌, ◌≢◌, ℕ, ◌+◌, ◌^◌, ◌<◌, ◌≤◌, Bool, true, false, cond, eqb, ◌&&◌, List}
 use Rattle.std.proofs.Common.{[], ◌∷◌, ◌++◌, length, take, drop, get_or, map, Option, Some, None}
 use Rattle.std.proofs.Common.{option_map, Result, Ok, Err, leb, le-leb, append_assoc, refl, sym, ap}
 use Rattle.std.proofs.Common.{subst, ◌∙◌, arith}
 use Rattle.std.specs.Char.{is_ascii_digit}
 use Rattle.std.specs.List.{list_all, onto_first, prefix_len, take_while}
 use Rattle.std.proofs.lemmas.Bool.{and_parts, and_from, and_left, and_right, ne_eqb, cond_both}
+use Rattle.std.proofs.Math.Nat.{pow-le-pow_right}
 use Rattle.std.proofs.lemmas.List.{take_all, take-append-drop, drop_more}
 use Rattle.std.proofs.lemmas.List.Sums.{take_while-cons, prefix_len_is, prefix_len_stops}
 use Rattle.std.proofs.lemmas.List.Folds.{length-prefix_len}
@@ -128,24 +129,15 @@ pub record CountsDigits (t : List ℕ) (n v : ℕ) : Type 0 where
   pub digits : (k : ℕ) → k < n → is_ascii_digit (get_or t k 0) ≡ true
   pub value : v ≡ capped (value_of (take n t))
 
--- n digits, five at most, spell a number of so many digits
-pub record IsShort (n v : ℕ) : Type 0 where
-  pub none : n ≡ 0 → v ≡ 0
-  pub one : n ≤ 1 → v ≤ 9
-  pub two : n ≤ 2 → v ≤ 99
-  pub three : n ≤ 3 → v ≤ 999
-  pub four : n ≤ 4 → v ≤ 9999
-  pub all : v ≤ 99999
+-- the first n bytes of a text are digits, and spell v
+pub record Spell (t : List ℕ) (n v : ℕ) : Type 0 where
+  pub digits : list_all is_ascii_digit (take n t) ≡ true
+  pub value : v ≡ value_of (take n t)
+  pub below : v < 10 ^ n
 
-pub short_more : (n v w d : ℕ) → n < 5 → d ≤ 9 → w ≡ 10 * v + d → IsShort n v → IsShort (n + 1) w
-short_more n v w d few digit is h = record {
-  none = λ l. absurd (omega (arith, l));
-  one = λ l. let a = h.none (omega (arith, l)) in omega (arith, a, digit, is);
-  two = λ l. let a = h.one (omega (arith, l)) in omega (arith, a, digit, is);
-  three = λ l. let a = h.two (omega (arith, l)) in omega (arith, a, digit, is);
-  four = λ l. let a = h.three (omega (arith, l)) in omega (arith, a, digit, is);
-  all = let a = h.four (omega (arith, few)) in omega (arith, a, digit, is);
-}
+-- eight digits at most spell a number below 10 ^ 8
+pub spell_few : (t : List ℕ) (n v : ℕ) → Spell t n v → n ≤ 8 → v < 100000000
+spell_few t n v s few = let most : 10 ^ n ≤ 10 ^ 8 = pow-le-pow_right (omega arith) few in let l = s.below in omega (arith, most, l)
 
 pub digits_end : (t : List ℕ) (n v : ℕ) → CountsDigits t n v → n ≤ length t → (n < length t → is_ascii_digit (get_or t n 0) ≡ false) → (n ≡ prefix_len is_ascii_digit t) × (v ≡ capped (front_value t))
 digits_end t n v all within stops =

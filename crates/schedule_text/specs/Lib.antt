@@ -7,3 +7,7 @@ pub mod Fronts
 pub mod Outcome
 pub mod Writing
 pub mod Small
+pub mod Bytes
+pub mod Sources
+pub mod Intakes
+pub mod Readers

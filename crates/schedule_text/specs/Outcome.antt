@@ -1,5 +1,5 @@
 -- How what was returned stands to what a text says.
-use Rattle.std.specs.Prelude.{◌≡◌, ℕ, ◌+◌, ◌<◌, List, length, Result, Ok, Err}
+use Rattle.std.specs.Prelude.{◌≡◌, ℕ, ◌+◌, ◌<◌, ◌++◌, List, length, Result, Ok, Err}
 use Rattle.std.specs.Borrow.{Bor}
 use Rattle.std.specs.Global.{Vec}
 use Rattle.std.specs.Str.Lines.{lines}
@@ -13,6 +13,7 @@ use Rattle.schedule_text.specs.declared.draft.Stage.TheVariants.{Whole}
 use Rattle.round_meaning.specs.declared.setup.Setup.{Setup}
 use Rattle.slot_plans.specs.declared.kind.PlanKind.{PlanKind}
 use Rattle.schedule_text.specs.declared.kind.Kind.{Kind}
+use Rattle.schedule_text.specs.declared.line_reader.LineReader.{LineReader}
 use Rattle.schedule_text.specs.declared.kind.Kind.TheVariants as kinds
 use Rattle.schedule_text.specs.declared.reading.Schedule.{Schedule}
 use Rattle.schedule_text.specs.declared.reading.ThreadSetup.{ThreadSetup}
@@ -40,15 +41,30 @@ GivesState (Ok _) d said = said ≡ Ok (state_of d)
 GivesState (Err line.NoMemory) d said = Unit {0}
 GivesState (Err e) d said = said ≡ Err e
 
--- the first line was taken in and the rest is left, so that all lines say what those of the rest
--- say then; only memory excuses another fault than that of the line
+-- the first line was taken in and the rest is left, so that all lines, and others behind them, say
+-- what those of the rest say then; only memory excuses another fault than that of the line
 abbrev pub GivesFront : Kind → Result (Bor (List ℕ)) LineFault → State → Draft → List ℕ → Type 0
 GivesFront kind (Ok rest) s d text =
     (length rest.now < length text)
-    × ((k : ℕ)
-    → from_line kind k s (lines text) ≡ from_line kind (k + 1) (state_of d) (lines rest.now))
+    × ((k : ℕ) (behind : List (List ℕ)) → from_line kind k s (lines text ++ behind)
+    ≡ from_line kind (k + 1) (state_of d) (lines rest.now ++ behind))
 GivesFront kind (Err line.NoMemory) s d text = Unit {0}
-GivesFront kind (Err e) s d text = (k : ℕ) → from_line kind k s (lines text) ≡ Err (at_line k e)
+GivesFront kind (Err e) s d text =
+    (k : ℕ) (behind : List (List ℕ)) → from_line kind k s (lines text ++ behind) ≡ Err (at_line k e)
+
+-- what lines say that come next
+abbrev pub said_by : (kind : Kind) → LineReader → List (List ℕ) → AnswerOf kind
+said_by kind r ls = from_line kind r.number (state_of r.draft) ls
+
+-- a text's lines were taken in, so that they, and others behind them, say what those behind them
+-- say then; only memory excuses another fault than that of a line
+abbrev pub GivesLines :
+    Kind → Result (Unit {0}) ScheduleFault → (old new : LineReader) → List ℕ → Type 0
+GivesLines kind (Ok _) old new text =
+    (behind : List (List ℕ)) → said_by kind old (lines text ++ behind) ≡ said_by kind new behind
+GivesLines kind (Err fault.NoMemory) old new text = Unit {0}
+GivesLines kind (Err e) old new text =
+    (behind : List (List ℕ)) → said_by kind old (lines text ++ behind) ≡ Err e
 
 -- the draft shows the state at the end, before the line of this number, and only memory excuses
 -- another fault than this

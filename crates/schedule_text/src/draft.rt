@@ -1,5 +1,5 @@
 //! A text while its lines are read.
-ghost use Rattle.std.specs.Prelude.{◌≡◌, ◌<◌, IfOk, length};
+ghost use Rattle.std.specs.Prelude.{◌≡◌, ◌<◌, length};
 ghost use Rattle.schedule_text.specs.Outcome.{whole_header};
 
 use crate::fault::{LineFault, ScheduleFault};
@@ -37,22 +37,23 @@ pub struct Draft {
 }
 
 impl Draft {
-    ghost use Rattle.std.specs.Prelude.{◌≢◌, Err};
+    ghost use Rattle.std.specs.Prelude.{◌≢◌, Err, IfOk};
+    ghost use Rattle.schedule_text.specs.Intakes.{header_in};
     ghost use Rattle.schedule_text.specs.Stages as spec;
     ghost use Rattle.schedule_text.specs.Outcome.{Gives, GivesFront, GivesHeader, GivesState};
     ghost use Rattle.schedule_text.specs.Outcome.{GivesThreads, state_of};
     ghost use Rattle.schedule_text.specs.declared.kind.Kind.TheVariants as kinds;
 
-    /// Nothing read, with room for so many events.
-    pub fn new(alloc: Global, events: usize) -> Result<Draft, NoMemory>
-        ensures { IfOk result (λ draft. state_of draft ≡ spec.start) }
+    /// Nothing read.
+    pub fn new(alloc: Global) -> Draft
+        ensures { state_of result ≡ spec.start }
     {
-        Ok(Draft {
+        Draft {
             stage: Stage::Start,
             inputs: Vec::new(alloc),
-            events: Events::new(alloc, events)?,
+            events: Events::new(alloc),
             stops: Vec::new(alloc),
-        })
+        }
     }
 
     /// Takes in the first line of a text of this kind and answers what follows it; a draft that has
@@ -163,6 +164,19 @@ impl Draft {
             pace,
             stops,
         })
+    }
+
+    /// The header so far, where it is whole.
+    pub(crate) fn whole_header(&self, alloc: Global) -> Result<Option<(Setup, PlanKind)>, NoMemory>
+        ensures { IfOk result (λ header. header ≡ header_in self.now) }
+    {
+        match self.stage {
+            Stage::Whole(nodes, faults, rounds, plan) => {
+                let inputs = self.inputs.to_vec(alloc)?;
+                Ok(Some((setup_of(nodes, faults, inputs, rounds), plan)))
+            }
+            _ => Ok(None),
+        }
     }
 
     /// The header, where it is whole; else the fault at the line past the last.

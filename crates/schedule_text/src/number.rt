@@ -1,5 +1,5 @@
 //! Numbers in a line, separated by single spaces.
-ghost use Rattle.std.specs.Prelude.{◌≡◌, ◌≤◌, length, IfSome};
+ghost use Rattle.std.specs.Prelude.{◌≡◌, ◌+◌, ◌<◌, ◌≤◌, length, IfSome};
 ghost use Rattle.std.specs.Char.{is_ascii_digit};
 ghost use Rattle.std.specs.List.{prefix_len};
 ghost use Rattle.schedule_text.specs.Fronts.{IsFront, IsNumberBefore, capped, front_value};
@@ -52,60 +52,25 @@ pub fn first_number(text: &[u8]) -> Option<Front<'_>>
     })
 }
 
-/// The number that stands before this byte at the front of a text, and what follows the byte;
-/// `None` also where the number is above the largest.
+/// The number of so many digits at most that stands before this byte at the front of a text, and
+/// what follows the byte. No byte is tested for being there.
 #[inline(always)]
-pub fn number_before(text: &[u8], end: u8) -> Option<(u32, &[u8])>
-    ensures { IfSome result (λ r. IsNumberBefore text.now end r.0 r.1.now) }
+pub fn number_before(text: &[u8], digits: usize, end: u8) -> Option<(u32, &[u8])>
+    requires few { digits ≤ 8 }
+    requires long { digits < length text.now }
+    ensures number { IfSome result (λ r. IsNumberBefore text.now end r.0 r.1.now) }
+    ensures near { IfSome result (λ r. length text.now ≤ length r.1.now + (digits + 1)) }
 {
-    match short_number_before(text, end) {
-        Some(number) => Some(number),
-        None => long_number_before(text, end),
-    }
-}
-
-/// Within how many bytes a short number ends.
-const SHORT: usize = 5;
-
-/// The same where the number ends within the first bytes, and more bytes follow: then nothing has
-/// to be tested at each digit but that it is one.
-#[inline(always)]
-fn short_number_before(text: &[u8], end: u8) -> Option<(u32, &[u8])>
-    ensures { IfSome result (λ r. IsNumberBefore text.now end r.0 r.1.now) }
-{
-    if text.len() < SHORT {
-        return None;
-    }
     let mut value = 0u32;
-    for place in 0..SHORT {
+    for place in 0..digits + 1 {
         let byte = text[place];
-        if !byte.is_ascii_digit() {
-            if place == 0 || byte != end {
-                return None;
-            }
+        if place > 0 && byte == end {
             return Some((value, &text[place + 1..]));
         }
-        value = 10 * value + u32::from(byte - b'0');
-    }
-    None
-}
-
-/// The same for a number of any length.
-fn long_number_before(text: &[u8], end: u8) -> Option<(u32, &[u8])>
-    ensures { IfSome result (λ r. IsNumberBefore text.now end r.0 r.1.now) }
-{
-    let mut value = 0u64;
-    for (place, byte) in text.iter().enumerate() {
         if !byte.is_ascii_digit() {
-            if place == 0 || *byte != end {
-                return None;
-            }
-            return Some((value as u32, &text[place + 1..]));
-        }
-        value = 10 * value + u64::from(byte - b'0');
-        if value > MAX_NUMBER {
             return None;
         }
+        value = 10 * value + u32::from(byte - b'0');
     }
     None
 }

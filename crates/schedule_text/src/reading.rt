@@ -1,5 +1,5 @@
 //! Reading the texts of schedules, thread setups and headers.
-ghost use Rattle.std.specs.Prelude.{◌≡◌, ◌≢◌, ◌<◌, ◌↔◌, Err, length};
+ghost use Rattle.std.specs.Prelude.{◌≡◌, ◌≢◌, ◌<◌, ◌≤◌, ◌↔◌, Err, length};
 ghost use Rattle.std.specs.Str.Lines.{lines};
 ghost use Rattle.schedule_text.specs.Outcome.{Gives, GivesEnd, GivesHeader, GivesThreads};
 ghost use Rattle.schedule_text.specs.Outcome.{IsHeaderRead, IsRead, IsThreadsRead};
@@ -11,6 +11,7 @@ ghost use Rattle.schedule_text.specs.declared.kind.Kind.TheVariants as kinds;
 use crate::draft::Draft;
 use crate::fault::ScheduleFault;
 use crate::kind::Kind;
+use crate::line_reader::LineReader;
 use crate::pace::{Pace, Stop};
 use round_meaning::Setup;
 use slot_plans::PlanKind;
@@ -36,10 +37,6 @@ pub struct ThreadSetup {
 
 /// The most bytes that a text may have.
 pub const MAX_TEXT: usize = 16_777_216;
-
-/// How long a line is in most texts; room for the events is made by it, and more is made where it's
-/// wanting.
-const USUAL_LINE: usize = 12;
 
 /// The schedule that a text is.
 ///
@@ -103,34 +100,16 @@ fn read_text(alloc: Global, kind: Kind, text: &str) -> Result<(Draft, u64), Sche
     if text.len() > MAX_TEXT {
         return Err(ScheduleFault::TooLong);
     }
-    let events = match kind {
-        Kind::Schedule => text.len() / USUAL_LINE,
-        _ => 0,
-    };
-    read_lines(alloc, kind, events, text.as_bytes())
+    read_lines(alloc, kind, text.as_bytes())
 }
 
-/// The same of a text that isn't too long, with room for so many events.
-fn read_lines(
-    alloc: Global,
-    kind: Kind,
-    events: usize,
-    text: &[u8],
-) -> Result<(Draft, u64), ScheduleFault>
+/// The same of a text that isn't too long.
+fn read_lines(alloc: Global, kind: Kind, text: &[u8]) -> Result<(Draft, u64), ScheduleFault>
+    requires { length text.now ≤ max_text }
     ensures read { GivesEnd kind result (stage.from_line kind 1 stage.start (lines text.now)) }
     ensures short { result ≢ Err ScheduleFault.TooLong }
 {
-    let Ok(mut draft) = Draft::new(alloc, events) else {
-        return Err(ScheduleFault::NoMemory);
-    };
-    let mut number = 1u64;
-    let mut rest = text;
-    while !rest.is_empty() {
-        match draft.read_front(alloc, kind, rest) {
-            Ok(behind) => rest = behind,
-            Err(fault) => return Err(fault.at(number)),
-        }
-        number += 1;
-    }
-    Ok((draft, number))
+    let mut reader = LineReader::new(alloc);
+    reader.read(alloc, kind, text)?;
+    Ok((reader.draft, reader.number))
 }

@@ -1,0 +1,20 @@
+use Rattle.std.proofs.Common.{◌≡◌, ◌++◌, ◌-◌, ◌≤◌, codes, take, drop, length, arith}
+use Rattle.schedule_text.proofs.FirstWords.{begins_release, begins_step}
+use Rattle.schedule_text.proofs.front.front_event.Goals as goal
+
+pub returns-then-from_le_bytes : goal.returns-then-from_le_bytes
+returns-then-from_le_bytes c =
+    let t = c.args.text.now in
+    let cut = c.in_ok-word.ensures.cases in
+    let long : 8 ≤ length t = omega (arith, c.if-text-lt-LONGEST.false) in
+    let whole : t ≡ codes "release " ++ c.in_ok-word.rest.now = begins_release t _ _ _ _ (λ i. omega (arith, c.type_inv.text i)) c.if-from_le_bytes.true long cut.0 cut.1 c.from_le_bytes.ensures c.from_le_bytes-2.ensures in
+    rw whole c.front_release.ensures
+
+pub returns-then-rest-eq32 : goal.returns-then-rest-eq32
+returns-then-rest-eq32 c =
+    let t = c.args.text.now in
+    let cut = c.in_ok-word-2.ensures.cases in
+    let rest = c.in_ok-word-2.rest.now in
+    let long : 5 ≤ length t = omega (arith, c.if-text-lt-LONGEST.false) in
+    let whole : t ≡ codes "step " ++ take (length rest - 1) (drop 1 rest) = begins_step t _ _ _ _ (λ i. omega (arith, c.type_inv.text i)) c.if-from_le_bytes-2.true long cut.0 cut.1 c.from_le_bytes-3.ensures c.from_le_bytes-4.ensures c.if-rest-eq32.true in
+    rw whole c.front_step.ensures
