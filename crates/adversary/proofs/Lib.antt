@@ -5,5 +5,5 @@ mod Rows
 pub mod Settled
 pub mod Nodes
 pub mod Asked
+pub mod ReadRuns
 pub mod Unknown
-pub mod Left

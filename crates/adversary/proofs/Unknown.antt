@@ -1,8 +1,9 @@
 -- Events that a run hasn't, and the parts of a list of events.
-use Rattle.std.proofs.Common.{◌≡◌, ℕ, ◌<◌, All, List, [], ◌∷◌, ◌++◌, length, get_or, arith, refl}
-use Rattle.std.proofs.Common.{ap, append-nil, sym, subst, ◌∙◌}
+use Rattle.std.proofs.Common.{◌≡◌, ℕ, ◌+◌, ◌-◌, ◌<◌, ◌≤◌, ◌⊎◌, inl, inr, All, List, [], ◌∷◌, ◌++◌}
+use Rattle.std.proofs.Common.{length, get_or, arith, refl, append_assoc, sym, subst, ◌∙◌}
 use Rattle.std.proofs.Math.Seq.{get_or-append_seam}
-use Rattle.std.proofs.lemmas.List.{get_or_append_left, get_or_default, length-append}
+use Rattle.std.proofs.lemmas.Bool.{cases_lt}
+use Rattle.std.proofs.lemmas.List.{get_or_append_left, get_or-append-add, get_or-append_right, get_or_default, length-append}
 use Rattle.round_meaning.specs.declared.setup.Setup.{Setup}
 use Rattle.round_meaning.specs.Setups.{IsSetup}
 use Rattle.step_book.specs.Names.{IsName}
@@ -10,7 +11,7 @@ use Rattle.step_machine.specs.declared.event.Event.{Event}
 use Rattle.step_machine.specs.declared.event.Event.TheVariants.{Step, Release, Drop, Copy}
 use Rattle.step_machine.specs.declared.event.Name.{Name}
 use Rattle.stored_events.specs.Stored.{AreLate, IsFew, IsFewName}
-use Rattle.adversary.specs.Driving.{IsFaultOf, IsFirstAt, IsKnown, IsOfMessage, IsStep, IsUnknownAt}
+use Rattle.adversary.specs.Driving.{IsFaultOf, IsFirstAt, IsKnown, IsOfMessage, IsStep, IsUnknownAt, IsUnknownPast}
 use Rattle.adversary.specs.declared.fault.RunFault.{RunFault}
 use Rattle.adversary.specs.declared.fault.RunFault.TheVariants as fault
 
@@ -49,15 +50,6 @@ few_event s h (Release n) known = few_name s h n known
 few_event s h (Drop n) known = few_name s h n known
 few_event s h (Copy n) known = few_name s h n known.0
 
--- so known events aren't followed by one whose numbers are too large
-pub none_late : (s : Setup) (few whole : List Event) → IsSetup s → AreLate whole → All (IsKnown s) (few ++ whole) → whole ≡ []
-none_late s few [] h late known = refl
-none_late s few (e ∷ es) h late known =
-    absurd (late (few_event s h e (subst (IsKnown s) (get_or-append_seam few e es e) (known (length few) e (omega (arith, length-append few (e ∷ es)))))))
-
-pub all_few : (s : Setup) (few whole : List Event) → IsSetup s → AreLate whole → All (IsKnown s) (few ++ whole) → few ++ whole ≡ few
-all_few s few whole h late known = ap (λ es. few ++ es) (none_late s few whole h late known) ∙ append-nil few
-
 -- the first unknown event of the first part is that of the whole
 first_left : (s : Setup) (few whole : List Event) (k : ℕ) → IsFirstAt s few k → IsFirstAt s (few ++ whole) k
 first_left s few whole k h = (
@@ -76,14 +68,36 @@ unknown_left s few whole fault.NoMemory h = absurd h
 unknown_left s few whole fault.NoThread h = absurd h
 unknown_left s few whole fault.Unmatched h = absurd h
 
--- and where that has none, an event whose numbers are too large is unknown
-pub unknown_late : (s : Setup) (few whole : List Event) (e : Event) (f : RunFault) → IsSetup s → AreLate whole → 0 < length whole → e ≡ get_or whole 0 e
-    → All (IsKnown s) few → IsFaultOf e (length few) f → IsUnknownAt s (few ++ whole) f
-unknown_late s few [] e f h late some is known cause = absurd (omega (arith, some))
-unknown_late s few (x ∷ es) e f h late some is known cause =
-    unknown_is s (few ++ x ∷ es) (length few) e f (omega (arith, length-append few (x ∷ es)))
+-- where all before it are known, the first unknown event of what follows is that of the whole
+known_past : (s : Setup) (before events : List Event) (k : ℕ) → All (IsKnown s) before → ((j : ℕ) (d : Event) → j < k → IsKnown s (get_or events j d))
+    → (j : ℕ) (d : Event) → j < length before + k → IsKnown s (get_or (before ++ events) j d)
+known_past s before events k known first j d l = at (cases_lt j (length before))
+  where
+    at : (j < length before) ⊎ (length before ≤ j) → IsKnown s (get_or (before ++ events) j d)
+    at (inl m) = subst (IsKnown s) (sym (get_or_append_left before events d j m)) (known j d m)
+    at (inr m) = subst (IsKnown s) (sym (get_or-append_right before events (length before) j d refl m)) (first (j - length before) d (omega (arith, l, m)))
+
+pub unknown_past : (s : Setup) (n : ℕ) (events : List Event) (k : ℕ) (e : Event) (f : RunFault) → k < length events → e ≡ get_or events k e → ¬ IsKnown s e
+    → ((j : ℕ) (d : Event) → j < k → IsKnown s (get_or events j d)) → IsFaultOf e (n + k) f → IsUnknownPast s n events f
+unknown_past s n events k e f within is strange first cause before sized known =
+    let at : IsFaultOf e (length before + k) f = subst (λ m. IsFaultOf e (m + k) f) (sym sized) cause in
+    unknown_is s (before ++ events) (length before + k) e f (omega (arith, within, length-append before events))
+    (is ∙ sym (get_or-append-add before events k e)) strange (known_past s before events k known first) at
+
+-- so it is where others follow
+pub unknown_begins : (s : Setup) (n : ℕ) (few whole : List Event) (f : RunFault) → IsUnknownPast s n few f → IsUnknownPast s n (few ++ whole) f
+unknown_begins s n few whole f h before sized known =
+    subst (λ es. IsUnknownAt s es f) (append_assoc before few whole) (unknown_left s (before ++ few) whole f (h before sized known))
+
+-- an event whose numbers are too large is unknown
+pub unknown_late : (s : Setup) (n m : ℕ) (few whole : List Event) (e : Event) (f : RunFault) → IsSetup s → AreLate whole → 0 < length whole → e ≡ get_or whole 0 e
+    → m ≡ n + length few → All (IsKnown s) few → IsFaultOf e m f → IsUnknownPast s n (few ++ whole) f
+unknown_late s n m few [] e f h late some is counted known cause = absurd (omega (arith, some))
+unknown_late s n m few (x ∷ es) e f h late some is counted known cause =
+    let at : IsFaultOf e (n + length few) f = subst (λ k. IsFaultOf e k f) counted cause in
+    unknown_past s n (few ++ x ∷ es) (length few) e f (omega (arith, length-append few (x ∷ es)))
     (is ∙ sym (get_or-append_seam few x es e)) (λ known. late (subst IsFew is (few_event s h e known)))
-    (λ j d l. subst (IsKnown s) (sym (get_or_append_left few (x ∷ es) d j l)) (known j d l)) cause
+    (λ j d l. subst (IsKnown s) (sym (get_or_append_left few (x ∷ es) d j l)) (known j d l)) at
 
 -- and there is none at all
 pub known_whole : (s : Setup) (few whole : List Event) → length whole ≡ 0 → All (IsKnown s) few → All (IsKnown s) (few ++ whole)

@@ -110,6 +110,11 @@ IsUnknownAt s events (fault.UnknownMessage k) =
     IsFirstAt s events k × ((d : Event) → IsOfMessage (slice_index_or events k d))
 IsUnknownAt s events f = ⊥
 
+-- so it is of events behind so many others that are known
+abbrev pub IsUnknownPast : Setup → ℕ → List Event → RunFault → Type 0
+IsUnknownPast s n events f = (before : List Event) → length before ≡ n → All (IsKnown s) before
+    → IsUnknownAt s (before ++ events) f
+
 -- the fault of an event at this place
 abbrev pub IsFaultOf : Event → ℕ → RunFault → Type 0
 IsFaultOf (Step i) k f = f ≡ fault.UnknownNode k

@@ -1,5 +1,6 @@
 //! Runs that go on event by event, on one thread.
-ghost use Rattle.std.specs.Prelude.{◌≡◌, ℕ, ◌+◌, ◌<◌, ◌≤◌, ◌∷◌, [], All, IfOk, OnOk};
+ghost use Rattle.std.specs.Prelude.{◌≡◌, ℕ, ◌+◌, ◌<◌, ◌≤◌, ◌⊎◌, ◌∷◌, [], All, IfErr, IfOk, OnOk};
+ghost use Rattle.std.specs.Prelude.{length};
 ghost use Rattle.round_meaning.specs.Setups.{IsLawful, IsSetup, max_rounds};
 ghost use Rattle.step_book.specs.Agreement.{row};
 ghost use Rattle.step_book.specs.Log.{count_of, happened, opened, round_of};
@@ -10,7 +11,10 @@ ghost use Rattle.step_machine.specs.Nodes.{HasPlaces, algorithm_in};
 ghost use Rattle.step_machine.specs.declared.event.Event.TheVariants as event;
 ghost use Rattle.adversary.specs.Driving.{AreMore, AreNodesOf, ClosedAreDue, GoesOn, IsDriven};
 ghost use Rattle.adversary.specs.Driving.{IsInRound, IsKnown, IsNodeOf, IsOneMore, IsSettled};
+ghost use Rattle.adversary.specs.Driving.{IsUnknownPast};
 
+use crate::fault::RunFault;
+use crate::running::{is_known, unknown_at};
 use round_check::Checked;
 use round_lang::NoMemory;
 use round_meaning::Setup;
@@ -20,9 +24,6 @@ use std::marker::Model;
 use step_journal::Journal;
 use step_machine::{Event, Name, Node, Sealed};
 use stored_events::StoredEvent;
-
-/// After how many events the memory of those that are recorded is let go.
-const LET_GO: usize = 65_536;
 
 /// A run whose nodes stand where its journal says, and whose due rounds are closed.
 #[derive(Drop)]
@@ -111,23 +112,25 @@ impl<P: Plan> Driver<P> {
         Ok(Driver { journal, nodes })
     }
 
-    /// The same with a list that is let go as its events are recorded.
-    pub fn act_out(self, events: Vec<StoredEvent>) -> Result<Driver<P>, NoMemory>
-        requires { All (IsKnown self.log.setup) events.items }
+    /// The same with events that may name what the run hasn't, up to the first that does. Where one
+    /// does, and where there is no memory, the run is gone.
+    pub(crate) fn act_known(self, events: &[StoredEvent]) -> Result<Driver<P>, RunFault>
+        ensures known { IfOk result (λ _driver. All (IsKnown self.log.setup) events.now) }
         ensures plan { IfOk result (λ driver. driver.plan ≡ self.plan) }
-        ensures log { IfOk result (λ driver. AreMore self.log driver.log events.items) }
+        ensures log { IfOk result (λ driver. AreMore self.log driver.log events.now) }
+        ensures cause { IfErr result (λ fault. (fault ≡ RunFault.NoMemory)
+            ⊎ IsUnknownPast self.log.setup (length self.log.trace) events.now fault) }
     {
         let Driver {
             mut journal,
             mut nodes,
         } = self;
-        let mut events = events;
-        events.reverse();
-        while let Some(stored) = events.pop() {
-            act(&mut journal, &mut nodes, stored.event())?;
-            if events.len() % LET_GO == 0 {
-                events.shrink_to_fit();
+        for stored in events {
+            let event = stored.event();
+            if !is_known(journal.book().setup(), event) {
+                return Err(unknown_at(event, journal.book().trace().len()));
             }
+            act(&mut journal, &mut nodes, event)?;
         }
         Ok(Driver { journal, nodes })
     }

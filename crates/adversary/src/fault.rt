@@ -1,5 +1,7 @@
 //! Why there is no run.
 
+use round_lang::NoMemory;
+use schedule_text::TextFault;
 use thiserror::Error;
 
 /// Why a schedule isn't run, or a run by threads has no journal; positions are those of the events
@@ -23,4 +25,49 @@ pub enum RunFault {
     /// What threads were told isn't what their run recorded; of runs by threads alone.
     #[error("what threads were told isn't what their run recorded")]
     Unmatched,
+}
+
+impl From<NoMemory> for RunFault {
+    ghost use Rattle.std.specs.Prelude.{◌≡◌};
+    ghost use Rattle.adversary.specs.declared.fault.RunFault.TheVariants as run;
+
+    ghost from_gives = { λ _ fault. fault ≡ run.NoMemory };
+
+    fn from(_error: NoMemory) -> RunFault {
+        RunFault::NoMemory
+    }
+}
+
+/// Why a schedule that is read while it's run has no journal.
+#[derive(Clone, Copy, PartialEq, Eq, Debug, Error)]
+pub enum ReadFault {
+    /// The text is no schedule.
+    #[error("{0}")]
+    Text(TextFault),
+    /// It is one, and isn't run.
+    #[error("{0}")]
+    Run(RunFault),
+}
+
+impl From<TextFault> for ReadFault {
+    ghost use Rattle.std.specs.Prelude.{◌≡◌};
+    ghost use Rattle.adversary.specs.declared.fault.ReadFault.TheVariants as read;
+
+    ghost from_gives = { λ fault e. e ≡ read.Text fault };
+
+    fn from(fault: TextFault) -> ReadFault {
+        ReadFault::Text(fault)
+    }
+}
+
+impl From<NoMemory> for ReadFault {
+    ghost use Rattle.std.specs.Prelude.{◌≡◌};
+    ghost use Rattle.adversary.specs.declared.fault.ReadFault.TheVariants as read;
+    ghost use Rattle.adversary.specs.declared.fault.RunFault.TheVariants as run;
+
+    ghost from_gives = { λ _ e. e ≡ read.Run run.NoMemory };
+
+    fn from(_error: NoMemory) -> ReadFault {
+        ReadFault::Run(RunFault::NoMemory)
+    }
 }

@@ -10,12 +10,12 @@ mod trace;
 
 pub use asking::run_policy;
 pub use driver::Driver;
-pub use fault::RunFault;
+pub use fault::{ReadFault, RunFault};
 pub use policies::{Bounded, Choice, Faulty, Hoard, Policy, Prompt, Script, Table};
-pub use read::run_events;
+pub use read::{refused_after, run_read};
 pub use running::run_schedule;
 pub use schedule_text::{
-    MAX_TEXT, Pace, Schedule, ScheduleFault, Stop, ThreadSetup, read_header, read_schedule,
-    read_threads, write_schedule,
+    MAX_TEXT, Pace, Schedule, ScheduleFault, ScheduleReader, Stop, ThreadSetup, read_header,
+    read_schedule, read_threads, write_schedule,
 };
 pub use trace::write_trace;

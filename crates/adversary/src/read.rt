@@ -1,101 +1,89 @@
-//! Running events that were read, on one thread.
-ghost use Rattle.std.specs.Prelude.{◌≡◌, ◌↔◌, All, Err, IfErr, IfOk, IfSome, IfNone};
+//! Running the events of a schedule as they are read, on one thread.
+ghost use Rattle.std.specs.Prelude.{◌≡◌, ◌⊎◌, All, IfErr, IfOk, length};
 ghost use Rattle.round_meaning.specs.Setups.{IsLawful, IsSetup};
-ghost use Rattle.adversary.specs.Driving.{ClosedAreDue, IsKnown, IsUnknownAt, RunCause};
+ghost use Rattle.adversary.specs.Driving.{AreMore, ClosedAreDue, IsKnown, IsUnknownPast};
+ghost use Rattle.adversary.specs.Reading.{IsNotRead, IsReadAs, IsRefusedAfter};
 
 use crate::driver::Driver;
-use crate::fault::RunFault;
-use crate::running::{is_known, unknown_at};
+use crate::fault::{ReadFault, RunFault};
+use crate::running::unknown_at;
 use round_check::Checked;
-use round_lang::NoMemory;
 use round_meaning::Setup;
+use schedule_text::{ScheduleReader, TextSource};
 use slot_plans::Plan;
 use std::alloc::Global;
 use step_journal::Journal;
-use stored_events::{Events, StoredEvent};
+use stored_events::Events;
 
-/// The journal of events that were read, as by [`run_schedule`](crate::run_schedule). Their list is
-/// let go as they are recorded.
-pub fn run_events<P: Plan>(
+/// The journal of a schedule whose events are run as they are read, from a reader that was opened
+/// and not read on: as by [`run_schedule`](crate::run_schedule), with no list of all events in
+/// memory. The setup is the one that the reader's header has.
+///
+/// A text that is no schedule is refused before a setup that isn't lawful, and that before an event
+/// that names what the run hasn't; a lack of memory is told when it's met.
+pub fn run_read<P: Plan, S: TextSource + Drop>(
     alloc: Global,
     program: &Checked,
     setup: &Setup,
     plan: P,
-    events: Events,
-) -> Result<Journal<P>, RunFault>
+    reader: ScheduleReader<S>,
+) -> Result<Journal<P>, ReadFault>
     requires { IsLawful program.now.values setup.now → P.nodes plan ≡ setup.now.nodes }
-    ensures bad_setup { (result ≡ Err RunFault.BadSetup)
-        ↔ (IsLawful program.now.values setup.now → ⊥) }
-    ensures cause { IfErr result (RunCause setup.now events) }
-    ensures known { IfOk result (λ _answer. All (IsKnown setup.now) events) }
+    ensures lawful { IfOk result (λ _j. IsLawful program.now.values setup.now) }
+    ensures cause { IfErr result (IsNotRead (IsLawful program.now.values setup.now) setup.now
+        reader) }
+    ensures known { IfOk result (λ j. All (IsKnown setup.now) j.log.trace) }
     ensures program { IfOk result (λ j. j.log.program ≡ program.now) }
     ensures setup { IfOk result (λ j. j.log.setup ≡ setup.now) }
     ensures plan { IfOk result (λ j. j.plan ≡ plan) }
-    ensures trace { IfOk result (λ j. j.log.trace ≡ events) }
+    ensures read { IfOk result (λ j. IsReadAs setup.now reader j.log.trace) }
     ensures closed { IfOk result (λ j. ClosedAreDue (P.start j.plan) j.log) }
 {
     if !setup.is_lawful(program) {
-        return Err(RunFault::BadSetup);
+        return Err(refused_after(alloc, reader, RunFault::BadSetup));
     }
-    if let Some(fault) = first_unknown(setup, &events) {
-        return Err(fault);
-    }
-    match run(alloc, program, setup, plan, events) {
-        Ok(journal) => Ok(journal),
-        Err(NoMemory) => Err(RunFault::NoMemory),
-    }
-}
-
-/// The first event in few bytes that names a node or a message which the run hasn't.
-fn first_stored_unknown(setup: &Setup, events: &[StoredEvent]) -> Option<RunFault>
-    ensures some { IfSome result (IsUnknownAt setup.now events.now) }
-    ensures none { IfNone result (All (IsKnown setup.now) events.now) }
-{
-    for (position, stored) in events.iter().enumerate() {
-        let event = stored.event();
-        if !is_known(setup, event) {
-            return Some(unknown_at(event, position));
+    let mut reader = reader;
+    let mut driver = Driver::open(alloc, program, setup, plan)?;
+    loop {
+        match run_on(driver, reader.events()) {
+            Ok(next) => driver = next,
+            Err(fault) => return Err(refused_after(alloc, reader, fault)),
+        }
+        if !reader.advance(alloc)? {
+            return Ok(driver.into_journal());
         }
     }
-    None
 }
 
-/// The same among events that were read.
-fn first_unknown(setup: &Setup, events: &Events) -> Option<RunFault>
-    requires { IsSetup setup.now }
-    ensures some { IfSome result (IsUnknownAt setup.now events.now) }
-    ensures none { IfNone result (All (IsKnown setup.now) events.now) }
+/// The run with these events more, up to the first that names what the run hasn't.
+fn run_on<P: Plan>(driver: Driver<P>, events: &Events) -> Result<Driver<P>, RunFault>
+    requires { IsSetup driver.log.setup }
+    ensures known { IfOk result (λ _next. All (IsKnown driver.log.setup) events.now) }
+    ensures plan { IfOk result (λ next. next.plan ≡ driver.plan) }
+    ensures log { IfOk result (λ next. AreMore driver.log next.log events.now) }
+    ensures cause { IfErr result (λ fault. (fault ≡ RunFault.NoMemory)
+        ⊎ IsUnknownPast driver.log.setup (length driver.log.trace) events.now fault) }
 {
     let (few, whole) = events.parts();
-    match first_stored_unknown(setup, few) {
-        Some(fault) => Some(fault),
-        None => match whole.first() {
-            Some(event) => Some(unknown_at(*event, few.len())),
-            None => None,
-        },
+    let next = driver.act_known(few)?;
+    match whole.first() {
+        Some(event) => Err(unknown_at(*event, next.journal().book().trace().len())),
+        None => Ok(next),
     }
 }
 
-/// The journal of events that were read, each known.
-fn run<P: Plan>(
+/// Why there is no journal, where a run is refused and the rest of its schedule isn't read yet: the
+/// text may be none.
+pub fn refused_after<S: TextSource + Drop>(
     alloc: Global,
-    program: &Checked,
-    setup: &Setup,
-    plan: P,
-    events: Events,
-) -> Result<Journal<P>, NoMemory>
-    requires lawful { IsLawful program.now.values setup.now }
-    requires nodes { P.nodes plan ≡ setup.now.nodes }
-    requires events { All (IsKnown setup.now) events }
-    ensures program { IfOk result (λ j. j.log.program ≡ program.now) }
-    ensures setup { IfOk result (λ j. j.log.setup ≡ setup.now) }
-    ensures plan { IfOk result (λ j. j.plan ≡ plan) }
-    ensures trace { IfOk result (λ j. j.log.trace ≡ events) }
-    ensures closed { IfOk result (λ j. ClosedAreDue (P.start j.plan) j.log) }
+    reader: ScheduleReader<S>,
+    fault: RunFault,
+) -> ReadFault
+    ensures { IsRefusedAfter reader fault result }
 {
-    // The others have too large numbers to be known, so there are none.
-    let (few, _whole) = events.into_parts();
-    let mut driver = Driver::open(alloc, program, setup, plan)?;
-    driver.reserve(few.len())?;
-    Ok(driver.act_out(few)?.into_journal())
+    let mut reader = reader;
+    match reader.drain(alloc) {
+        Ok(()) => ReadFault::Run(fault),
+        Err(fault) => ReadFault::Text(fault),
+    }
 }
