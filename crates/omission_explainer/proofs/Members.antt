@@ -10,6 +10,7 @@ use Rattle.std.proofs.lemmas.Bool.Decides.{nat_tests}
 use Rattle.std.proofs.lemmas.List.{take_more, drop_more}
 use Rattle.round_lang.specs.Sets.{is_in, first_or, least, members, minus, only, size}
 use Rattle.omission_explainer.specs.Report.{numbers_text}
+use Rattle.omission_explainer.specs.Short.{Spells}
 use Rattle.round_lang.proofs.SetLaws.{is_in-wide}
 use Rattle.omission_explainer.proofs.Texts.{separator_after, with_commas-push}
 
@@ -89,6 +90,25 @@ unfolding members
 members_but_first s m e =
     filter_within (is_in (minus s (only 64 m))) (λ i. is_in s i && not (nat_eq i m)) 0 64 (λ i low high. is_in-wide (λ v. is_in s v && not (is_in (only 64 m) v)) i (omega (arith, high)) ∙ ap (λ b. is_in s i && not b) (is_in-wide (λ v. nat_eq v m) i (omega (arith, high))))
     ∙ filter_but_first (is_in s) 64 0 64 m e
+
+-- the empty set has none
+no_members : members 0 ≡ []
+unfolding members is_in
+no_members = refl
+
+-- so its text is empty
+pub spells_nothing : (text : List ℕ) (s : ℕ) → text ≡ [] → s ≡ 0 → Spells text s
+spells_nothing text s none empty = record {
+  is = none ∙ sym (ap numbers_text (ap members empty ∙ no_members));
+  short = omega (arith, ap length none);
+}
+
+-- what was spelt behind nothing
+pub spells_anew : (before text : List ℕ) (s : ℕ) → before ≡ [] → text ≡ before ++ numbers_text (members s) → length text ≤ length before + 192 → Spells text s
+spells_anew before text s none spelt short = record {
+  is = spelt ∙ ap (λ l. l ++ numbers_text (members s)) none;
+  short = omega (arith, short, ap length none);
+}
 
 pub least_small : (s : ℕ) → least 64 s ≤ 64
 unfolding members

@@ -1,6 +1,8 @@
 -- Texts that are made in place before they go out.
-use Rattle.std.specs.Prelude.{◌≡◌, ℕ, List, ◌++◌, Option}
+use Rattle.std.specs.Prelude.{◌≡◌, ◌≤◌, ℕ, List, ◌++◌, length, Option}
 use Rattle.std.specs.Io.KnownBytes.{Appends}
+use Rattle.round_lang.specs.Sets.{members}
+use Rattle.omission_explainer.specs.Report.{numbers_text}
 
 -- how many bytes a text that takes no memory of its own has at most
 abbrev pub room : ℕ
@@ -17,3 +19,8 @@ pub record Tells (written : Option (List ℕ)) (kept : List ℕ) (written_now : 
   pub gone : List ℕ
   pub wrote : Appends written written_now gone
   pub joined : gone ++ kept_now ≡ kept ++ bytes
+
+-- A text is that of a set's members, of two digits and a comma each at most.
+pub record Spells (text : List ℕ) (set : ℕ) : Type 0 where
+  pub is : text ≡ numbers_text (members set)
+  pub short : length text ≤ 192

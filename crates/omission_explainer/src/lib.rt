@@ -8,6 +8,7 @@ mod listed;
 mod printed;
 mod report;
 mod short_text;
+mod spelt_set;
 mod summary;
 mod writing;
 

@@ -4,16 +4,16 @@ ghost use Rattle.std.specs.Prelude.{if◌then◌else◌, slice_index};
 ghost use Rattle.std.specs.Fmt.{decimal};
 ghost use Rattle.std.specs.Io.KnownBytes.{Appends};
 ghost use Rattle.std.specs.List.{flat_map};
-ghost use Rattle.round_lang.specs.Sets.{members};
 ghost use Rattle.round_lang.specs.Values.{at, row};
 ghost use Rattle.omission_explainer.specs.Short.{Tells, piece, room};
 ghost use Rattle.omission_explainer.specs.Report.{count_text, counts_text, decision_text};
-ghost use Rattle.omission_explainer.specs.Report.{entries_text, nodes_text, numbers_text};
+ghost use Rattle.omission_explainer.specs.Report.{entries_text, nodes_text};
 ghost use Rattle.omission_explainer.specs.Report.{report_text, row_text, set_text, state_text};
 ghost use Rattle.omission_explainer.specs.Report.{type_at, value_text, variable_text};
 
 use crate::report::{Report, ReportRow};
 use crate::short_text::{ROOM, ShortText};
+use crate::spelt_set::{SpeltSet, push_member};
 use itoa::Buffer;
 use round_lang::{Kind, Ty, ValueSet, Vars};
 use round_meaning::NodeSet;
@@ -35,9 +35,20 @@ pub fn write_report<W: Write>(report: &Report, out: &mut W) -> io::Result<()>
         (Appends (W.contents out.old) (W.contents out.new) (report_text report.now)) }
 {
     let mut text = ShortText::new();
-    write_rows(report, &mut text, out)?;
+    let mut spelt = SpeltSets {
+        nodes: SpeltSet::new(),
+        values: SpeltSet::new(),
+    };
+    write_rows(report, &mut spelt, &mut text, out)?;
     write_counts(report.counts.as_slice(), &mut text, out)?;
     out.write_all(text.as_slice())
+}
+
+/// The sets that were written last. Those of nodes and those of values don't take turns.
+#[derive(Drop)]
+struct SpeltSets {
+    nodes: SpeltSet,
+    values: SpeltSet,
 }
 
 /// Makes room for a piece: where too little is left, what was kept back goes out.
@@ -53,12 +64,17 @@ fn make_room<W: Write>(text: &mut ShortText, out: &mut W) -> io::Result<()>
     Ok(())
 }
 
-fn write_rows<W: Write>(report: &Report, text: &mut ShortText, out: &mut W) -> io::Result<()>
+fn write_rows<W: Write>(
+    report: &Report,
+    spelt: &mut SpeltSets,
+    text: &mut ShortText,
+    out: &mut W,
+) -> io::Result<()>
     ensures { OnOk result (Tells (W.contents out.old) text.old (W.contents out.new) text.new
         (flat_map (row_text report.now) report.now.rows)) }
 {
     for row in report.rows.as_slice() {
-        write_row(report, row, text, out)?;
+        write_row(report, row, spelt, text, out)?;
     }
     Ok(())
 }
@@ -96,6 +112,7 @@ fn push_count(node: u64, count: (u64, u64), text: &mut ShortText)
 fn write_row<W: Write>(
     report: &Report,
     row: &ReportRow,
+    spelt: &mut SpeltSets,
     text: &mut ShortText,
     out: &mut W,
 ) -> io::Result<()>
@@ -104,10 +121,10 @@ fn write_row<W: Write>(
 {
     make_room(text, out)?;
     push_head(row.round, row.node, text);
-    write_nodes(b" heard ", row.heard, text, out)?;
-    write_nodes(b" silent ", row.silent, text, out)?;
-    write_nodes(b" omitted ", row.omitted, text, out)?;
-    write_state(report, &row.state, text, out)?;
+    write_nodes(b" heard ", row.heard, &mut spelt.nodes, text, out)?;
+    write_nodes(b" silent ", row.silent, &mut spelt.nodes, text, out)?;
+    write_nodes(b" omitted ", row.omitted, &mut spelt.nodes, text, out)?;
+    write_state(report, &row.state, &mut spelt.values, text, out)?;
     make_room(text, out)?;
     push_decision(row.decision, text);
     Ok(())
@@ -143,6 +160,7 @@ fn push_decision(decision: Option<u32>, text: &mut ShortText)
 fn write_nodes<W: Write>(
     label: &[u8],
     nodes: NodeSet,
+    spelt: &mut SpeltSet,
     text: &mut ShortText,
     out: &mut W,
 ) -> io::Result<()>
@@ -152,12 +170,12 @@ fn write_nodes<W: Write>(
 {
     make_room(text, out)?;
     text.push_all(label);
-    push_nodes(nodes, text);
+    push_nodes(nodes, spelt, text);
     Ok(())
 }
 
 /// Appends the nodes in rising order with commas, or `-`.
-fn push_nodes(nodes: NodeSet, text: &mut ShortText)
+fn push_nodes(nodes: NodeSet, spelt: &mut SpeltSet, text: &mut ShortText)
     requires { length text.old + 192 ≤ room }
     ensures { text.new ≡ text.old ++ nodes_text nodes.bits }
 {
@@ -165,38 +183,8 @@ fn push_nodes(nodes: NodeSet, text: &mut ShortText)
     if set.size() == 0 {
         text.push(b'-');
     } else {
-        push_members(set, text);
+        spelt.push_members(set, text);
     }
-}
-
-/// Appends the members in rising order with commas.
-fn push_members(set: ValueSet, text: &mut ShortText)
-    requires { length text.old + 192 ≤ room }
-    ensures text { text.new ≡ text.old ++ numbers_text (members set.bits) }
-    ensures short { length text.new ≤ length text.old + 192 }
-{
-    let mut rest = set;
-    for place in 0..set.size() {
-        if place > 0 {
-            text.push(b',');
-        }
-        let member = rest.least(64);
-        push_member(member, text);
-        rest = rest.minus(ValueSet::single(64, member));
-    }
-}
-
-/// Appends a number of two digits at most.
-fn push_member(member: u32, text: &mut ShortText)
-    requires small { member < 100 }
-    requires room { length text.old + 2 ≤ room }
-    ensures text { text.new ≡ text.old ++ decimal member }
-    ensures short { length text.new ≤ length text.old + 2 }
-{
-    if member >= 10 {
-        text.push(b'0' + (member / 10) as u8);
-    }
-    text.push(b'0' + (member % 10) as u8);
 }
 
 /// Appends a number.
@@ -216,6 +204,7 @@ fn push_number(number: u64, text: &mut ShortText)
 fn write_state<W: Write>(
     report: &Report,
     state: &Vars,
+    spelt: &mut SpeltSet,
     text: &mut ShortText,
     out: &mut W,
 ) -> io::Result<()>
@@ -225,7 +214,7 @@ fn write_state<W: Write>(
     make_room(text, out)?;
     text.push_all(b" state");
     for place in 0..report.names.as_slice().len() {
-        write_variable(report, state, place, text, out)?;
+        write_variable(report, state, place, spelt, text, out)?;
     }
     Ok(())
 }
@@ -235,6 +224,7 @@ fn write_variable<W: Write>(
     report: &Report,
     state: &Vars,
     place: usize,
+    spelt: &mut SpeltSet,
     text: &mut ShortText,
     out: &mut W,
 ) -> io::Result<()>
@@ -248,7 +238,7 @@ fn write_variable<W: Write>(
     text.push_all(names[place].as_str().as_bytes());
     text.push(b'=');
     let ty = type_at(report.types.as_slice(), place);
-    write_value(report.values, ty, state, place, text, out)
+    write_value(report.values, ty, state, place, spelt, text, out)
 }
 
 /// The type of the variable at a place, num where there is none.
@@ -266,6 +256,7 @@ fn write_value<W: Write>(
     ty: Ty,
     state: &Vars,
     place: usize,
+    spelt: &mut SpeltSet,
     text: &mut ShortText,
     out: &mut W,
 ) -> io::Result<()>
@@ -276,7 +267,7 @@ fn write_value<W: Write>(
     match ty {
         Ty::Num => push_number(u64::from(state.num(place)), text),
         Ty::Bool => push_flag(state.flag(place), text),
-        Ty::Set => push_set(state.set(place), text),
+        Ty::Set => push_set(state.set(place), spelt, text),
         Ty::Row => return write_entries(values, state, place, text, out),
     }
     Ok(())
@@ -291,12 +282,12 @@ fn push_flag(flag: bool, text: &mut ShortText)
 }
 
 /// Appends a set of values in braces.
-fn push_set(set: ValueSet, text: &mut ShortText)
+fn push_set(set: ValueSet, spelt: &mut SpeltSet, text: &mut ShortText)
     requires { length text.old + piece ≤ room }
     ensures { text.new ≡ text.old ++ set_text set.bits }
 {
     text.push(b'{');
-    push_members(set, text);
+    spelt.push_members(set, text);
     text.push(b'}');
 }
 

@@ -2,8 +2,8 @@ use Rattle.std.proofs.Common.{◌∙◌, ◌<◌, length, ap, arith}
 use Rattle.round_lang.specs.Sets.{members, minus}
 use Rattle.omission_explainer.proofs.Members.{least_small, one_more, size_small, with_comma}
 use Rattle.omission_explainer.proofs.Members.{with_none}
-use Rattle.omission_explainer.proofs.writing.push_members.Goals as goal
-use Rattle.omission_explainer.proofs.writing.push_members.Goals.{then-place-gt0, else-place-gt0}
+use Rattle.omission_explainer.proofs.spelt_set.push_members.Goals as goal
+use Rattle.omission_explainer.proofs.spelt_set.push_members.Goals.{then-place-gt0, else-place-gt0}
 
 pub push-requires : goal.push-requires
 push-requires c =

@@ -1,7 +1,7 @@
 use Rattle.std.proofs.Common.{◌∙◌, ◌+◌, ◌%◌, ◌++◌, ◌∷◌, [], ap}
 use Rattle.omission_explainer.proofs.Members.{one_digit, two_digits}
-use Rattle.omission_explainer.proofs.writing.push_member.Goals as goal
-use Rattle.omission_explainer.proofs.writing.push_member.Goals.{then-member-ge10, else-member-ge10}
+use Rattle.omission_explainer.proofs.spelt_set.push_member.Goals as goal
+use Rattle.omission_explainer.proofs.spelt_set.push_member.Goals.{then-member-ge10, else-member-ge10}
 
 pub returns-clause-text : goal.returns-clause-text
 returns-clause-text c =

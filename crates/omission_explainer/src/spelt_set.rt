@@ -1,0 +1,92 @@
+//! The members of sets as text.
+ghost use Rattle.std.specs.Prelude.{◌≡◌, ◌+◌, ◌<◌, ◌≤◌, ◌++◌, length};
+ghost use Rattle.std.specs.Fmt.{decimal};
+ghost use Rattle.round_lang.specs.Sets.{members};
+ghost use Rattle.omission_explainer.specs.Report.{numbers_text};
+ghost use Rattle.omission_explainer.specs.Short.{room};
+
+use crate::short_text::ShortText;
+use round_lang::ValueSet;
+use std::marker::Model;
+
+/// A set and the text of its members, kept since the next set that is written is mostly the same.
+/// Contracts see the set.
+#[derive(Drop)]
+pub(crate) struct SpeltSet {
+    set: ValueSet,
+    text: ShortText,
+}
+
+impl Model for SpeltSet {
+    ghost use Rattle.std.specs.Prelude.{ℕ};
+    ghost use Rattle.omission_explainer.specs.Short.{Spells};
+
+    ghost Value = { ℕ };
+
+    ghost view = { λ s. s.set.bits };
+
+    ghost invariant = { λ s. Spells s.text s.set.bits };
+}
+
+impl SpeltSet {
+    pub(crate) fn new() -> SpeltSet
+        ensures { result ≡ 0 }
+    {
+        SpeltSet {
+            set: ValueSet::empty(),
+            text: ShortText::new(),
+        }
+    }
+
+    /// Appends the members of a set in rising order with commas. They are spelt anew only where the
+    /// set is another than the last one.
+    pub(crate) fn push_members(&mut self, set: ValueSet, text: &mut ShortText)
+        requires { length text.old + 192 ≤ room }
+        ensures text { text.new ≡ text.old ++ numbers_text (members set.bits) }
+        ensures short { length text.new ≤ length text.old + 192 }
+    {
+        self.spell(set);
+        text.push_all(self.text.as_slice());
+    }
+
+    /// Makes this the text of a set.
+    fn spell(&mut self, set: ValueSet)
+        ensures { self.new ≡ set.bits }
+    {
+        if set.bits != self.set.bits {
+            self.text.clear();
+            push_members(set, &mut self.text);
+            self.set = set;
+        }
+    }
+}
+
+/// Appends the members in rising order with commas.
+fn push_members(set: ValueSet, text: &mut ShortText)
+    requires { length text.old + 192 ≤ room }
+    ensures text { text.new ≡ text.old ++ numbers_text (members set.bits) }
+    ensures short { length text.new ≤ length text.old + 192 }
+{
+    let mut rest = set;
+    for place in 0..set.size() {
+        if place > 0 {
+            text.push(b',');
+        }
+        let member = rest.least(64);
+        push_member(member, text);
+        rest = rest.minus(ValueSet::single(64, member));
+    }
+}
+
+/// Appends a number of two digits at most.
+pub(crate) fn push_member(member: u32, text: &mut ShortText)
+    requires small { member < 100 }
+    requires room { length text.old + 2 ≤ room }
+    ensures text { text.new ≡ text.old ++ decimal member }
+    ensures short { length text.new ≤ length text.old + 2 }
+{
+    if member >= 10 {
+        text.push(b'0' + (member / 10) as u8);
+    }
+    text.push(b'0' + (member % 10) as u8);
+}
