@@ -2,20 +2,24 @@
 use Rattle.std.proofs.Common.{◌≡◌, ◌≢◌, ◌⊎◌, inl, inr, ℕ, ◌+◌, ◌<◌, ◌≤◌, All, List, [], Option}
 use Rattle.std.proofs.Common.{Some, None, Result, Ok, Err, length, take, refl, sym, ap, ◌∙◌, subst}
 use Rattle.std.proofs.Common.{arith}
-use Rattle.std.specs.Prelude.{◌↔◌, IfErr, IfSome, IsErrAnd, true}
+use Rattle.std.specs.Prelude.{◌++◌, IfErr, IfSome, IsErrAnd, true}
 use Rattle.std.specs.Str.{IsUtf8}
-use Rattle.adversary.specs.Driving.{RunCause}
-use Rattle.adversary.specs.declared.fault.RunFault.{RunFault}
+use Rattle.adversary.specs.Reading.{IsNotRead, IsReadAs}
+use Rattle.adversary.specs.declared.fault.ReadFault.{ReadFault}
+use Rattle.adversary.specs.declared.fault.ReadFault.TheVariants as read
 use Rattle.adversary.specs.declared.fault.RunFault.TheVariants as run
 use Rattle.command_runs.specs.Refused.{IsBadText, IsMissing, IsNoProgram, IsNoSource}
-use Rattle.command_runs.specs.Refused.{IsNotRun, IsPlan, IsRunnable, of_check, of_run, of_schedule}
-use Rattle.command_runs.specs.Refused.{of_source}
-use Rattle.command_runs.specs.Served.{IsCheckedSource, IsOfKind}
-use Rattle.command_runs.specs.Stages.{IsNoProgramIn, IsNoProgramOf, IsNoReadIn, IsNoReadOf}
-use Rattle.command_runs.specs.Stages.{IsNotRunAs, IsProgramIn, IsReadIn}
-use Rattle.command_runs.specs.Texts.{BeginsUtf8, IsLongText, IsNoText, IsText, IsTextOf}
+use Rattle.command_runs.specs.Refused.{IsNotOffered, IsOpened as IsSourceOpened, IsUnanswered}
+use Rattle.command_runs.specs.Refused.{IsNotRun, IsPlan, IsRunnable, of_check, of_read, of_schedule}
+use Rattle.command_runs.specs.Refused.{of_source, of_text}
+use Rattle.command_runs.specs.Served.{IsCheckedSource, IsOfKind, IsProgramOf, IsSchedule}
+use Rattle.command_runs.specs.Stages.{IsBadSchedule, IsNoProgramIn, IsNoProgramOf, IsNoReadIn}
+use Rattle.command_runs.specs.Stages.{IsNoReadOf, IsNotRunAs, IsProgramIn, IsReadIn, IsToldAfter}
+use Rattle.command_runs.specs.Stages.{StopsSchedule}
+use Rattle.command_runs.specs.Texts.{Files, IsTextOf}
 use Rattle.command_runs.specs.declared.refusal.Refusal.{Refusal}
 use Rattle.command_runs.specs.declared.refusal.Refusal.TheVariants as refusal
+use Rattle.command_words.specs.declared.values.Source.{Source}
 use Rattle.command_runs.specs.declared.texts.Text.{Text}
 use Rattle.command_runs.specs.declared.texts.Text.TheVariants as text
 use Rattle.round_check.proofs.Facts.{typed-none}
@@ -27,12 +31,18 @@ use Rattle.round_lang.specs.Source.{IsSource}
 use Rattle.round_lang.specs.Syntax.{ProgramTree}
 use Rattle.round_lang.specs.declared.fault.LangFault.{LangFault}
 use Rattle.round_lang.specs.declared.fault.LangFault.TheVariants as lang
-use Rattle.round_meaning.specs.Setups.{IsLawful}
+use Rattle.round_meaning.specs.Setups.{IsLawful, max_nodes}
 use Rattle.round_meaning.specs.declared.setup.Setup.{Setup}
+use Rattle.schedule_text.specs.Bytes.{BeginsUtf8, IsLongText, IsNoText, IsText}
 use Rattle.schedule_text.specs.Outcome.{IsReadOf}
 use Rattle.schedule_text.specs.Readings.{IsReadingOf, ReadOf}
 use Rattle.schedule_text.specs.Texts.{SaysOf, Tail, max_text as max_schedule}
+use Rattle.schedule_text.specs.Readers.{IsOpened, Reading, last_events}
+use Rattle.schedule_text.specs.Sources.{IsNoSchedule}
 use Rattle.schedule_text.specs.declared.kind.Kind.{Kind}
+use Rattle.schedule_text.specs.declared.kind.Kind.TheVariants.{Schedule as schedules}
+use Rattle.schedule_text.specs.declared.source.TextFault.{TextFault}
+use Rattle.schedule_text.specs.declared.source.TextFault.TheVariants as fault
 use Rattle.schedule_text.specs.declared.fault.ScheduleFault.{ScheduleFault}
 use Rattle.schedule_text.specs.declared.fault.ScheduleFault.TheVariants as schedule
 use Rattle.slot_plans.specs.Plan.{IsDelta, IsNodeCount}
@@ -185,6 +195,19 @@ no_file_text kind None (text.Longer bytes) (refusal.Schedule schedule.TooLong) i
 no_file_text kind (Some held) (text.Longer bytes) (refusal.Schedule schedule.TooLong) is none = long_text max_schedule held bytes.items is.0 is.1 none
 no_file_text kind file (text.Longer bytes) r is none = absurd none
 
+-- why a file has no schedule, from why its reading piece by piece gave none
+pub no_schedule : (file left : Option (List ℕ)) (f : TextFault) → left ≡ file → IsNoSchedule left f → IsMissing schedules file (of_text f)
+no_schedule None left fault.Failed is none = tt
+no_schedule (Some held) left fault.Failed is none = absurd (is_some (sym is ∙ none))
+  where
+    is_some : Some held ≡ None → ⊥
+    is_some e = cc
+no_schedule file left fault.NotUtf8 is none = subst (λ o. IfSome o (IsNoText max_schedule)) is none
+no_schedule file left (fault.Schedule schedule.TooLong) is none = subst (λ o. IfSome o (IsLongText max_schedule)) is none
+no_schedule file left (fault.Schedule schedule.NoMemory) is none = tt
+no_schedule file left (fault.Schedule (schedule.BadLine n)) is none = subst (λ o. IfSome o (λ held. IsText max_schedule held × IsReadingOf schedules held (Err (schedule.BadLine n)))) is none
+no_schedule file left (fault.Schedule (schedule.NumberTooLarge n)) is none = subst (λ o. IfSome o (λ held. IsText max_schedule held × IsReadingOf schedules held (Err (schedule.NumberTooLarge n)))) is none
+
 -- what a reader refuses, whichever kind of text it reads
 pub no_read : {A : Type 0} (kind : Kind) (show : A → ReadOf kind) (held : List ℕ) (f : ScheduleFault) → IsReadOf kind show held (Err f) → (f ≡ schedule.TooLong → max_schedule < length held)
     → IsNoReadOf kind held (of_schedule f)
@@ -193,18 +216,82 @@ no_read kind show held (schedule.NumberTooLarge n) said long = said
 no_read kind show held schedule.TooLong said long = long refl
 no_read kind show held schedule.NoMemory said long = tt
 
--- what a run refuses, where P says that its numbers are within their limits
-pub no_run : (A : Type 0) (P : Type 0) (p : ProgramTree) (s : Setup) (events : List Event) (correct : List ℕ) (f : RunFault)
-    → ((IsLawful p.values s × All (λ n. n < s.nodes) correct) → P) → (P → IsLawful p.values s × All (λ n. n < s.nodes) correct)
-    → ((◌≡◌ {A = Result A RunFault} (Err f) (Err run.BadSetup)) ↔ (P → ⊥)) → RunCause s events f → IsNotRunAs p s events correct (of_run f)
-no_run A P p s events correct run.BadSetup to from bad cause = λ both. bad.0 refl (to both)
-no_run A P p s events correct (run.UnknownNode k) to from bad cause =
-    (λ none. let same : ◌≡◌ {A = Result A RunFault} (Err (run.UnknownNode k)) (Err run.BadSetup) = bad.1 (λ q. none (from q)) in cc same, cause)
-no_run A P p s events correct (run.UnknownMessage k) to from bad cause =
-    (λ none. let same : ◌≡◌ {A = Result A RunFault} (Err (run.UnknownMessage k)) (Err run.BadSetup) = bad.1 (λ q. none (from q)) in cc same, cause)
-no_run A P p s events correct run.NoMemory to from bad cause = tt
-no_run A P p s events correct run.NoThread to from bad cause = absurd cause
-no_run A P p s events correct run.Unmatched to from bad cause = absurd cause
+-- what a run of a schedule that is read refuses, where Fits says that its numbers are within their
+-- limits
+pub no_run : (Fits : Type 0) (p : ProgramTree) (s : Setup) (r : Reading) (correct : List ℕ) (f : ReadFault)
+    → ((IsLawful p.values s × All (λ n. n < s.nodes) correct) → Fits) → (Fits → IsLawful p.values s × All (λ n. n < s.nodes) correct)
+    → IsNotRead Fits s r f → StopsSchedule (λ events x. IsNotRunAs p s events correct x) s r (of_read f)
+no_run Fits p s r correct (read.Text e) to from none = inl (e, refl, none)
+no_run Fits p s r correct (read.Run run.NoMemory) to from none = inl (fault.Schedule schedule.NoMemory, refl, λ held k begun. tt)
+no_run Fits p s r correct (read.Run run.BadSetup) to from none = inr (none.0, none.2, λ both. none.1 (to both))
+no_run Fits p s r correct (read.Run (run.UnknownNode k)) to from none = inr (none.0, none.2, (λ bad. bad (from none.1.0), none.1.1))
+no_run Fits p s r correct (read.Run (run.UnknownMessage k)) to from none = inr (none.0, none.2, (λ bad. bad (from none.1.0), none.1.1))
+no_run Fits p s r correct (read.Run run.NoThread) to from none = absurd none.1.1
+no_run Fits p s r correct (read.Run run.Unmatched) to from none = absurd none.1.1
+
+-- numbers that are within their limits in another way
+pub fits_as : (A B : Type 0) (s : Setup) (r : Reading) (f : ReadFault) → (A → B) → (B → A) → IsNotRead A s r f → IsNotRead B s r f
+fits_as A B s r (read.Text e) to from none = none
+fits_as A B s r (read.Run run.NoMemory) to from none = tt
+fits_as A B s r (read.Run run.BadSetup) to from none = (none.0, (λ b. none.1 (from b)), none.2)
+fits_as A B s r (read.Run (run.UnknownNode k)) to from none = (none.0, (to none.1.0, none.1.1), none.2)
+fits_as A B s r (read.Run (run.UnknownMessage k)) to from none = (none.0, (to none.1.0, none.1.1), none.2)
+fits_as A B s r (read.Run run.NoThread) to from none = absurd none.1.1
+fits_as A B s r (read.Run run.Unmatched) to from none = absurd none.1.1
+
+-- a list has a node that the run hasn't
+pub no_nodes : (values : ℕ) (s : Setup) (list : List ℕ) → (All (λ n. (n < s.nodes) × (n < max_nodes)) list → ⊥) → ¬ (IsLawful values s × All (λ n. n < s.nodes) list)
+no_nodes values s list none both =
+    none (λ k d l. let few = both.0.sized.few_nodes in let below = both.1 k d l in (below, omega (arith, few, below)))
+
+-- what is told of a schedule whatever its events are
+pub told_after : (Cause : List Event → Refusal → Type 0) (s : Setup) (r : Reading) (refused told : Refusal) → ((events : List Event) → Cause events refused) → IsToldAfter r refused told
+    → StopsSchedule Cause s r told
+told_after Cause s r refused told cause (inl t) =
+    let events = last_events r ++ t.1.more in
+    inr (events, (λ held k begun. t.1.whole held s k (last_events r) begun), subst (Cause events) (sym t.0) (cause events))
+told_after Cause s r refused told cause (inr t) = inl (t.0, t.1, λ held k begun. t.2 held s k (last_events r) begun)
+
+-- another cause of it
+pub stops_as : (Cause Other : List Event → Refusal → Type 0) (s : Setup) (r : Reading) (x : Refusal) → ((events : List Event) → Cause events x → Other events x) → StopsSchedule Cause s r x
+    → StopsSchedule Other s r x
+stops_as Cause Other s r x turn (inl bad) = inl bad
+stops_as Cause Other s r x turn (inr h) = inr (h.0, h.1, turn h.0 h.2)
+
+-- and what a file's schedule is refused for
+pub bad_schedule : (file : Option (List ℕ)) (s : Setup) (k : PlanKind) (r : Reading) (x : Refusal) → IfSome file (λ held. IsOpened held s k r) → IsBadSchedule s r x → IsMissing schedules file x
+bad_schedule None s k r x begun bad = subst (IsMissing schedules None) (sym bad.1) (unknown bad.0)
+  where
+    unknown : (e : TextFault) → IsMissing schedules None (of_text e)
+    unknown fault.Failed = tt
+    unknown fault.NotUtf8 = tt
+    unknown (fault.Schedule schedule.TooLong) = tt
+    unknown (fault.Schedule schedule.NoMemory) = tt
+    unknown (fault.Schedule (schedule.BadLine n)) = tt
+    unknown (fault.Schedule (schedule.NumberTooLarge n)) = tt
+bad_schedule (Some held) s k r x begun bad =
+    subst (IsMissing schedules (Some held)) (sym bad.1) (no_schedule (Some held) (Some held) bad.0 refl (bad.2 held k begun))
+
+pub read_as : (file : Option (List ℕ)) (s : Setup) (k : PlanKind) (r : Reading) (events : List Event) → IfSome file (λ held. IsOpened held s k r) → IsReadAs s r events
+    → IfSome file (λ held. IsSchedule held s k events)
+read_as None s k r events begun is = tt
+read_as (Some held) s k r events begun is = let said = is held k begun in record { fits = said.0; says = said.1 }
+
+-- why a source isn't run, from why nothing comes of its schedule: the run is refused,
+pub unanswered_run : (source : Source) (files : Files) (p : ProgramTree) (s : Setup) (k : PlanKind) (r : Reading) (correct : List ℕ) (x : Refusal) (file : Option (List ℕ))
+    → IsSourceOpened source files → IsProgramOf source files s.nodes s.faults p → IfSome file (λ held. IsOpened held s k r)
+    → StopsSchedule (λ events y. IsNotRun p s k events correct y) s r x → IsUnanswered source files file correct x
+unanswered_run source files p s k r correct x file opened is begun (inl bad) = inr (inl (opened, bad_schedule file s k r x begun bad))
+unanswered_run source files p s k r correct x file opened is begun (inr h) =
+    inr (inr (opened, (s, k, h.0, read_as file s k r h.0 begun h.1, inr (p, is, h.2))))
+
+-- or the library has no program for it
+pub unanswered_offer : (source : Source) (files : Files) (s : Setup) (k : PlanKind) (r : Reading) (correct : List ℕ) (x : Refusal) (file : Option (List ℕ))
+    → IsSourceOpened source files → IfSome file (λ held. IsOpened held s k r)
+    → StopsSchedule (λ events y. IsNotOffered source s.nodes s.faults y) s r x → IsUnanswered source files file correct x
+unanswered_offer source files s k r correct x file opened begun (inl bad) = inr (inl (opened, bad_schedule file s k r x begun bad))
+unanswered_offer source files s k r correct x file opened begun (inr h) =
+    inr (inr (opened, (s, k, h.0, read_as file s k r h.0 begun h.1, inl h.2)))
 
 -- under a plan within its limits
 pub not_run : (p : ProgramTree) (s : Setup) (k : PlanKind) (events : List Event) (correct : List ℕ) (r : Refusal) → IsPlan k → IsNotRunAs p s events correct r → IsNotRun p s k events correct r

@@ -3,16 +3,16 @@ use Rattle.std.proofs.Common.{◌≡◌, ℕ, List, Option, Some, None, Result, 
 use Rattle.std.proofs.Common.{subst}
 use Rattle.std.specs.Prelude.{IfSome, IsOk, OnOk}
 use Rattle.std.specs.Io.KnownBytes.{Appends, Keeps}
-use Rattle.schedule_text.specs.declared.reading.Schedule.{Schedule}
+use Rattle.round_meaning.specs.declared.setup.Setup.{Setup}
+use Rattle.schedule_text.specs.Readers.{IsOpened, Reading}
 use Rattle.command_words.specs.declared.values.Source.{Source}
 use Rattle.command_words.specs.declared.values.Source.TheVariants as source
 use Rattle.round_lang.specs.Syntax.{ProgramTree}
 use Rattle.slot_plans.specs.declared.kind.PlanKind.{PlanKind}
-use Rattle.command_runs.specs.Explained.{IsReportOf, IsVerdictOf}
 use Rattle.command_runs.specs.Library.{Offers}
-use Rattle.command_runs.specs.Served.{Answered, AnswersRun, HoldsProgram, IsCheckedSource}
-use Rattle.command_runs.specs.Served.{IsProgramOf, IsSchedule, Opens, file_name, receives_of}
-use Rattle.command_runs.specs.Served.{start_of}
+use Rattle.command_runs.specs.Served.{AnswersRun, HoldsProgram, IsCheckedSource, IsProgramOf}
+use Rattle.command_runs.specs.Served.{Opens, file_name, receives_of, start_of}
+use Rattle.command_runs.specs.Stages.{IsAnswered}
 use Rattle.command_runs.specs.Texts.{Files}
 use Rattle.command_runs.specs.declared.asking.Answer.{Answer}
 use Rattle.command_runs.specs.declared.asking.Answer.TheVariants as answer
@@ -20,6 +20,7 @@ use Rattle.command_runs.specs.declared.asking.Question.{Question}
 use Rattle.command_runs.specs.declared.asking.Question.TheVariants as question
 use Rattle.command_runs.specs.declared.sources.Opened.{Opened}
 use Rattle.command_runs.specs.declared.sources.Opened.TheVariants as opened
+use Rattle.command_runs.proofs.Refusing.{read_as}
 
 -- the program of what was opened is the source's
 pub program_of : (s : Source) (files : Files) (o : Opened) (n t : ℕ) (p : ProgramTree) → Opens s files o → HoldsProgram o n t p → IsProgramOf s files n t p
@@ -30,36 +31,17 @@ program_of (source.Library name values) files (opened.Library m k) n t p opens h
 program_of (source.File name) files (opened.Library m k) n t p opens holds = absurd opens
 program_of (source.Library name values) files (opened.File q) n t p opens holds = absurd opens
 
--- an answer on a schedule that was read is one on its file
-pub answers_run : (source : Source) (files : Files) (start receives : ℕ → ℕ) (p : ProgramTree) (k : PlanKind) (s : Schedule) (q : Question) (file : Option (List ℕ)) (a : Answer)
-    → IsProgramOf source files s.setup.nodes s.setup.faults p → s.plan ≡ k → start ≡ start_of k s.setup.nodes → receives ≡ receives_of k
-    → IfSome file (λ text. IsSchedule text s.setup s.plan s.events) → Answered start receives p s q a → AnswersRun source files file q a
-answers_run source files start receives p k s (question.Report told) None (answer.Report r shown) is kind starts waits read said = (said.0, tt)
-answers_run source files start receives p k s (question.Report told) (Some text) (answer.Report r shown) is kind starts waits read said = (
-  said.0,
-  (
-    s.setup,
-    k,
-    s.events,
-    p,
-    subst (λ (l : PlanKind). IsSchedule text s.setup l s.events) kind read,
-    is,
-    subst (λ f. IsReportOf f p s.setup s.events r) starts said.1,
-  ),
-)
-answers_run source files start receives p k s (question.Verdict t) None (answer.Verdict v) is kind starts waits read said = tt
-answers_run source files start receives p k s (question.Verdict t) (Some text) (answer.Verdict v) is kind starts waits read said = (
-  s.setup,
-  k,
-  s.events,
-  p,
-  subst (λ (l : PlanKind). IsSchedule text s.setup l s.events) kind read,
-  is,
-  subst (λ f. IsVerdictOf (start_of k s.setup.nodes) f p s.setup s.events t.correct.now t.delta t.gst v) waits
-      (subst (λ f. IsVerdictOf f receives p s.setup s.events t.correct.now t.delta t.gst v) starts said),
-)
-answers_run source files start receives p k s (question.Report told) file (answer.Verdict v) is kind starts waits read said = absurd said
-answers_run source files start receives p k s (question.Verdict t) file (answer.Report r shown) is kind starts waits read said = absurd said
+-- an answer on a schedule that is read is one on its file
+pub answers_run : (source : Source) (files : Files) (p : ProgramTree) (s : Setup) (k : PlanKind) (r : Reading) (q : Question) (file : Option (List ℕ)) (a : Answer)
+    → IsProgramOf source files s.nodes s.faults p → IfSome file (λ held. IsOpened held s k r) → IsAnswered (start_of k s.nodes) (receives_of k) p s r q a → AnswersRun source files file q a
+answers_run source files p s k r (question.Report told) None (answer.Report report shown) is begun said = (said.2.0, tt)
+answers_run source files p s k r (question.Report told) (Some held) (answer.Report report shown) is begun said =
+    (said.2.0, (s, k, said.0, p, read_as (Some held) s k r said.0 begun said.1, is, said.2.1))
+answers_run source files p s k r (question.Verdict t) None (answer.Verdict v) is begun said = tt
+answers_run source files p s k r (question.Verdict t) (Some held) (answer.Verdict v) is begun said =
+    (s, k, said.0, p, read_as (Some held) s k r said.0 begun said.1, is, said.2)
+answers_run source files p s k r (question.Report told) file (answer.Verdict v) is begun said = absurd said.2
+answers_run source files p s k r (question.Verdict t) file (answer.Report report shown) is begun said = absurd said.2
 
 -- what was written and then kept was written
 appends_kept : (a b c : Option (List ℕ)) (text : List ℕ) → Appends a b text → Keeps b c → Appends a c text
@@ -80,7 +62,7 @@ printed (Ok x) (Err y) a b c text done wrote kept f = absurd (cc done)
 printed (Err e) done a b c text went wrote kept f = tt
 
 -- an answer under a plan that is told in another way
-pub answered_as : (start receives starts waits : ℕ → ℕ) (p : ProgramTree) (s : Schedule) (q : Question) (a : Answer) → start ≡ starts → receives ≡ waits
-    → Answered start receives p s q a → Answered starts waits p s q a
-answered_as start receives starts waits p s q a same also h =
-    subst (λ f. Answered starts f p s q a) also (subst (λ f. Answered f receives p s q a) same h)
+pub answered_as : (start receives starts waits : ℕ → ℕ) (p : ProgramTree) (s : Setup) (r : Reading) (q : Question) (a : Answer) → start ≡ starts → receives ≡ waits
+    → IsAnswered start receives p s r q a → IsAnswered starts waits p s r q a
+answered_as start receives starts waits p s r q a same also h =
+    subst (λ f. IsAnswered starts f p s r q a) also (subst (λ f. IsAnswered f receives p s r q a) same h)

@@ -2,6 +2,8 @@
 use Rattle.std.specs.Prelude.{◌≡◌, ◌<◌, ◌⊎◌, ⊤, ℕ, All, Err, List, [], Option, IfSome, Some, codes}
 use Rattle.std.specs.Io.KnownBytes.{Keeps}
 use Rattle.adversary.specs.Driving.{IsUnknownAt}
+use Rattle.adversary.specs.declared.fault.ReadFault.{ReadFault}
+use Rattle.adversary.specs.declared.fault.ReadFault.TheVariants as read
 use Rattle.adversary.specs.declared.fault.RunFault.{RunFault}
 use Rattle.adversary.specs.declared.fault.RunFault.TheVariants as run
 use Rattle.algorithm_library.specs.Refusals.{IsCount, IsTooFew, IsWithin}
@@ -11,7 +13,10 @@ use Rattle.command_runs.specs.InLockstep.{AreTerms}
 use Rattle.command_runs.specs.Lines.{status_of}
 use Rattle.command_runs.specs.Served.{AsksForHelp, IsCheckedSource, IsOfKind, IsProgramOf}
 use Rattle.command_runs.specs.Served.{IsThreadSetup, Prints, file_name}
-use Rattle.command_runs.specs.Texts.{Files, IsLongText, IsNoText, IsText}
+use Rattle.command_runs.specs.Texts.{Files}
+use Rattle.schedule_text.specs.Bytes.{IsLongText, IsNoText, IsText}
+use Rattle.schedule_text.specs.declared.source.TextFault.{TextFault}
+use Rattle.schedule_text.specs.declared.source.TextFault.TheVariants as text
 use Rattle.command_runs.specs.declared.desk.DeskFault.{DeskFault}
 use Rattle.command_runs.specs.declared.desk.DeskFault.TheVariants as desk
 use Rattle.command_runs.specs.declared.refusal.Refusal.{Refusal}
@@ -70,6 +75,11 @@ abbrev pub of_schedule : ScheduleFault → Refusal
 of_schedule schedule.NoMemory = refusal.NoMemory
 of_schedule fault = refusal.Schedule fault
 
+abbrev pub of_text : TextFault → Refusal
+of_text text.Failed = refusal.File
+of_text text.NotUtf8 = refusal.File
+of_text (text.Schedule fault) = of_schedule fault
+
 abbrev pub of_library : LibraryFault → Refusal
 of_library library.NoMemory = refusal.NoMemory
 of_library fault = refusal.Library fault
@@ -77,6 +87,10 @@ of_library fault = refusal.Library fault
 abbrev pub of_run : RunFault → Refusal
 of_run run.NoMemory = refusal.NoMemory
 of_run fault = refusal.Run fault
+
+abbrev pub of_read : ReadFault → Refusal
+of_read (read.Text fault) = of_text fault
+of_read (read.Run fault) = of_run fault
 
 -- a text is too long to be a program, or it is none
 abbrev pub IsNoSource : List ℕ → LangFault → Type 0

@@ -10,7 +10,6 @@ use Rattle.schedule_text.specs.declared.kind.Kind.{Kind}
 use Rattle.schedule_text.specs.declared.kind.Kind.TheVariants as kinds
 use Rattle.schedule_text.specs.declared.pace.Pace.{Pace}
 use Rattle.schedule_text.specs.declared.pace.Stop.{Stop}
-use Rattle.schedule_text.specs.declared.reading.Schedule.{Schedule}
 use Rattle.command_runs.specs.declared.asking.Answer.{Answer}
 use Rattle.command_runs.specs.declared.asking.Answer.TheVariants as answer
 use Rattle.command_runs.specs.declared.asking.Question.{Question}
@@ -21,7 +20,8 @@ use Rattle.command_runs.specs.ByThreads.{IsThreadRun}
 use Rattle.command_runs.specs.Explained.{IsReportOf, IsVerdictOf}
 use Rattle.command_runs.specs.InLockstep.{IsLockstepText, IsWritten}
 use Rattle.command_runs.specs.Library.{Offers}
-use Rattle.command_runs.specs.Texts.{Files, IsText}
+use Rattle.command_runs.specs.Texts.{Files}
+use Rattle.schedule_text.specs.Bytes.{IsText}
 use Rattle.clap.specs.Words.{IsAmong, fault_of}
 use Rattle.clap.specs.declared.error.ErrorKind.TheVariants as kind
 use Rattle.command_words.specs.Commands.{roundc_app}
@@ -149,14 +149,14 @@ AnswersRun source files file (question.Verdict terms) (answer.Verdict verdict) =
     JudgesRun source files file terms.correct.now terms.delta terms.gst verdict
 AnswersRun source files file _ _ = ⊥
 
--- the same of a schedule that was read, under a plan
-abbrev pub Answered : (start receives : ℕ → ℕ) → ProgramTree → Schedule → Question → Answer → Type 0
-Answered start receives p s (question.Report told) (answer.Report report shown) =
-    (shown ≡ told) × IsReportOf start p s.setup s.events report
-Answered start receives p s (question.Verdict terms) (answer.Verdict verdict) =
-    IsVerdictOf start receives p s.setup s.events terms.correct.now
-    terms.delta terms.gst verdict
-Answered start receives p s _ _ = ⊥
+-- the same of a setup and events, under a plan
+abbrev pub Answered : (start receives : ℕ → ℕ) → ProgramTree → Setup → List Event → Question
+    → Answer → Type 0
+Answered start receives p s events (question.Report told) (answer.Report report shown) =
+    (shown ≡ told) × IsReportOf start p s events report
+Answered start receives p s events (question.Verdict terms) (answer.Verdict verdict) =
+    IsVerdictOf start receives p s events terms.correct.now terms.delta terms.gst verdict
+Answered start receives p s events _ _ = ⊥
 
 -- the report, with what all decisions in it come to where that was asked for
 abbrev pub told_text : Report → Bool → List ℕ

@@ -1,16 +1,18 @@
 -- What the parts of a command answer, which proofs pass through.
-use Rattle.std.specs.Prelude.{◌≡◌, ◌<◌, ⊤, ℕ, All, Bool, Err, List, [], Option, Some, length}
+use Rattle.std.specs.Prelude.{◌≡◌, ◌<◌, ◌⊎◌, ⊤, ℕ, All, Bool, Err, List, [], Option, Some, length}
 use Rattle.std.specs.Prelude.{true}
 use Rattle.std.specs.Io.KnownBytes.{Appends}
 use Rattle.std.specs.Str.{IsUtf8}
 use Rattle.adversary.specs.Driving.{IsUnknownAt}
+use Rattle.adversary.specs.Reading.{IsReadAs}
 use Rattle.adversary.specs.declared.fault.RunFault.TheVariants as run
 use Rattle.command_runs.specs.InLockstep.{AreTerms}
 use Rattle.command_runs.specs.Refused.{IsNoOffer, IsUnanswered, IsUnmade, IsUnthreaded}
-use Rattle.command_runs.specs.Refused.{StartsThreads}
-use Rattle.command_runs.specs.Served.{AnswersRun, MakesLockstep, ReportsThreads, answer_text}
+use Rattle.command_runs.specs.Refused.{StartsThreads, of_text}
+use Rattle.command_runs.specs.Served.{Answered, AnswersRun, MakesLockstep, ReportsThreads, answer_text}
 use Rattle.command_runs.specs.Served.{told_text}
-use Rattle.command_runs.specs.Texts.{BeginsUtf8, Files}
+use Rattle.command_runs.specs.Texts.{Files}
+use Rattle.schedule_text.specs.Bytes.{BeginsUtf8}
 use Rattle.command_runs.specs.declared.asking.Answer.{Answer}
 use Rattle.command_runs.specs.declared.asking.Question.{Question}
 use Rattle.command_runs.specs.declared.asking.Question.TheVariants as question
@@ -31,15 +33,17 @@ use Rattle.round_lang.specs.Syntax.{ProgramTree}
 use Rattle.round_lang.specs.declared.fault.LangFault.TheVariants as lang
 use Rattle.round_meaning.specs.Setups.{IsLawful}
 use Rattle.round_meaning.specs.declared.setup.Setup.{Setup}
+use Rattle.schedule_text.specs.Readers.{IsBegun, IsOpened, IsRefusedAs, Reading}
 use Rattle.schedule_text.specs.Readings.{IsReadingOf}
+use Rattle.schedule_text.specs.Sources.{IsNoSchedule}
 use Rattle.schedule_text.specs.Texts.{SaysOf, Tail, max_text as max_schedule}
 use Rattle.schedule_text.specs.declared.kind.Kind.{Kind}
 use Rattle.schedule_text.specs.declared.kind.Kind.TheVariants as kinds
 use Rattle.slot_plans.specs.declared.kind.PlanKind.{PlanKind}
 use Rattle.schedule_text.specs.declared.fault.ScheduleFault.TheVariants as schedule
 use Rattle.schedule_text.specs.declared.pace.Stop.{Stop}
-use Rattle.schedule_text.specs.declared.reading.Schedule.{Schedule}
 use Rattle.schedule_text.specs.declared.reading.ThreadSetup.{ThreadSetup}
+use Rattle.schedule_text.specs.declared.source.TextFault.{TextFault}
 use Rattle.step_machine.specs.declared.event.Event.{Event}
 
 -- why a text in UTF-8 has no program
@@ -84,10 +88,7 @@ IsNoReadIn kind (text.Longer bytes) refusal.File = ¬ (BeginsUtf8 bytes.items)
 IsNoReadIn kind (text.Longer bytes) (refusal.Schedule schedule.TooLong) = BeginsUtf8 bytes.items
 IsNoReadIn kind (text.Longer bytes) _ = ⊥
 
--- the schedule, the header and the thread setup of what was read
-abbrev pub IsScheduleIn : Text → Schedule → Type 0
-IsScheduleIn text s = IsReadIn kinds.Schedule text s.setup s.plan s.events
-
+-- the header and the thread setup of what was read
 abbrev pub IsHeaderIn : Text → Setup × PlanKind → Type 0
 IsHeaderIn text h = IsReadIn kinds.Header text h.0 h.1 tt
 
@@ -112,6 +113,31 @@ IsNotRunAs p s events correct (refusal.Run fault) =
     (¬ ¬ (IsLawful p.values s × All (λ n. n < s.nodes) correct)) × IsUnknownAt s events fault
 IsNotRunAs p s events correct refusal.NoMemory = ⊤
 IsNotRunAs p s events correct _ = ⊥
+
+-- the text that a reader goes on with is no schedule, and this refusal tells why
+abbrev pub IsBadSchedule : Setup → Reading → Refusal → Type 0
+IsBadSchedule s r refused =
+    (e : TextFault) × (refused ≡ of_text e)
+    × ((held : List ℕ) (k : PlanKind) → IsOpened held s k r → IsNoSchedule (Some held) e)
+
+-- why nothing comes of the schedule that a reader was opened on: its text is none, or it is one,
+-- and its events have this cause
+abbrev pub StopsSchedule : (List Event → Refusal → Type 0) → Setup → Reading → Refusal → Type 0
+StopsSchedule Cause s r refused =
+    IsBadSchedule s r refused
+    ⊎ ((events : List Event) × IsReadAs s r events × Cause events refused)
+
+-- a refusal is told where the text that a reader goes on with is a schedule, and else that of the
+-- text
+abbrev pub IsToldAfter : Reading → (refused told : Refusal) → Type 0
+IsToldAfter r refused told =
+    ((told ≡ refused) × IsBegun r) ⊎ ((e : TextFault) × (told ≡ of_text e) × IsRefusedAs r e)
+
+-- the answer to a question on the run of the schedule that a reader was opened on
+abbrev pub IsAnswered : (start receives : ℕ → ℕ) → ProgramTree → Setup → Reading → Question
+    → Answer → Type 0
+IsAnswered start receives p s r q a =
+    (events : List Event) × IsReadAs s r events × Answered start receives p s events q a
 
 -- `out` gained the answer to a question on a run
 abbrev pub TellsAnswer : Source → Files → Option (List ℕ) → Question

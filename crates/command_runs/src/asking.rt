@@ -1,21 +1,23 @@
 //! What is asked of the run of a schedule.
 ghost use Rattle.std.specs.Prelude.{◌≡◌, IfErr, IfOk, IfSome};
 ghost use Rattle.command_runs.specs.Refused.{IsMissing, IsNotRun, IsUnanswered};
-ghost use Rattle.command_runs.specs.Served.{Answered, AnswersRun, IsSchedule, receives_of};
-ghost use Rattle.command_runs.specs.Served.{start_of};
-ghost use Rattle.command_runs.specs.Stages.{IsNoReadIn, IsNotRunAs, IsScheduleIn, listed_by};
+ghost use Rattle.command_runs.specs.Served.{AnswersRun, receives_of, start_of};
+ghost use Rattle.command_runs.specs.Stages.{IsAnswered, IsNotRunAs, IsToldAfter, StopsSchedule};
+ghost use Rattle.command_runs.specs.Stages.{listed_by};
+ghost use Rattle.command_runs.specs.declared.refusal.Refusal.TheVariants as refusal;
+ghost use Rattle.schedule_text.specs.Readers.{IsOpened};
 ghost use Rattle.schedule_text.specs.declared.kind.Kind.TheVariants as kinds;
 
 use crate::desk::Desk;
 use crate::explained::{Terms, explained_run, judged_run};
 use crate::refusal::Refusal;
 use crate::sources::Opened;
-use crate::texts::{Text, begin_utf8};
-use adversary::{MAX_TEXT, RunFault, Schedule, ScheduleFault, read_schedule};
+use adversary::RunFault;
 use command_words::Source;
 use omission_explainer::{Report, Verdict};
 use round_check::Checked;
-use simdutf8::compat::from_utf8;
+use round_meaning::Setup;
+use schedule_text::{ScheduleReader, TextSource};
 use slot_plans::{Growing, Known, Plan, PlanKind};
 use std::alloc::Global;
 use std::mem;
@@ -42,6 +44,14 @@ pub enum Answer {
     Verdict(Verdict),
 }
 
+/// A schedule that was opened: its header, and what reads its events.
+#[derive(Drop)]
+pub struct OpenedSchedule<S: TextSource> {
+    pub setup: Setup,
+    pub plan: PlanKind,
+    pub reader: ScheduleReader<S>,
+}
+
 impl<'a> Run<'a> {
     /// Runs the schedule and answers the question.
     pub fn answer<D: Desk>(
@@ -57,90 +67,108 @@ impl<'a> Run<'a> {
         ensures written { D.written desk.new ≡ D.written desk.old }
     {
         let opened = Opened::open(alloc, self.source, desk)?;
-        let schedule = schedule_in(alloc, self.schedule, desk)?;
-        let setup = &schedule.setup;
-        let program = opened.program(alloc, setup.nodes, setup.faults)?;
-        answer_by(alloc, &program, schedule, question)
+        let schedule = open_schedule(alloc, self.schedule, desk)?;
+        match opened.program(alloc, schedule.setup.nodes, schedule.setup.faults) {
+            Ok(program) => answer_by(alloc, &program, schedule, question),
+            Err(refusal) => Err(refusal_after(alloc, schedule.reader, refusal)),
+        }
     }
 }
 
-/// The schedule in a file; its text is let go before the run.
-fn schedule_in<D: Desk>(alloc: Global, name: &str, desk: &mut D) -> Result<Schedule, Refusal>
-    ensures schedule { IfOk result (λ schedule. IfSome (D.files desk.old name.now)
-        (λ text. IsSchedule text schedule.setup schedule.plan schedule.events)) }
+/// Opens the schedule in a file.
+fn open_schedule<D: Desk>(
+    alloc: Global,
+    name: &str,
+    desk: &mut D,
+) -> Result<OpenedSchedule<D::File>, Refusal>
+    ensures opened { IfOk result (λ o. IfSome (D.files desk.old name.now)
+        (λ held. IsOpened held o.setup o.plan o.reader)) }
     ensures refused { IfErr result (IsMissing kinds.Schedule (D.files desk.old name.now)) }
     ensures written { D.written desk.new ≡ D.written desk.old }
 {
-    let text = Text::read(alloc, name, MAX_TEXT, desk)?;
-    schedule_of(alloc, text)
+    let file = desk.open(alloc, name)?;
+    let (reader, setup, plan) = ScheduleReader::open(alloc, file)?;
+    Ok(OpenedSchedule {
+        setup,
+        plan,
+        reader,
+    })
 }
 
-/// The schedule that a text is.
-fn schedule_of(alloc: Global, text: Text) -> Result<Schedule, Refusal>
-    ensures schedule { IfOk result (IsScheduleIn text) }
-    ensures refused { IfErr result (IsNoReadIn kinds.Schedule text) }
+/// A refusal of what doesn't hang on a schedule's events: where its text is no schedule, the
+/// refusal is of that.
+fn refusal_after<S: TextSource + Drop>(
+    alloc: Global,
+    reader: ScheduleReader<S>,
+    refusal: Refusal,
+) -> Refusal
+    ensures { IsToldAfter reader refusal result }
 {
-    match text {
-        Text::Whole(bytes) => match from_utf8(&bytes) {
-            Ok(text) => Ok(read_schedule(alloc, text)?),
-            Err(_) => Err(Refusal::File),
-        },
-        Text::Longer(bytes) if begin_utf8(&bytes) => {
-            Err(Refusal::Schedule(ScheduleFault::TooLong))
-        }
-        Text::Longer(_) => Err(Refusal::File),
+    let mut reader = reader;
+    match reader.drain(alloc) {
+        Ok(()) => refusal,
+        Err(fault) => Refusal::from(fault),
     }
 }
 
 /// The answer on a schedule's run under its plan.
-fn answer_by(
+fn answer_by<S: TextSource + Drop>(
     alloc: Global,
     program: &Checked,
-    schedule: Schedule,
+    schedule: OpenedSchedule<S>,
     question: Question<'_>,
 ) -> Result<Answer, Refusal>
-    ensures answered { let plan = schedule.plan in let nodes = schedule.setup.nodes in
-        IfOk result (Answered (start_of plan nodes) (receives_of plan) program.now schedule
-        question.entry) }
-    ensures refused { let s = schedule in
-        IfErr result (IsNotRun program.now s.setup s.plan s.events
-        (listed_by question.entry)) }
+    ensures answered { let plan = schedule.plan in let s = schedule.setup in
+        IfOk result (IsAnswered (start_of plan s.nodes) (receives_of plan) program.now s
+        schedule.reader question.entry) }
+    ensures refused { let plan = schedule.plan in let s = schedule.setup in
+        IfErr result (StopsSchedule (λ events r. IsNotRun program.now s plan events
+        (listed_by question.entry) r) s schedule.reader) }
 {
     match schedule.plan {
         PlanKind::Known(delta) => match Known::new(schedule.setup.nodes, delta) {
             Some(plan) => answer_of(alloc, program, schedule, plan, question),
-            None => Err(Refusal::Run(RunFault::BadSetup)),
+            None => Err(bad_setup(alloc, schedule)),
         },
         PlanKind::Growing => match Growing::new(schedule.setup.nodes) {
             Some(plan) => answer_of(alloc, program, schedule, plan, question),
-            None => Err(Refusal::Run(RunFault::BadSetup)),
+            None => Err(bad_setup(alloc, schedule)),
         },
     }
 }
 
-fn answer_of<P: Plan>(
+/// The refusal of a setup.
+fn bad_setup<S: TextSource + Drop>(alloc: Global, schedule: OpenedSchedule<S>) -> Refusal
+    ensures { IsToldAfter schedule.reader (refusal.Run RunFault.BadSetup) result }
+{
+    refusal_after(alloc, schedule.reader, Refusal::Run(RunFault::BadSetup))
+}
+
+fn answer_of<P: Plan, S: TextSource + Drop>(
     alloc: Global,
     program: &Checked,
-    schedule: Schedule,
+    schedule: OpenedSchedule<S>,
     plan: P,
     question: Question<'_>,
 ) -> Result<Answer, Refusal>
     requires { P.nodes plan ≡ schedule.setup.nodes }
-    ensures answered { IfOk result (Answered (P.start plan) (P.receives plan) program.now
-        schedule question.entry) }
-    ensures refused { let s = schedule in
-        IfErr result (IsNotRunAs program.now s.setup s.events (listed_by question.entry)) }
+    ensures answered { IfOk result (IsAnswered (P.start plan) (P.receives plan) program.now
+        schedule.setup schedule.reader question.entry) }
+    ensures refused { let s = schedule.setup in IfErr result (StopsSchedule
+        (λ events r. IsNotRunAs program.now s events (listed_by question.entry) r) s
+        schedule.reader) }
 {
-    let Schedule { setup, events, .. } = schedule;
+    let OpenedSchedule { setup, reader, .. } = schedule;
+    // A command ends with its answer: the system takes the run's memory back as a whole.
     match question {
         Question::Report { decided } => {
-            let (report, journal) = explained_run(alloc, program, &setup, plan, events)?;
-            // The command ends with its answer: the system takes the run's memory back as a whole.
+            let (report, journal) = explained_run(alloc, program, &setup, plan, reader)?;
             mem::forget(journal);
             Ok(Answer::Report { report, decided })
         }
         Question::Verdict(terms) => {
-            let verdict = judged_run(alloc, program, &setup, plan, events, terms)?;
+            let (verdict, journal) = judged_run(alloc, program, &setup, plan, reader, terms)?;
+            mem::forget(journal);
             Ok(Answer::Verdict(verdict))
         }
     }

@@ -1,51 +1,54 @@
 //! From a checked program and any schedule to what is said of its run.
-ghost use Rattle.std.specs.Prelude.{◌≡◌, ◌<◌, ◌⊎◌, ◌↔◌, All, Err, IfErr, IfNone, IfOk, IfSome};
-ghost use Rattle.adversary.specs.Driving.{IsKnown, RunCause};
+ghost use Rattle.std.specs.Prelude.{◌≡◌, ◌<◌, All, IfErr, IfNone, IfOk, IfSome};
+ghost use Rattle.adversary.specs.Driving.{IsKnown};
+ghost use Rattle.adversary.specs.Reading.{IsNotRead, IsReadAs};
 ghost use Rattle.command_runs.specs.Explained.{AreListed, IsReportOf, IsVerdictOf};
 ghost use Rattle.omission_explainer.specs.Decided.{AreAgreed, AreInputs};
 ghost use Rattle.round_meaning.specs.Agreement.{RunsAlgorithm1};
 ghost use Rattle.round_meaning.specs.Setups.{IsLawful, max_nodes};
 
-use adversary::{RunFault, run_events};
+use adversary::{ReadFault, RunFault, refused_after, run_read};
 use omission_explainer::{Report, Verdict, explain, judge};
 use round_check::Checked;
 use round_lang::NoMemory;
 use round_meaning::{MAX_NODES, NodeSet, Setup};
+use schedule_text::{ScheduleReader, TextSource};
 use slot_plans::Plan;
 use std::alloc::Global;
 use step_journal::Journal;
-use stored_events::Events;
 
-/// The report of running a schedule's events in single steps: the run explained in rounds. Where
-/// the program is Algorithm 1, for a setup with fewer than half of the nodes faulty, all decisions
-/// in it are equal, and each is some node's input. The journal of the run is handed out too:
-/// whoever is done with it may leave its memory to the system.
+/// The report of running a schedule in single steps, event by event as it's read: the run explained
+/// in rounds. Where the program is Algorithm 1, for a setup with fewer than half of the nodes
+/// faulty, all decisions in it are equal, and each is some node's input. The journal of the run is
+/// handed out too, whose trace has the schedule's events: whoever is done with it may leave its
+/// memory to the system.
 ///
-/// Refusals are those of `run_events`.
-pub fn explained_run<P: Plan>(
+/// Refusals are those of `run_read`.
+pub fn explained_run<P: Plan, S: TextSource + Drop>(
     alloc: Global,
     program: &Checked,
     setup: &Setup,
     plan: P,
-    events: Events,
-) -> Result<(Report, Journal<P>), RunFault>
+    reader: ScheduleReader<S>,
+) -> Result<(Report, Journal<P>), ReadFault>
     requires { IsLawful program.now.values setup.now → P.nodes plan ≡ setup.now.nodes }
-    ensures bad_setup { (result ≡ Err RunFault.BadSetup)
-        ↔ (IsLawful program.now.values setup.now → ⊥) }
-    ensures cause { IfErr result (RunCause setup.now events) }
-    ensures known { IfOk result (λ _answer. All (IsKnown setup.now) events) }
-    ensures explained { IfOk result
-        (λ answer. IsReportOf (P.start plan) program.now setup.now events answer.0) }
+    ensures lawful { IfOk result (λ _answer. IsLawful program.now.values setup.now) }
+    ensures cause { IfErr result (IsNotRead (IsLawful program.now.values setup.now) setup.now
+        reader) }
+    ensures known { IfOk result (λ answer. All (IsKnown setup.now) answer.1.log.trace) }
+    ensures read { IfOk result (λ answer. IsReadAs setup.now reader answer.1.log.trace) }
+    ensures explained { IfOk result (λ answer. IsReportOf (P.start plan) program.now setup.now
+        answer.1.log.trace answer.0) }
     ensures agreement { IfOk result
         (λ answer. RunsAlgorithm1 program.now setup.now → AreAgreed answer.0.rows) }
     ensures validity { IfOk result
         (λ answer. RunsAlgorithm1 program.now setup.now → AreInputs setup.now answer.0.rows) }
 {
-    let journal = run_events(alloc, program, setup, plan, events)?;
+    let journal = run_read(alloc, program, setup, plan, reader)?;
     journal.agrees();
     match explain(alloc, &journal) {
         Ok(report) => Ok((report, journal)),
-        Err(NoMemory) => Err(RunFault::NoMemory),
+        Err(NoMemory) => Err(ReadFault::Run(RunFault::NoMemory)),
     }
 }
 
@@ -58,33 +61,36 @@ pub struct Terms<'a> {
     pub gst: u32,
 }
 
-/// The verdict on running a schedule's events in single steps.
+/// The verdict on running a schedule in single steps, event by event as it's read, and the journal
+/// of the run.
 ///
-/// Refusals are those of `run_events`; `BadSetup` is also answered where a node of `correct`
-/// isn't one of the run's.
-pub fn judged_run<P: Plan>(
+/// Refusals are those of `run_read`; `BadSetup` is also answered where a node of `correct` isn't
+/// one of the run's.
+pub fn judged_run<P: Plan, S: TextSource + Drop>(
     alloc: Global,
     program: &Checked,
     setup: &Setup,
     plan: P,
-    events: Events,
+    reader: ScheduleReader<S>,
     terms: Terms<'_>,
-) -> Result<Verdict, RunFault>
+) -> Result<(Verdict, Journal<P>), ReadFault>
     requires { IsLawful program.now.values setup.now → P.nodes plan ≡ setup.now.nodes }
-    ensures bad_setup { (result ≡ Err RunFault.BadSetup)
-        ↔ (IsLawful program.now.values setup.now
-        × All (λ n. n < setup.now.nodes) terms.entry.correct.now → ⊥) }
-    ensures cause { IfErr result (RunCause setup.now events) }
-    ensures known { IfOk result (λ _answer. All (IsKnown setup.now) events) }
-    ensures judged { IfOk result (IsVerdictOf (P.start plan) (P.receives plan) program.now setup.now
-        events terms.entry.correct.now terms.entry.delta terms.entry.gst) }
+    ensures lawful { IfOk result (λ _answer. IsLawful program.now.values setup.now) }
+    ensures cause { IfErr result (IsNotRead (IsLawful program.now.values setup.now
+        × All (λ n. n < setup.now.nodes) terms.entry.correct.now) setup.now reader) }
+    ensures known { IfOk result (λ answer. All (IsKnown setup.now) answer.1.log.trace) }
+    ensures read { IfOk result (λ answer. IsReadAs setup.now reader answer.1.log.trace) }
+    ensures judged { IfOk result (λ answer. IsVerdictOf (P.start plan) (P.receives plan) program.now
+        setup.now answer.1.log.trace terms.entry.correct.now terms.entry.delta terms.entry.gst
+        answer.0) }
 {
     let Some(correct) = nodes_in(terms.correct, setup.nodes) else {
-        return Err(RunFault::BadSetup);
+        return Err(refused_after(alloc, reader, RunFault::BadSetup));
     };
-    let journal = run_events(alloc, program, setup, plan, events)?;
+    let journal = run_read(alloc, program, setup, plan, reader)?;
     journal.agrees();
-    Ok(judge(&journal, correct, terms.delta, terms.gst))
+    let verdict = judge(&journal, correct, terms.delta, terms.gst);
+    Ok((verdict, journal))
 }
 
 /// The set of the listed nodes, where each is below a number of nodes and below the most that there

@@ -6,11 +6,12 @@ ghost use Rattle.command_runs.specs.Lines.{check_line, library_line, line_of, me
 ghost use Rattle.command_runs.specs.Lines.{run_line, schedule_line, source_line, status_of};
 
 use crate::desk::DeskFault;
-use adversary::{RunFault, ScheduleFault};
+use adversary::{ReadFault, RunFault, ScheduleFault};
 use algorithm_library::LibraryFault;
 use command_words::WordsFault;
 use round_check::CheckFault;
 use round_lang::{LangFault, Span};
+use schedule_text::TextFault;
 use std::error::Error;
 use std::io::Write;
 use std::{fmt, io};
@@ -209,6 +210,20 @@ impl From<CheckFault> for Refusal {
     }
 }
 
+impl From<TextFault> for Refusal {
+    ghost use Rattle.std.specs.Prelude.{◌≡◌};
+    ghost use Rattle.command_runs.specs.Refused.{of_text};
+
+    ghost from_gives = { λ fault r. r ≡ of_text fault };
+
+    fn from(fault: TextFault) -> Refusal {
+        match fault {
+            TextFault::Failed | TextFault::NotUtf8 => Refusal::File,
+            TextFault::Schedule(fault) => Refusal::from(fault),
+        }
+    }
+}
+
 impl From<ScheduleFault> for Refusal {
     ghost use Rattle.std.specs.Prelude.{◌≡◌};
     ghost use Rattle.command_runs.specs.Refused.{of_schedule};
@@ -247,6 +262,20 @@ impl From<RunFault> for Refusal {
         match fault {
             RunFault::NoMemory => Refusal::NoMemory,
             fault => Refusal::Run(fault),
+        }
+    }
+}
+
+impl From<ReadFault> for Refusal {
+    ghost use Rattle.std.specs.Prelude.{◌≡◌};
+    ghost use Rattle.command_runs.specs.Refused.{of_read};
+
+    ghost from_gives = { λ fault r. r ≡ of_read fault };
+
+    fn from(fault: ReadFault) -> Refusal {
+        match fault {
+            ReadFault::Text(fault) => Refusal::from(fault),
+            ReadFault::Run(fault) => Refusal::from(fault),
         }
     }
 }

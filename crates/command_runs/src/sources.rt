@@ -9,11 +9,12 @@ ghost use Rattle.round_lang.specs.Source.{IsSource};
 
 use crate::desk::Desk;
 use crate::refusal::Refusal;
-use crate::texts::{Text, begin_utf8};
+use crate::texts::Text;
 use algorithm_library::{count_votes, dls1, gather};
 use command_words::Source;
 use round_check::{Checked, check};
 use round_lang::{LangFault, MAX_TEXT, parse};
+use schedule_text::begin_utf8;
 use simdutf8::compat::from_utf8;
 use std::alloc::Global;
 

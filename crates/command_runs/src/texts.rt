@@ -1,10 +1,9 @@
 //! Texts of files, within their limits.
-ghost use Rattle.std.specs.Prelude.{◌≡◌, ◌↔◌, ℕ, Err, List, None, IfOk, IfSome, IsTrue};
-ghost use Rattle.command_runs.specs.Texts.{BeginsUtf8, IsTextOf};
+ghost use Rattle.std.specs.Prelude.{◌≡◌, ℕ, Err, List, None, IfOk, IfSome};
+ghost use Rattle.command_runs.specs.Texts.{IsTextOf};
 
 use crate::desk::{Desk, DeskFault};
 use std::alloc::Global;
-use std::str;
 
 /// What a file has.
 #[derive(Drop)]
@@ -35,15 +34,5 @@ impl Text {
         } else {
             Ok(Text::Whole(bytes))
         }
-    }
-}
-
-/// Whether bytes begin a text in UTF-8: a character may be cut off at their end.
-pub fn begin_utf8(bytes: &[u8]) -> bool
-    ensures { IsTrue result ↔ BeginsUtf8 bytes.now }
-{
-    match str::from_utf8(bytes) {
-        Ok(_) => true,
-        Err(error) => error.error_len().is_none(),
     }
 }

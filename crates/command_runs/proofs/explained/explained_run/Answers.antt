@@ -1,4 +1,4 @@
-use Rattle.std.proofs.Common.{◌∙◌, All, ap, subst}
+use Rattle.std.proofs.Common.{◌∙◌, All, ap, refl, subst}
 use Rattle.adversary.specs.Driving.{ClosedAreDue}
 use Rattle.omission_explainer.specs.Decided.{AreAgreed, AreInputs}
 use Rattle.omission_explainer.specs.InRounds.{IsOfRounds, printed_omits}
@@ -22,7 +22,7 @@ returns-in-Ok-clause-explained g c =
       run = run;
       program = ran.program;
       setup = ran.setup;
-      trace = ran.trace;
+      trace = refl;
       agrees = subst (λ p. JournalAgrees (g.P.Plan.start p) run (mark_in (g.P.Plan.start p) run) (waiting_in (g.P.Plan.start p) run)) ran.plan c.agrees.ensures;
       closed = subst (λ p. ClosedAreDue (g.P.Plan.start p) run) ran.plan ran.closed;
       values = said.values ∙ ap (λ (p : ProgramTree). p.values) ran.program;
