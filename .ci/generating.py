@@ -391,7 +391,8 @@ class Generator:
         return self.spoiled(lines, 6, others), nodes
 
     def change_line(self, lines, head, kind):
-        at = self.random.randrange(head if self.often(0.5) else len(lines))
+        # (an earlier change may have taken one of the header's lines away)
+        at = self.random.randrange(min(head, len(lines)) if self.often(0.5) else len(lines))
         numbers = [(it.start(), it.end()) for it in re.finditer("[0-9]+", lines[at])]
         if kind == "number" and numbers:
             first, after = self.one(numbers)
