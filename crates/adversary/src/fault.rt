@@ -4,8 +4,8 @@ use round_lang::NoMemory;
 use schedule_text::TextFault;
 use thiserror::Error;
 
-/// Why a schedule isn't run, or a run by threads has no journal; positions are those of the events
-/// in their list, from 0.
+/// Why a schedule isn't run, or a run by threads has no journal; positions count the events of the
+/// whole schedule, from 0.
 #[derive(Clone, Copy, PartialEq, Eq, Debug, Error)]
 pub enum RunFault {
     /// The setup isn't lawful for the program.

@@ -15,7 +15,7 @@ pub use policies::{Bounded, Choice, Faulty, Hoard, Policy, Prompt, Script, Table
 pub use read::{refused_after, run_read};
 pub use running::run_schedule;
 pub use schedule_text::{
-    MAX_TEXT, Pace, Schedule, ScheduleFault, ScheduleReader, Stop, ThreadSetup, read_header,
-    read_schedule, read_threads, write_schedule,
+    MAX_TEXT, Pace, Schedule, ScheduleFault, Stop, ThreadSetup, read_header, read_schedule,
+    read_threads, write_schedule,
 };
 pub use trace::write_trace;

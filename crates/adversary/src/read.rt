@@ -17,10 +17,11 @@ use stored_events::Events;
 
 /// The journal of a schedule whose events are run as they are read, from a reader that was opened
 /// and not read on: as by [`run_schedule`](crate::run_schedule), with no list of all events in
-/// memory. The setup is the one that the reader's header has.
+/// memory. `setup` is the one that was handed out with the reader.
 ///
 /// A text that is no schedule is refused before a setup that isn't lawful, and that before an event
-/// that names what the run hasn't; a lack of memory is told when it's met.
+/// that names what the run hasn't. Where there is no memory to read on or to open the run, that is
+/// told at once; where there is none to run an event, when the rest of the text was read.
 pub fn run_read<P: Plan, S: TextSource + Drop>(
     alloc: Global,
     program: &Checked,
@@ -72,8 +73,8 @@ fn run_on<P: Plan>(driver: Driver<P>, events: &Events) -> Result<Driver<P>, RunF
     }
 }
 
-/// Why there is no journal, where a run is refused and the rest of its schedule isn't read yet: the
-/// text may be none.
+/// The refusal of a run that is refused before the rest of its schedule was read: the text's own
+/// fault where it is no schedule, and else this one.
 pub fn refused_after<S: TextSource + Drop>(
     alloc: Global,
     reader: ScheduleReader<S>,

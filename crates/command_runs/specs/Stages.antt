@@ -9,8 +9,8 @@ use Rattle.adversary.specs.declared.fault.RunFault.TheVariants as run
 use Rattle.command_runs.specs.InLockstep.{AreTerms}
 use Rattle.command_runs.specs.Refused.{IsNoOffer, IsUnanswered, IsUnmade, IsUnthreaded}
 use Rattle.command_runs.specs.Refused.{StartsThreads, of_text}
-use Rattle.command_runs.specs.Served.{Answered, AnswersRun, MakesLockstep, ReportsThreads, answer_text}
-use Rattle.command_runs.specs.Served.{told_text}
+use Rattle.command_runs.specs.Served.{Answered, AnswersRun, MakesLockstep, ReportsThreads}
+use Rattle.command_runs.specs.Served.{answer_text, told_text}
 use Rattle.command_runs.specs.Texts.{Files}
 use Rattle.schedule_text.specs.Bytes.{BeginsUtf8}
 use Rattle.command_runs.specs.declared.asking.Answer.{Answer}

@@ -29,7 +29,7 @@ pub struct Run<'a> {
     pub schedule: &'a str,
 }
 
-/// A question on a run.
+/// A question about a run.
 #[derive(Clone, Copy)]
 pub enum Question<'a> {
     /// The report, with a last line on the decisions where `decided` says so.
@@ -95,7 +95,7 @@ fn open_schedule<D: Desk>(
     })
 }
 
-/// A refusal of what doesn't hang on a schedule's events: where its text is no schedule, the
+/// A refusal of what doesn't depend on a schedule's events: where its text is no schedule, the
 /// refusal is of that.
 fn refusal_after<S: TextSource + Drop>(
     alloc: Global,
@@ -111,7 +111,7 @@ fn refusal_after<S: TextSource + Drop>(
     }
 }
 
-/// The answer on a schedule's run under its plan.
+/// The answer about a schedule's run under its plan.
 fn answer_by<S: TextSource + Drop>(
     alloc: Global,
     program: &Checked,

@@ -46,10 +46,11 @@ pub record TakesLines (old new : Intake) : Type 0 where
   pub utf8 : IsUtf8 front
   pub same : (t : List ℕ) → said old (lines (front ++ t)) ≡ said new (lines t)
 
--- the same but for the events, which are gone
+-- a line reader without its events
 abbrev pub without_events : LineReader → LineReader
 without_events r = record r { draft = record r.draft { events = [] } }
 
+-- its events were taken away, and all else is as it was
 abbrev pub HasNoEvents : (old new : Intake) → Type 0
 HasNoEvents old new = new ≡ record old { reader = without_events old.reader }
 

@@ -70,11 +70,11 @@ pub record HasRead (held : List ℕ) (s : Setup) (k : PlanKind) (events : List E
   pub ahead : r.is_ended ≡ false → IsAhead held (Some (s, k)) before r
   pub whole : r.is_ended ≡ true → IsScheduleText held s k events
 
--- so it was when the events that were read last were the first
+-- the header was read, and no events but those that were read last
 abbrev pub IsOpened : List ℕ → Setup → PlanKind → Reading → Type 0
 IsOpened held s k r = HasRead held s k (last_events r) r
 
--- whatever was read before, the events that were read last came behind it
+-- whatever was read before, the events that were read last come behind it
 abbrev pub AdvancesTo : (old new : Reading) → Type 0
 AdvancesTo old new =
     (held : List ℕ) (s : Setup) (k : PlanKind) (events : List Event)

@@ -1,6 +1,6 @@
 //! The lines of a schedule's text, which comes piece by piece.
 ghost use Rattle.std.specs.Prelude.{◌≡◌, ◌+◌, ◌≤◌, ◌++◌, ◌↔◌, ℕ, IfOk, IfSome, IsTrue, List, OnOk};
-ghost use Rattle.std.specs.Prelude.{[], drop, length, take};
+ghost use Rattle.std.specs.Prelude.{drop, length, take};
 ghost use Rattle.std.specs.Str.{IsUtf8};
 ghost use Rattle.std.specs.Str.Lines.{lines};
 ghost use Rattle.schedule_text.specs.Bytes.{BeginsUtf8};
@@ -138,8 +138,8 @@ impl Intake {
     }
 }
 
-/// How many bytes the whole lines at the front take, the last of which ends behind so many;
-/// `None` where they aren't UTF-8.
+/// How many bytes the whole lines at the front take, where no line ends within the first `searched`
+/// bytes; `None` where they aren't UTF-8.
 fn whole_lines(bytes: &[u8], searched: usize) -> Option<usize>
     requires { searched ≤ length bytes.now }
     ensures within { IfSome result (λ n. n ≤ length bytes.now) }
@@ -154,13 +154,15 @@ fn whole_lines(bytes: &[u8], searched: usize) -> Option<usize>
     }
 }
 
-/// How many bytes the whole lines at the front take; 0 where none ends behind so many bytes.
+/// How many bytes the whole lines at the front take, where no line ends within the first `searched`
+/// bytes; 0 where there is no whole line.
 fn lines_end(bytes: &[u8], searched: usize) -> usize
     requires { searched ≤ length bytes.now }
     ensures within { result ≤ length bytes.now }
     ensures lines { EndsLine (take result bytes.now) }
 {
-    // Only what is new is looked through, so that a long line isn't anew for each piece.
+    // Only what is new is looked through, so that a long line isn't looked through anew for each
+    // piece.
     let end = line_end(&bytes[searched..]);
     if end == 0 {
         return 0;

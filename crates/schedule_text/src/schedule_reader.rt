@@ -18,8 +18,9 @@ use stored_events::Events;
 const PIECE: usize = 65_536;
 
 /// A schedule that is read piece by piece: first its header, and then its events as they come. So
-/// no more of its text is in memory than a piece and the line that it begins, and no more of its
-/// events than a piece has.
+/// no more of its text is in memory than a piece and the line that goes on in it, unless whole
+/// lines aren't UTF-8: then all bytes from these on are kept. No more of its events are than a
+/// piece has.
 ///
 /// A text is refused as by [`read_schedule`](crate::read_schedule), but only when all of it was
 /// read: bytes that aren't UTF-8 are refused before any line at fault. Of a text that is too long
@@ -75,7 +76,7 @@ impl<S: TextSource + Drop> ScheduleReader<S> {
         &self.intake.reader.draft.events
     }
 
-    /// Reads the next events, of which there may be none; `false` where the text has ended before.
+    /// Reads the next events, of which there may be none; `false` where the text had already ended.
     /// A reader that has refused its text is of no use.
     pub fn advance(&mut self, alloc: Global) -> Result<bool, TextFault>
         ensures sinks { result ≡ Ok true → ahead self.new < ahead self.old }
