@@ -1,10 +1,19 @@
 -- Events and names in few bytes.
-use Rattle.std.specs.Prelude.{ℕ, ◌<◌, List, [], ◌∷◌}
+use Rattle.std.specs.Prelude.{ℕ, ◌/◌, ◌%◌, ◌<◌, List, [], ◌∷◌}
 use Rattle.step_machine.specs.declared.event.Event.{Event}
 use Rattle.step_machine.specs.declared.event.Event.TheVariants as event
 use Rattle.step_machine.specs.declared.event.Name.{Name}
 use Rattle.stored_events.specs.declared.event.Kind.{Kind}
 use Rattle.stored_events.specs.declared.event.Kind.TheVariants as kind
+
+-- the name that two numbers say: sender and receiver in one byte, round and copy in two
+abbrev pub name_of : ℕ → ℕ → Name
+name_of ends turn = record {
+  from = ends / 16;
+  to = ends % 16;
+  round = turn / 4;
+  copy = turn % 4;
+}
 
 -- the event of a kind: a step of the node that the name begins with, or one that names a message
 abbrev pub event_of : Kind → Name → Event
@@ -15,14 +24,14 @@ event_of kind.Copy n = event.Copy n
 
 -- the numbers of the name are few enough to be stored
 pub record IsFewName (n : Name) : Type 0 where
-  pub from : n.from < 256
-  pub to : n.to < 256
-  pub round : n.round < 65536
-  pub copy : n.copy < 256
+  pub from : n.from < 16
+  pub to : n.to < 16
+  pub round : n.round < 16384
+  pub copy : n.copy < 4
 
 -- and so are those of the event
 abbrev pub IsFew : Event → Type 0
-IsFew (event.Step i) = i < 256
+IsFew (event.Step i) = i < 16
 IsFew (event.Release n) = IsFewName n
 IsFew (event.Drop n) = IsFewName n
 IsFew (event.Copy n) = IsFewName n

@@ -2,6 +2,7 @@
 ghost use Rattle.std.specs.Prelude.{◌≡◌, IfOk};
 ghost use Rattle.stored_events.specs.Stored.{IsFew, IsFewName, event_of};
 
+use crate::name::{ends_of, name_in, turn_of};
 use round_lang::NoMemory;
 use std::alloc::Global;
 use std::marker::Model;
@@ -16,24 +17,22 @@ enum Kind {
     Copy,
 }
 
-/// An event of a run, which has so few nodes and rounds that this takes 6 bytes.
+/// An event of a run, which has so few nodes and rounds that this takes 4 bytes: its kind in one of
+/// them, sender and receiver in one, and round and copy in two. A step's node stands as the sender.
 #[derive(Drop)]
 pub struct StoredEvent {
     kind: Kind,
-    from: u8,
-    to: u8,
-    copy: u8,
-    round: u16,
+    ends: u8,
+    turn: u16,
 }
 
 impl Model for StoredEvent {
     ghost use Rattle.step_machine.specs.declared.event.Event.{Event};
-    ghost use Rattle.stored_events.specs.Stored.{event_of};
+    ghost use Rattle.stored_events.specs.Stored.{event_of, name_of};
 
     ghost Value = { Event };
 
-    ghost view = { λ s. event_of s.kind
-        (record { from = s.from; to = s.to; round = s.round; copy = s.copy }) };
+    ghost view = { λ s. event_of s.kind (name_of s.ends s.turn) };
 }
 
 impl StoredEvent {
@@ -46,10 +45,8 @@ impl StoredEvent {
         match event {
             Event::Step(node) => StoredEvent {
                 kind: Kind::Step,
-                from: node as u8,
-                to: 0,
-                copy: 0,
-                round: 0,
+                ends: ends_of(node, 0),
+                turn: 0,
             },
             Event::Release(name) => of_network(Kind::Release, name),
             Event::Drop(name) => of_network(Kind::Drop, name),
@@ -62,12 +59,7 @@ impl StoredEvent {
     pub fn event(&self) -> Event
         ensures { result ≡ self.now }
     {
-        let name = Name {
-            from: u32::from(self.from),
-            to: u32::from(self.to),
-            round: u32::from(self.round),
-            copy: u32::from(self.copy),
-        };
+        let name = name_in(self.ends, self.turn);
         match self.kind {
             Kind::Step => Event::Step(name.from),
             Kind::Release => Event::Release(name),
@@ -85,10 +77,8 @@ fn of_network(kind: Kind, name: Name) -> StoredEvent
 {
     StoredEvent {
         kind,
-        from: name.from as u8,
-        to: name.to as u8,
-        copy: name.copy as u8,
-        round: name.round as u16,
+        ends: ends_of(name.from, name.to),
+        turn: turn_of(name.round, name.copy),
     }
 }
 

@@ -9,7 +9,7 @@ use std::alloc::Global;
 use std::marker::Model;
 use step_machine::{Event, Name};
 
-/// Events of any numbers: in 6 bytes each up to the first whose numbers are too large for that, and
+/// Events of any numbers: in 4 bytes each up to the first whose numbers are too large for that, and
 /// whole from there on.
 #[derive(Drop)]
 pub struct Events {
@@ -93,14 +93,14 @@ fn make_room(events: &mut Vec<StoredEvent>) -> Result<(), NoMemory>
     Ok(())
 }
 
-/// Whether an event can be stored in 6 bytes.
+/// Whether an event can be stored in 4 bytes.
 #[inline(always)]
 fn is_few(event: Event) -> bool
     ensures few { IsTrue result → IsFew event }
     ensures all { result ≡ false → ¬ IsFew event }
 {
     match event {
-        Event::Step(node) => node < 256,
+        Event::Step(node) => node < 16,
         Event::Release(name) | Event::Drop(name) | Event::Copy(name) => is_few_name(name),
     }
 }
@@ -111,5 +111,5 @@ fn is_few_name(name: Name) -> bool
     ensures few { IsTrue result → IsFewName name }
     ensures all { result ≡ false → ¬ IsFewName name }
 {
-    name.from < 256 && name.to < 256 && name.round < 65536 && name.copy < 256
+    name.from < 16 && name.to < 16 && name.round < 16384 && name.copy < 4
 }

@@ -1,52 +1,82 @@
 //! Names of messages in few bytes.
-ghost use Rattle.std.specs.Prelude.{◌≡◌, ◌++◌, OnErr, OnOk};
-ghost use Rattle.stored_events.specs.Stored.{IsFewName};
+ghost use Rattle.std.specs.Prelude.{◌≡◌, ◌<◌, ◌/◌, ◌%◌, ◌++◌, OnErr, OnOk};
+ghost use Rattle.stored_events.specs.Stored.{IsFewName, name_of};
 
 use round_lang::NoMemory;
 use std::marker::Model;
 use step_machine::Name;
 
-/// The name of a message of a run, which has so few nodes and rounds that this takes 6 bytes.
+/// The name of a message of a run, which has so few nodes and rounds that this takes 4 bytes:
+/// sender and receiver in one of them, and round and copy in two.
 #[derive(Drop)]
 pub struct StoredName {
-    from: u8,
-    to: u8,
-    round: u16,
-    copy: u8,
+    ends: u8,
+    turn: u16,
 }
 
 impl Model for StoredName {
     ghost use Rattle.step_machine.specs.declared.event.Name.{Name};
+    ghost use Rattle.stored_events.specs.Stored.{name_of};
 
     ghost Value = { Name };
 
-    ghost view = { λ s. record { from = s.from; to = s.to; round = s.round; copy = s.copy } };
+    ghost view = { λ s. name_of s.ends s.turn };
 }
 
 impl StoredName {
     /// The name of a message of a run.
+    #[inline(always)]
     pub fn new(name: Name) -> StoredName
         requires { IsFewName name }
         ensures { result ≡ name }
     {
         StoredName {
-            from: name.from as u8,
-            to: name.to as u8,
-            round: name.round as u16,
-            copy: name.copy as u8,
+            ends: ends_of(name.from, name.to),
+            turn: turn_of(name.round, name.copy),
         }
     }
 
     /// The name.
+    #[inline(always)]
     pub fn name(&self) -> Name
         ensures { result ≡ self.now }
     {
-        Name {
-            from: u32::from(self.from),
-            to: u32::from(self.to),
-            round: u32::from(self.round),
-            copy: u32::from(self.copy),
-        }
+        name_in(self.ends, self.turn)
+    }
+}
+
+/// A sender and a receiver in one byte.
+#[inline(always)]
+pub(crate) fn ends_of(from: u32, to: u32) -> u8
+    requires few_from { from < 16 }
+    requires few_to { to < 16 }
+    ensures from { result / 16 ≡ from }
+    ensures to { result % 16 ≡ to }
+{
+    (from * 16 + to) as u8
+}
+
+/// A round and a copy in two bytes.
+#[inline(always)]
+pub(crate) fn turn_of(round: u32, copy: u32) -> u16
+    requires few_rounds { round < 16384 }
+    requires few_copies { copy < 4 }
+    ensures round { result / 4 ≡ round }
+    ensures copy { result % 4 ≡ copy }
+{
+    (round * 4 + copy) as u16
+}
+
+/// The name that these bytes are of.
+#[inline(always)]
+pub(crate) fn name_in(ends: u8, turn: u16) -> Name
+    ensures { result ≡ name_of ends turn }
+{
+    Name {
+        from: u32::from(ends / 16),
+        to: u32::from(ends % 16),
+        round: u32::from(turn / 4),
+        copy: u32::from(turn % 4),
     }
 }
 
