@@ -1,12 +1,12 @@
 -- Frames in one piece of memory, and where they lie.
-use Rattle.std.proofs.Common.{◌≡◌, ℕ, ◌+◌, ◌*◌, ◌-◌, ◌<◌, ◌≤◌, List, Option, length, arith, ap, sym, subst, ◌∙◌}
+use Rattle.std.proofs.Common.{◌≡◌, ℕ, ◌+◌, ◌*◌, ◌-◌, ◌<◌, ◌≤◌, ◌^◌, List, Option, length, arith, ap, mul-le-mul_right, sym, subst, ◌∙◌}
 use Rattle.std.proofs.lemmas.List.{take_all}
 use Rattle.std.specs.Arc.{arc_value}
 use Rattle.std.specs.List.{slice_range}
 use Rattle.round_lang.specs.declared.value.Value.{Value}
 use Rattle.frame_format.specs.declared.frame.Frame.{Frame as Written}
 use Rattle.frame_format.specs.declared.version.FrameVersion.TheVariants.{V2}
-use Rattle.frame_format.specs.Formats.{Format}
+use Rattle.frame_format.specs.Formats.{Format, IsFormat, position}
 use Rattle.frame_format.specs.Reading.{SpelledIsRead}
 use Rattle.frame_format.specs.Spelling.{Spells}
 use Rattle.frame_views.specs.Writing.{frame_size, nth_frame}
@@ -59,6 +59,13 @@ copy_is d first k o bytes old new from read lies was same writes =
     let after = sealed_copy s o.state old new k read before (writes s) in
     let said : frame_in s o.state old ≡ frame_from d first = ap (frame_in s o.state) was ∙ ap (λ (x : Origin). frame_in (layout_in x) x.state (bytes_from d first)) from in
     (subst (IsSealed s) (sym same) after.0, ap (frame_in s o.state) same ∙ after.1 ∙ ap (copied_as k) said)
+
+-- what is said to all is so short that 4 bytes count where each frame begins
+pub first_small : (s : Format) (round to n : ℕ) → IsFormat s → n ≡ frame_size s round → to < s.nodes → to * n < 2 ^ 32
+first_small s round to n h e within =
+    let small = (h.blocks (position s round)).small in
+    let most = mul-le-mul_right {m = to} {n = 16} n (omega (arith, within, h.few_nodes)) in
+    omega (arith, most, e, small)
 
 -- the frame to a node lies behind those to the nodes below it
 pub lies_to : (n : Name) (d : Said) (m : Option (List Value)) → SpelledIsRead (layout_in (arc_value d.origin)) → n.to < (layout_in (arc_value d.origin)).nodes → n.copy ≡ 0

@@ -4,8 +4,10 @@ pub use Rattle.step_code.specs.Turns
 pub mod Sealed
 pub mod Framing
 pub mod Saying
+pub mod Keeping
 pub mod Preparing
 pub mod Nodes
 pub mod Reading
 pub mod NodeInside
 pub mod Lending
+pub mod StoredStates

@@ -11,8 +11,9 @@ ghost use Rattle.step_machine.specs.Saying.{frame_from, layout_in, IsFrameFrom};
 use crate::event::Name;
 use crate::origin::Origin;
 use crate::said::Said;
+use crate::sealed_view::SealedView;
 use frame_format::{FrameVersion, copy_of, from_of, round_of, spelled_is_read, to_of};
-use frame_views::{FieldsView, FrameView, write_copy, write_frame};
+use frame_views::{FieldsView, FrameView, write_frame};
 use round_lang::{Kind, Message, NoMemory, Vars};
 use std::marker::Model;
 use std::sync::Arc;
@@ -22,8 +23,8 @@ use std::sync::Arc;
 /// piece of memory, each from its place on.
 #[derive(Drop)]
 pub struct Sealed {
-    said: Arc<Said>,
-    first: usize,
+    pub(crate) said: Arc<Said>,
+    pub(crate) first: u32,
 }
 
 impl Model for Sealed {
@@ -44,7 +45,7 @@ impl Sealed {
 
     /// The frame that lies from a place on.
     #[inline(always)]
-    pub(crate) fn new(said: Arc<Said>, first: usize) -> Sealed
+    pub(crate) fn new(said: Arc<Said>, first: u32) -> Sealed
         requires { IsFrameFrom (arc_value said) first }
         ensures { result ≡ frame_from (arc_value said) first }
     {
@@ -88,18 +89,22 @@ impl Sealed {
         requires { copy ≤ max_copy }
         ensures { IfOk result (λ frame. frame ≡ copied_as copy self.now) }
     {
-        let origin = Arc::try_clone(&self.said.origin)?;
-        spelled_is_read(&origin.layout);
-        let mut frames = Vec::from_slice(origin.alloc, self.said.part(self.first))?;
-        write_copy(copy, &mut frames);
-        alone(origin, frames)
+        self.seen().copied(copy)
+    }
+
+    /// The message, as it is seen where it lies.
+    #[inline(always)]
+    pub fn seen(&self) -> SealedView<'_>
+        ensures { result ≡ self.now }
+    {
+        SealedView::new(&self.said, self.first)
     }
 
     #[inline(always)]
     pub fn name(&self) -> Name
         ensures { result ≡ self.now.name }
     {
-        let bytes = self.said.part(self.first);
+        let bytes = self.said.part(self.first as usize);
         Name {
             from: from_of(bytes),
             to: to_of(bytes),
@@ -120,7 +125,10 @@ impl Sealed {
     pub fn view(&self) -> FrameView<'_>
         ensures { result ≡ wire self.now }
     {
-        FrameView::over(&self.said.origin.layout, self.said.part(self.first))
+        FrameView::over(
+            &self.said.origin.layout,
+            self.said.part(self.first as usize),
+        )
     }
 
     /// The fields of its message, where they lie.
@@ -128,7 +136,10 @@ impl Sealed {
     pub fn fields(&self) -> FieldsView<'_, '_>
         ensures { result ≡ self.now.message }
     {
-        FieldsView::of_frame(&self.said.origin.layout, self.said.part(self.first))
+        FieldsView::of_frame(
+            &self.said.origin.layout,
+            self.said.part(self.first as usize),
+        )
     }
 
     /// The same fields, of which the kinds are known.
@@ -138,7 +149,7 @@ impl Sealed {
         ensures { result ≡ self.now.message }
     {
         self.said.origin.layout.lawful();
-        let bytes = self.said.part(self.first);
+        let bytes = self.said.part(self.first as usize);
         FieldsView::over(kinds, &bytes[FrameVersion::V2.header_size()..])
     }
 
@@ -147,12 +158,12 @@ impl Sealed {
     pub fn bytes(&self) -> &[u8]
         ensures { IsSpelling self.now result.now }
     {
-        self.said.part(self.first)
+        self.said.part(self.first as usize)
     }
 }
 
 /// A frame that shares its memory with no other.
-fn alone(origin: Arc<Origin>, frames: Vec<u8>) -> Result<Sealed, NoMemory>
+pub(crate) fn alone(origin: Arc<Origin>, frames: Vec<u8>) -> Result<Sealed, NoMemory>
     requires { IsSealed (layout_in (arc_value origin)) frames.items }
     ensures { IfOk result (λ frame. frame
         ≡ frame_in (layout_in (arc_value origin)) (arc_value origin).state frames.items) }

@@ -66,7 +66,8 @@ impl Spoken {
             Spoken::Silence(origin) => Ok(Prepared::silent(name, Arc::try_clone(origin)?)),
             Spoken::Frames(said) => {
                 spelled_is_read(&said.origin.layout);
-                let first = name.to as usize * said.size;
+                said.origin.layout.lawful();
+                let first = (name.to as usize * said.size) as u32;
                 let frame = Sealed::new(Arc::try_clone(said)?, first);
                 Ok(Prepared::message(name, frame))
             }

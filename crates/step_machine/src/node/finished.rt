@@ -5,6 +5,7 @@ ghost use Rattle.step_machine.specs.Nodes.{IsEnd, IsHeld, algorithm_in, held_now
 
 use crate::node::Node;
 use crate::sealed::Sealed;
+use crate::stored_state::StoredState;
 use round_lang::{NoMemory, Vars};
 use std::sync::Arc;
 
@@ -57,5 +58,15 @@ impl<'a> Finished<'a> {
     {
         let node = self.node;
         Ok(Arc::new(node.alloc, node.next.copy(node.alloc)?)?)
+    }
+
+    /// The state after the round in few bytes, to be shared. Its kinds are shared with the program.
+    pub fn stored_state(&self) -> Result<Arc<StoredState>, NoMemory>
+        ensures { IfOk result (λ s. Some (arc_value s) ≡ self.now.node.now.next) }
+    {
+        let node = self.node;
+        let shape = node.machine.program().state_shape();
+        let stored = StoredState::new(node.alloc, shape, &node.next)?;
+        Ok(Arc::new(node.alloc, stored)?)
     }
 }
