@@ -21,8 +21,9 @@ use round_meaning::Setup;
 use slot_plans::Plan;
 use std::alloc::Global;
 use std::marker::Model;
+use step_book::Waiting;
 use step_journal::Journal;
-use step_machine::{Event, Name, Node, Sealed};
+use step_machine::{Event, Name, Node};
 use stored_events::StoredEvent;
 
 /// A run whose nodes stand where its journal says, and whose due rounds are closed.
@@ -305,13 +306,14 @@ fn receive<P: Plan>(journal: &mut Journal<P>, node: &mut Node, me: u32) -> Resul
 
 /// The node takes frames that were sent to it, in their order.
 #[inline(always)]
-fn take_all(node: &mut Node, frames: Vec<Sealed>)
+fn take_all(node: &mut Node, frames: Waiting)
     requires places { HasPlaces node.old.setup.nodes node.old.held }
     requires mail { All
         (IsMail (algorithm_in node.old) node.old.setup.nodes node.old.me) frames.items }
     ensures { HasTaken node.old node.new frames.items }
 {
-    for frame in frames {
+    let mut frames = frames.into_frames();
+    while let Some(frame) = frames.next() {
         let _taken = node.take(frame);
     }
 }

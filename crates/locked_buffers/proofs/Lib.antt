@@ -1,5 +1,6 @@
 pub mod Copies
 pub mod Received
+pub mod Noted
 pub mod Alike
 pub mod NetworkEvents
 pub mod Copied

@@ -16,7 +16,7 @@ use slot_plans::Plan;
 use std::sync::Arc;
 use step_book::{Book, Buffer, Mail, StoredEvent, StoredName};
 use step_journal::Journal;
-use step_machine::{Event, Name};
+use step_machine::{Event, Name, StoredState};
 
 /// The journal of a book and its buffers, where the book is of the run, the buffers are of it too
 /// and hold the frames that the book names, and the seats and the relay were told what it has
@@ -86,14 +86,14 @@ fn are_handed(mail: &Mail, handed: &[Vec<Name>]) -> bool
 }
 
 /// Whether the states have the same values.
-fn are_states(recorded: &[Arc<Vars>], states: &[Arc<Vars>]) -> bool
+fn are_states(recorded: &[Arc<StoredState>], states: &[Arc<Vars>]) -> bool
     ensures { IsTrue result ↔ (states_of states.now ≡ states_of recorded.now) }
 {
     if states.len() != recorded.len() {
         return false;
     }
     for (place, state) in states.iter().enumerate() {
-        if !state.same(&recorded[place]) {
+        if !recorded[place].same(state) {
             return false;
         }
     }

@@ -4,7 +4,8 @@ ghost use Rattle.step_book.specs.Buffers.{names_in};
 
 use round_lang::NoMemory;
 use std::alloc::Global;
-use step_machine::{Name, Sealed};
+use step_book::Waiting;
+use step_machine::Name;
 
 /// Makes room for one item more.
 pub(crate) fn room<T>(items: &mut Vec<T>) -> Result<(), NoMemory>
@@ -16,11 +17,11 @@ pub(crate) fn room<T>(items: &mut Vec<T>) -> Result<(), NoMemory>
 }
 
 /// The names of frames, to be kept.
-pub(crate) fn names_of(alloc: Global, frames: &[Sealed]) -> Result<Vec<Name>, NoMemory>
-    ensures { IfOk result (λ names. names.items ≡ names_in frames.now) }
+pub(crate) fn names_of(alloc: Global, frames: &Waiting) -> Result<Vec<Name>, NoMemory>
+    ensures { IfOk result (λ names. names.items ≡ names_in frames.now.items) }
 {
-    let mut names = Vec::with_capacity(alloc, frames.len())?;
-    for frame in frames {
+    let mut names = Vec::new(alloc);
+    while let Some(frame) = frames.at(names.len()) {
         names.push(frame.name())?;
     }
     Ok(names)

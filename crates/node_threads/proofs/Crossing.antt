@@ -33,6 +33,8 @@ use Rattle.step_machine.proofs.event.InFlight.TheSendSync as in_flight
 use Rattle.step_book.proofs.mail.Mail.TheSendSync as mail
 use Rattle.step_book.proofs.mark.Mark.TheSendSync as mark
 use Rattle.step_book.proofs.marks.Marks.TheSendSync as marks
+use Rattle.step_book.proofs.round_frames.RoundFrames.TheSendSync as round_frames
+use Rattle.step_book.proofs.waiting.Waiting.TheSendSync as waiting
 use Rattle.slot_plans.specs.declared.plan.Plan as plan
 use Rattle.std.specs.declared.cmp.PartialEq as eq
 use Rattle.step_book.specs.contracts.book.Book as book
@@ -89,10 +91,32 @@ pub checked_sync : IsSync checked.the_row
 checked_sync = search (program_send, program_sync, leaves, crosses, knot.crosses, sendable) depth 60 fits 20000
 
 pub buffer_send : IsSend buffer.the_row
-buffer_send = search (checked_send, checked_sync, setup.the_send, setup.the_sync, sealed.the_send, sealed.the_sync, crosses, sendable) depth 60 fits 20000
+buffer_send = search (
+  checked_send,
+  checked_sync,
+  setup.the_send,
+  setup.the_sync,
+  round_frames.the_send,
+  round_frames.the_sync,
+  waiting.the_send,
+  waiting.the_sync,
+  crosses,
+  sendable,
+) depth 60 fits 20000
 
 pub buffer_sync : IsSync buffer.the_row
-buffer_sync = search (checked_send, checked_sync, setup.the_send, setup.the_sync, sealed.the_send, sealed.the_sync, crosses, sendable) depth 60 fits 20000
+buffer_sync = search (
+  checked_send,
+  checked_sync,
+  setup.the_send,
+  setup.the_sync,
+  round_frames.the_send,
+  round_frames.the_sync,
+  waiting.the_send,
+  waiting.the_sync,
+  crosses,
+  sendable,
+) depth 60 fits 20000
 
 pub node_send : IsSend node.the_row
 node_send = search (

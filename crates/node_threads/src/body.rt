@@ -14,8 +14,8 @@ use crate::stops::is_stop;
 use locked_buffers::{Gate, Mail, Point, PostFault, Seat};
 use round_lang::NoMemory;
 use slot_plans::Plan;
-use step_book::{CloseFault, SendFault};
-use step_machine::{Name, Node, Sealed};
+use step_book::{CloseFault, SendFault, Waiting};
+use step_machine::{Name, Node};
 
 /// Why a thread can't go on: out of memory, or a call was refused for another cause.
 #[derive(Clone, Copy, PartialEq, Eq, Debug)]
@@ -98,13 +98,14 @@ fn receive_step<P: Plan, M: Mail<P>>(mail: &M, seat: &mut Seat, node: &mut Node)
 }
 
 /// The node takes frames that were sent to it, in their order.
-fn take_all(node: &mut Node, frames: Vec<Sealed>)
+fn take_all(node: &mut Node, frames: Waiting)
     requires places { HasPlaces node.old.setup.nodes node.old.held }
     requires mail { All
         (IsMail (algorithm_in node.old) node.old.setup.nodes node.old.me) frames.items }
     ensures { HasTaken node.old node.new frames.items }
 {
-    for frame in frames {
+    let mut frames = frames.into_frames();
+    while let Some(frame) = frames.next() {
         let _taken = node.take(frame);
     }
 }

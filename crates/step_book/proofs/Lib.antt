@@ -25,3 +25,4 @@ pub mod Agreed
 pub mod Later
 pub mod Taking
 pub mod Spelling
+pub mod Pieces

@@ -1,7 +1,7 @@
 -- What the reading calls of a record answer.
 use Rattle.std.proofs.Common.{◌≡◌, ℕ, ◌+◌, ◌-◌, ◌*◌, ◌<◌, ◌≤◌, List, [], ◌∷◌, ◌++◌, length, get_or}
 use Rattle.std.proofs.Common.{sym, subst, refl, ap, ◌∙◌, arith, Bool}
-use Rattle.std.proofs.lemmas.List.{get_or-map, length-map, length-reverse, get_or_default}
+use Rattle.std.proofs.lemmas.List.{get_or-map, length-map, get_or_default}
 use Rattle.std.specs.List.{count_by}
 use Rattle.std.specs.Prelude.{Vec}
 use Rattle.std.specs.Arc.{arc_value}
@@ -24,7 +24,6 @@ use Rattle.step_book.specs.Log.{rows_of, handed_in, waits_in}
 use Rattle.step_book.specs.Mailing.{Mailed}
 use Rattle.stored_events.specs.Stored.{IsFewName}
 use Rattle.step_book.proofs.Buffers.{buffer_counts}
-use Rattle.step_book.proofs.Places.{steps_le}
 use Rattle.step_book.proofs.Tables.{has_place}
 
 -- what holds of the fields holds of the view
@@ -46,7 +45,7 @@ named start v n a = subst (λ (z : ℕ). IsNameOf z v.setup.rounds n) (sym (node
 
 module _ {start : ℕ → ℕ} {nodes : ℕ} {v : Log} {counts : List ℕ} {tables : List (List Mark)} {waiting : List (List Name)} {handed : List (List (List Name))} {answers : List Bool} {messages : List Name} (h : IsBookOf start nodes v counts tables waiting handed answers messages) where
   -- the numbers of a node and of a name of the run are few
-  pub few_node : (k : ℕ) → k < v.setup.nodes → k < 256
+  pub few_node : (k : ℕ) → k < v.setup.nodes → k < 16
   few_node k l = let few = h.lawful.sized.few_nodes in omega (arith, l)
 
   pub few_name : (n : Name) → IsName v.setup n → IsFewName n
@@ -150,12 +149,6 @@ rounds_view {P} e = ap (λ (z : Recorded P). z.log.setup.rounds) e
 
 pub nodes_view : {P : Type 0} {s v : Recorded P} → s ≡ v → s.log.setup.nodes ≡ v.log.setup.nodes
 nodes_view {P} e = ap (λ (z : Recorded P). z.log.setup.nodes) e
-
--- a node has taken no more steps than there are events
-pub few_steps : {P : Type 0} {s v : Recorded P} (k : ℕ) → s ≡ v → count_of v.log k ≤ length s.log.trace
-few_steps {P} {s} {v} k is =
-    let same = ap (λ (z : Recorded P). length z.log.trace) is in
-    omega (arith, steps_le k (history v.log), length-reverse v.log.trace)
 
 -- the events of a view, with one more
 pub trace_view : {P : Type 0} {s v : Recorded P} (e : Event) (trace : List Event) → s ≡ v → trace ≡ s.log.trace ++ e ∷ [] → trace ≡ v.log.trace ++ e ∷ []

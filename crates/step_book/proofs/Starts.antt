@@ -8,10 +8,15 @@ use Rattle.std.proofs.lemmas.List.{map-append, length-replicate, get_or-replicat
 use Rattle.std.proofs.lemmas.List.FromFn.{map-range_with_len_more}
 use Rattle.round_lang.specs.declared.value.Value.{Value}
 use Rattle.round_lang.specs.Syntax.{ProgramTree}
+use Rattle.round_lang.specs.Words.{kind_of}
+use Rattle.round_check.specs.Shapes.{state_kinds}
 use Rattle.round_meaning.specs.declared.setup.Setup.{Setup}
+use Rattle.round_meaning.specs.Rounds.{algorithm, algorithm_of}
 use Rattle.round_meaning.specs.Setups.{IsLawful}
+use Rattle.round_meaning.specs.Typed.{StartsAreStates}
 use Rattle.slot_plans.specs.Plan.{PlanLaws}
 use Rattle.step_machine.specs.declared.event.Name.{Name}
+use Rattle.step_machine.proofs.Typing.{state_of_program}
 use Rattle.step_book.specs.declared.mark.Mark.{Mark}
 use Rattle.step_book.specs.World.{World, IsPlan}
 use Rattle.step_book.specs.History.{buffer_of, handed_of, answers_of}
@@ -28,6 +33,11 @@ pub rows_push : {A B : Type 0} (xs ys : List (Vec (Arc (List Value) A) B)) (y : 
 rows_push {A} {B} xs ys y f n e s h =
     ap rows_of e ∙ map-append (λ (z : Vec (Arc (List Value) A) B). states_of z.items) xs (y ∷ [])
     ∙ ap (λ (x : Row). rows_of xs ++ x ∷ []) s ∙ ap (λ (x : List Row). x ++ f n ∷ []) h ∙ sym (map-range_with_len_more f 0 n n (omega arith))
+
+-- the kinds of an initial state are the program's
+pub first_kinds : (p : ProgramTree) (s : Setup) (i : ℕ) → StartsAreStates p → map kind_of ((algorithm_of p s).init i) ≡ state_kinds p
+unfolding algorithm
+first_kinds p s i starts = state_of_program p _ (starts s.nodes s.faults _ i)
 
 -- a plan that keeps the laws is a plan of the run
 pub plan_is : (start receives : ℕ → ℕ) (nodes : ℕ) (v : Log) → PlanLaws nodes receives start → nodes ≡ v.setup.nodes → IsPlan (world_of start v)

@@ -21,3 +21,4 @@ pub mod Buffers
 pub mod Places
 pub mod Agreed
 pub mod Taking
+pub mod Pieces

@@ -11,10 +11,10 @@ mark_by (suc (suc zero)) = Flying
 mark_by (suc (suc (suc zero))) = Lost
 mark_by (suc (suc (suc (suc count)))) = Released count
 
--- the mark has a code of 64 bits
+-- the mark has a code of 32 bits
 abbrev pub IsShort : Mark → Type 0
 IsShort Unsent = Unit {0}
 IsShort Silent = Unit {0}
 IsShort Flying = Unit {0}
-IsShort (Released count) = 4 + count < 2 ^ 64
+IsShort (Released count) = 4 + count < 2 ^ 32
 IsShort Lost = Unit {0}

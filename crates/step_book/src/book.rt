@@ -24,7 +24,7 @@ ghost use Rattle.step_book.specs.Work.{AreCarried, any_within, heard_from, is_wi
 
 use crate::fault::{CloseFault, IdleFault, ReceiveFault, SendFault};
 use crate::mail::Mail;
-use crate::mark::Mark;
+use crate::mark::{Mark, released};
 use crate::marks::Marks;
 use crate::notes::{note_answer, note_close, note_receive, note_release, note_send, note_step};
 use crate::opening::{first_rows, no_mail, no_steps};
@@ -36,7 +36,7 @@ use slot_plans::Plan;
 use std::alloc::Global;
 use std::marker::Model;
 use std::sync::Arc;
-use step_machine::{Event, Finished, InFlight, MAX_COPY, Name, Prepared, Sealed};
+use step_machine::{Event, Finished, InFlight, MAX_COPY, Name, Prepared, Sealed, StoredState};
 use stored_events::{StoredEvent, StoredName};
 
 /// The record of a run: its events, the steps of each node, the states of its closed rounds, what
@@ -49,7 +49,7 @@ pub struct Book<P: Plan> {
     plan: P,
     trace: Vec<StoredEvent>,
     steps: Vec<u64>,
-    states: Vec<Vec<Arc<Vars>>>,
+    states: Vec<Vec<Arc<StoredState>>>,
     marks: Marks,
     mails: Vec<Mail>,
     answers: Vec<bool>,
@@ -186,7 +186,7 @@ impl<P: Plan> Book<P> {
     }
 
     /// A node's states after 0, 1, .. closed rounds.
-    pub fn states(&self, node: u32) -> &[Arc<Vars>]
+    pub fn states(&self, node: u32) -> &[Arc<StoredState>]
         requires { node < self.now.log.setup.nodes }
         ensures { states_of result.now ≡ row self.now.log.rows node }
     {
@@ -501,7 +501,8 @@ impl<P: Plan> Book<P> {
         Ok(())
     }
 
-    /// A release by the network: true where a copy went from flight to those that wait.
+    /// A release by the network: true where a copy went from flight to those that wait. A receiver
+    /// that has taken 4,294,967,292 steps or more counts as out of memory.
     #[inline(always)]
     pub fn release(&mut self, name: Name) -> Result<bool, NoMemory>
         requires { IsName self.old.log.setup name }
@@ -525,13 +526,14 @@ impl<P: Plan> Book<P> {
         let place = self.place(name);
         let count = self.count_of(name.to);
         if self.is_flying(name) {
+            let mark = released(count)?;
             note_release(
                 &mut self.trace,
                 &mut self.answers,
                 &mut self.mails[name.to as usize],
                 name,
             )?;
-            self.marks.put(name.copy, place, Mark::Released(count));
+            self.marks.put(name.copy, place, mark);
             return Ok(true);
         }
         note_answer(

@@ -6,16 +6,14 @@ ghost use Rattle.step_book.specs.Buffers.{AreHonest, IsSameRun, flying_at, run_o
 ghost use Rattle.step_book.specs.Tables.{HasPlace, Puts, SameTables};
 
 use crate::round_frames::RoundFrames;
+use crate::waiting::Waiting;
 use round_check::Checked;
 use round_lang::NoMemory;
-use round_meaning::{MAX_NODES, Setup};
+use round_meaning::Setup;
 use std::alloc::Global;
 use std::marker::Model;
 use std::mem;
-use step_machine::Sealed;
-
-/// For how many frames there is room at first: a run has no more nodes.
-const FIRST_ROOM: usize = MAX_NODES as usize;
+use step_machine::{Sealed, SealedView};
 
 /// The frames in flight to a node of a run, by their places in a table for each round, the first of
 /// no round, and those that were released to the node and not yet taken. Each says what the state
@@ -26,11 +24,10 @@ pub struct Buffer {
     program: Checked,
     setup: Setup,
     flying: Vec<RoundFrames>,
-    waiting: Vec<Sealed>,
+    waiting: Waiting,
 }
 
 impl Model for Buffer {
-    ghost use Rattle.std.specs.Prelude.{◌-◌, vec_capacity, vec_len};
     ghost use Rattle.round_lang.specs.contracts.formula.Formula as formula;
     ghost use Rattle.round_meaning.specs.Rounds.{algorithm_of};
     ghost use Rattle.std.specs.Coded.{codes};
@@ -46,7 +43,7 @@ impl Model for Buffer {
       setup = s.setup;
       flying = s.flying.items;
       waiting = s.waiting.items;
-      spare = vec_capacity s.waiting - vec_len s.waiting;
+      spare = s.waiting.spare;
     } };
 
     ghost invariant = { λ s. AreHonest (algorithm_of s.program s.setup) s.flying.items
@@ -66,7 +63,7 @@ impl Buffer {
             program: program.copy()?,
             setup: setup.copy()?,
             flying: Vec::new(alloc),
-            waiting: Vec::new(alloc),
+            waiting: Waiting::new(alloc),
         })
     }
 
@@ -92,16 +89,15 @@ impl Buffer {
     }
 
     /// The frames that were released and not yet taken, in the order of their releases.
-    pub fn waiting(&self) -> &[Sealed]
-        ensures { result.now ≡ self.now.waiting }
+    pub fn waiting(&self) -> &Waiting
+        ensures { result.now.items ≡ self.now.waiting }
     {
         &self.waiting
     }
 
     /// The frame in flight at a place of a round's table.
-    pub fn flying(&self, round: u32, place: usize) -> Option<&Sealed>
-        ensures { MatchOption result (flying_at self.now round place ≡ None)
-            (λ frame. flying_at self.now round place ≡ Some frame.now) }
+    pub fn flying(&self, round: u32, place: usize) -> Option<SealedView<'_>>
+        ensures { result ≡ flying_at self.now round place }
     {
         match self.flying.get(round as usize) {
             Some(table) => table.at(place),
@@ -130,13 +126,7 @@ impl Buffer {
         ensures waiting { self.new.waiting ≡ self.old.waiting }
         ensures run { IsSameRun self.old self.new }
     {
-        let wanted = if self.waiting.is_empty() {
-            FIRST_ROOM
-        } else {
-            1
-        };
-        self.waiting.reserve(wanted)?;
-        Ok(())
+        self.waiting.reserve()
     }
 
     /// A frame more in flight.
@@ -163,7 +153,7 @@ impl Buffer {
     {
         let alloc = self.alloc;
         if let Some(frame) = self.flying[round as usize].take(alloc, place) {
-            self.waiting.push_reserved(frame);
+            self.waiting.push(frame);
         }
     }
 
@@ -180,14 +170,14 @@ impl Buffer {
 
     /// Takes the frames that wait.
     #[inline(always)]
-    pub fn take(&mut self) -> Vec<Sealed>
+    pub fn take(&mut self) -> Waiting
         ensures taken { result.items ≡ self.old.waiting }
         ensures waiting { self.new.waiting ≡ [] }
         ensures flying { self.new.flying ≡ self.old.flying }
         ensures run { IsSameRun self.old self.new }
     {
         let alloc = self.alloc;
-        mem::replace(&mut self.waiting, Vec::new(alloc))
+        mem::replace(&mut self.waiting, Waiting::new(alloc))
     }
 }
 

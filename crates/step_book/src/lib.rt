@@ -5,6 +5,7 @@
 mod book;
 mod buffer;
 mod fault;
+mod frames;
 mod mail;
 mod mark;
 mod marks;
@@ -12,11 +13,14 @@ mod notes;
 mod opening;
 mod round_frames;
 mod tags;
+mod waiting;
 
 pub use book::Book;
 pub use buffer::Buffer;
 pub use fault::{CloseFault, IdleFault, ReceiveFault, Refused, SendFault};
+pub use frames::Frames;
 pub use mail::Mail;
 pub use mark::Mark;
 pub use stored_events::{StoredEvent, StoredName, add_names, events_of};
 pub use tags::earliest;
+pub use waiting::Waiting;

@@ -1,7 +1,9 @@
 //! What is recorded of messages.
-ghost use Rattle.std.specs.Prelude.{◌≡◌};
+ghost use Rattle.std.specs.Prelude.{◌≡◌, IfOk, OnErr};
+ghost use Rattle.step_book.specs.declared.mark.Mark.TheVariants.{Released};
 ghost use Rattle.step_book.specs.Stored.{IsShort, mark_by};
 
+use round_lang::NoMemory;
 use std::marker::Model;
 
 /// What became of a copy of a message: it wasn't made, since its slot or its copying hasn't come;
@@ -17,12 +19,12 @@ pub enum Mark {
 }
 
 /// The code of a release before the receiver's first step.
-const FIRST_RELEASED: u64 = 4;
+const FIRST_RELEASED: u32 = 4;
 
-/// A mark in 8 bytes.
+/// A mark in 4 bytes.
 #[derive(Drop)]
 pub(crate) struct StoredMark {
-    code: u64,
+    code: u32,
 }
 
 impl Model for StoredMark {
@@ -35,7 +37,7 @@ impl Model for StoredMark {
 }
 
 impl StoredMark {
-    /// A mark whose count of steps is no larger than any that there is memory for.
+    /// A mark whose count of steps, if it has one, isn't too large.
     pub(crate) fn new(mark: Mark) -> StoredMark
         requires { IsShort mark }
         ensures { result ≡ mark }
@@ -45,7 +47,7 @@ impl StoredMark {
             Mark::Silent => 1,
             Mark::Flying => 2,
             Mark::Lost => 3,
-            Mark::Released(count) => FIRST_RELEASED + count,
+            Mark::Released(count) => FIRST_RELEASED + count as u32,
         };
         StoredMark { code }
     }
@@ -58,8 +60,21 @@ impl StoredMark {
     }
 }
 
+/// The mark of a release before the receiver's next step, unless its count of steps is too large.
+#[inline(always)]
+pub(crate) fn released(count: u64) -> Result<Mark, NoMemory>
+    ensures value { IfOk result (λ mark. mark ≡ Released count) }
+    ensures short { IfOk result IsShort }
+    ensures large { OnErr result (¬ IsShort (Released count)) }
+{
+    if count > u64::from(u32::MAX - FIRST_RELEASED) {
+        return Err(NoMemory);
+    }
+    Ok(Mark::Released(count))
+}
+
 /// The mark of a code.
-fn mark_by(code: u64) -> Mark
+fn mark_by(code: u32) -> Mark
     ensures { result ≡ mark_by code }
 {
     match code {
@@ -67,6 +82,6 @@ fn mark_by(code: u64) -> Mark
         1 => Mark::Silent,
         2 => Mark::Flying,
         3 => Mark::Lost,
-        _ => Mark::Released(code - FIRST_RELEASED),
+        _ => Mark::Released(u64::from(code - FIRST_RELEASED)),
     }
 }

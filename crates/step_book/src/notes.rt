@@ -1,6 +1,6 @@
 //! What an event adds to a record, field by field. All growth goes before any change, so an error
 //! leaves each field as it was.
-ghost use Rattle.std.specs.Prelude.{◌≡◌, ◌+◌, ◌^◌, ◌<◌, ◌≤◌, [], ◌∷◌, ◌++◌, OnOk, OnErr};
+ghost use Rattle.std.specs.Prelude.{◌≡◌, ◌+◌, ◌<◌, ◌≤◌, [], ◌∷◌, ◌++◌, OnOk, OnErr};
 ghost use Rattle.std.specs.Prelude.{slice_index, slice_set, true, vec_len};
 ghost use Rattle.step_book.specs.declared.mark.Mark.TheVariants.{Unsent};
 ghost use Rattle.step_book.specs.History.{arrival};
@@ -12,9 +12,9 @@ ghost use Rattle.stored_events.specs.Stored.{IsFew, IsFewName};
 use crate::mail::Mail;
 use crate::mark::Mark;
 use crate::marks::Marks;
-use round_lang::{NoMemory, Vars};
+use round_lang::NoMemory;
 use std::sync::Arc;
-use step_machine::{Event, Finished, Name};
+use step_machine::{Event, Finished, Name, StoredState};
 use stored_events::{StoredEvent, StoredName};
 
 /// A step of a node.
@@ -24,7 +24,7 @@ pub(crate) fn note_step(
     steps: &mut Vec<u64>,
     node: u32,
 ) -> Result<(), NoMemory>
-    requires few { node < 256 }
+    requires few { node < 16 }
     requires node_in { node < vec_len steps.old }
     requires counted { slice_index steps.old.items node ≤ vec_len trace.old }
     ensures trace { OnOk result (trace.new.items ≡ trace.old.items ++ Event.Step node ∷ []) }
@@ -83,7 +83,7 @@ pub(crate) fn note_receive(
     mail: &mut Mail,
     node: u32,
 ) -> Result<(), NoMemory>
-    requires few { node < 256 }
+    requires few { node < 16 }
     requires node_in { node < vec_len steps.old }
     requires counted { slice_index steps.old.items node ≤ vec_len trace.old }
     ensures trace { OnOk result (trace.new.items ≡ trace.old.items ++ Event.Step node ∷ []) }
@@ -102,9 +102,6 @@ pub(crate) fn note_receive(
     Ok(())
 }
 
-/// For how many events a release makes room, so that counts of steps stay small enough for marks.
-const MARGIN: usize = 5;
-
 /// A release of a message to those that wait.
 #[inline(always)]
 pub(crate) fn note_release(
@@ -114,7 +111,6 @@ pub(crate) fn note_release(
     name: Name,
 ) -> Result<(), NoMemory>
     requires { IsFewName name }
-    ensures small { OnOk result (vec_len trace.old + 4 < 2 ^ 64) }
     ensures trace { OnOk result (trace.new.items ≡ trace.old.items ++ Event.Release name ∷ []) }
     ensures answers { OnOk result (answers.new.items ≡ answers.old.items ++ true ∷ []) }
     ensures handed { OnOk result (mail.new.handed ≡ mail.old.handed) }
@@ -123,7 +119,7 @@ pub(crate) fn note_release(
     ensures answers_kept { OnErr result (answers.new.items ≡ answers.old.items) }
     ensures mail_kept { OnErr result (mail.new ≡ mail.old) }
 {
-    trace.reserve(MARGIN)?;
+    trace.reserve(1)?;
     answers.reserve(1)?;
     mail.push(name)?;
     answers.push_reserved(true);
@@ -153,7 +149,7 @@ pub(crate) fn note_answer(
 
 /// The state that a node ended its round with goes to its row.
 pub(crate) fn note_close(
-    states: &mut Vec<Arc<Vars>>,
+    states: &mut Vec<Arc<StoredState>>,
     finished: &Finished<'_>,
 ) -> Result<(), NoMemory>
     ensures ok { OnOk result (states_of states.new.items
@@ -161,7 +157,7 @@ pub(crate) fn note_close(
     ensures err { OnErr result (states.new.items ≡ states.old.items) }
 {
     states.reserve(1)?;
-    let state = finished.new_state()?;
+    let state = finished.stored_state()?;
     states.push_reserved(state);
     Ok(())
 }

@@ -5,24 +5,27 @@ ghost use Rattle.step_book.specs.Mailing.{mailed};
 
 use crate::mail::Mail;
 use round_check::Checked;
-use round_lang::{NoMemory, Vars};
-use round_meaning::{Setup, initial_of};
+use round_lang::NoMemory;
+use round_meaning::{Setup, initial_of, types_are_kept};
 use std::alloc::Global;
 use std::sync::Arc;
+use step_machine::StoredState;
 
-/// A row with its initial state for each node.
+/// A row with its initial state for each node. The states share the kinds of the program's.
 pub(crate) fn first_rows(
     alloc: Global,
     program: &Checked,
     setup: &Setup,
-) -> Result<Vec<Vec<Arc<Vars>>>, NoMemory>
+) -> Result<Vec<Vec<Arc<StoredState>>>, NoMemory>
     ensures { IfOk result (λ rows. rows_of rows.items ≡ (opened program.now setup.now).rows) }
 {
+    types_are_kept(program);
     let mut rows = Vec::new(alloc);
     for node in 0..setup.nodes {
         let state = initial_of(alloc, program, setup, node)?;
+        let stored = StoredState::new(alloc, program.state_shape(), &state)?;
         let mut row = Vec::new(alloc);
-        row.push(Arc::new(alloc, state)?)?;
+        row.push(Arc::new(alloc, stored)?)?;
         rows.push(row)?;
     }
     Ok(rows)

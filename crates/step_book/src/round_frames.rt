@@ -6,13 +6,13 @@ ghost use Rattle.step_book.specs.Tables.{PutsAt, SameTable};
 use round_lang::NoMemory;
 use std::alloc::Global;
 use std::marker::Model;
-use step_machine::Sealed;
+use step_machine::{FramePlace, Sealed, SealedView};
 
 /// The frames of one round in flight to a node, by their places in a table that grows with the
 /// copies. Its memory is given back with its last frame.
 #[derive(Drop)]
 pub(crate) struct RoundFrames {
-    frames: Vec<Option<Sealed>>,
+    frames: Vec<FramePlace>,
     // A hint: before memory is given back, the places themselves are looked at.
     count: u32,
 }
@@ -38,12 +38,11 @@ impl RoundFrames {
     }
 
     /// The frame at a place.
-    pub(crate) fn at(&self, place: usize) -> Option<&Sealed>
-        ensures { MatchOption result (slice_index_or self.now place None ≡ None)
-            (λ frame. slice_index_or self.now place None ≡ Some frame.now) }
+    pub(crate) fn at(&self, place: usize) -> Option<SealedView<'_>>
+        ensures { result ≡ slice_index_or self.now place None }
     {
         match self.frames.get(place) {
-            Some(frame) => frame.as_ref(),
+            Some(kept) => kept.frame(),
             None => None,
         }
     }
@@ -66,7 +65,7 @@ impl RoundFrames {
         requires { place < length self.old }
         ensures { PutsAt None self.old self.new place (Some frame) }
     {
-        self.frames[place] = Some(frame);
+        self.frames[place] = FramePlace::of(frame);
         self.count = self.count.saturating_add(1);
     }
 
@@ -88,19 +87,19 @@ impl RoundFrames {
 
 /// Makes a table longer than a place.
 #[inline(always)]
-fn grow(frames: &mut Vec<Option<Sealed>>, place: usize) -> Result<(), NoMemory>
+fn grow(frames: &mut Vec<FramePlace>, place: usize) -> Result<(), NoMemory>
     ensures long { OnOk result (place < vec_len frames.new) }
     ensures same { SameTable None frames.old.items frames.new.items }
 {
     while frames.len() <= place {
-        frames.push(None)?;
+        frames.push(FramePlace::free())?;
     }
     Ok(())
 }
 
 /// Whether no place has a frame.
-fn are_none(frames: &[Option<Sealed>]) -> bool
+fn are_none(frames: &[FramePlace]) -> bool
     ensures { IsTrue result ↔ All (λ frame. frame ≡ None) frames.now }
 {
-    frames.iter().all(|frame| frame.is_none())
+    frames.iter().all(|kept| kept.is_free())
 }

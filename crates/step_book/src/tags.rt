@@ -4,8 +4,7 @@ ghost use Rattle.step_book.specs.Work.{is_within, tag_of};
 ghost use Rattle.step_book.specs.World.{earliest};
 
 use crate::mark::Mark;
-use round_lang::Vars;
-use step_machine::{Name, ROUNDS_HELD, Sealed};
+use step_machine::{Name, ROUNDS_HELD, Sealed, StoredState};
 
 /// The first of the rounds in which a message of this round is kept.
 pub fn earliest(round: u32) -> u32
@@ -25,7 +24,7 @@ pub(crate) fn is_within(mark: Mark, first: u64, end: u64) -> bool
 }
 
 /// Whether there is a frame, and it's a copy of this message with this state of its sender.
-pub(crate) fn is_tagged(frame: &Option<Sealed>, name: Name, state: &Vars) -> bool
+pub(crate) fn is_tagged(frame: &Option<Sealed>, name: Name, state: &StoredState) -> bool
     ensures { IsTrue result
         ↔ (option_map tag_of frame.now ≡ Some (record { name = name; state = state.now })) }
 {

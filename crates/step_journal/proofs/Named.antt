@@ -1,10 +1,11 @@
 -- A book and its buffers fit where each part of them does.
 use Rattle.std.proofs.Common.{◌≡◌, ◌≢◌, ℕ, ◌+◌, ◌-◌, ◌<◌, ◌≤◌, All, List, [], length, get_or, Option}
 use Rattle.std.proofs.Common.{Some, None, ap, sym, subst, ◌∙◌, refl, arith, ◌⊎◌, inl, inr}
-use Rattle.std.specs.Prelude.{IfSome, IsSomeAnd}
+use Rattle.std.specs.Prelude.{Bool, true, false, IfSome, IsSomeAnd, IsTrue, is_some, not, option_map, slice_get}
 use Rattle.std.proofs.lemmas.Bool.{cases_eq, cases_lt}
 use Rattle.std.proofs.lemmas.List.{ext_get_or, get_or_default, get_or-map, get_or_past, length-map}
 use Rattle.std.proofs.lemmas.List.Elements.{All-from_get_or, All-same}
+use Rattle.std.proofs.lemmas.Option.{get_or_from_slice_get, slice_get_past, slice_get_within}
 use Rattle.round_lang.specs.Syntax.{ProgramTree}
 use Rattle.round_meaning.specs.Rounds.{Algorithm, algorithm_of}
 use Rattle.round_meaning.specs.declared.setup.Setup.{Setup}
@@ -18,6 +19,7 @@ use Rattle.step_book.specs.Names.{IsName}
 use Rattle.step_book.specs.Buffers.{AreHonest, IsGenuine, BufferView, flying_at, names_in, run_of}
 use Rattle.step_journal.specs.Fits.{Fits, Flies, IsOfRun, no_buffer, place_among, buffer_at}
 use Rattle.step_journal.specs.Fitting.{AreNamed, FitsNode, FliesAs, HoldsAt, IsRecorded, named}
+use Rattle.step_book.proofs.Pieces.{past_all}
 use Rattle.step_journal.proofs.BufferViews.{buffer_read}
 
 recorded : (a : Algorithm) (rows : List Row) (f : Frame) → IsGenuine a rows f → IsRecorded rows f
@@ -221,3 +223,51 @@ named_at rows fs ns n f c l m ef h = (
 
 pub named_sized : (rows : List Row) (fs : List Frame) (ns : List Name) → AreNamed rows fs ns → length fs ≡ length ns
 named_sized rows fs ns h = sym (length-map fs (λ (z : Frame). z.name)) ∙ ap length h.names
+
+-- the first frames are there, and have the first names
+pub record AreNamedTo (rows : List Row) (fs : List Frame) (ns : List Name) (n : ℕ) : Type 0 where
+  pub there : n ≤ length fs
+  pub named : NamedTo rows fs ns n
+
+pub named_none : (rows : List Row) (fs : List Frame) (ns : List Name) → AreNamedTo rows fs ns 0
+named_none rows fs ns = record { there = omega arith; named = λ k d e l. absurd (omega (arith, l)) }
+
+pub named_next : (rows : List Row) (fs : List Frame) (ns : List Name) (n : ℕ) (f : Frame) (c : Name) → slice_get fs n ≡ Some f → n < length ns
+    → (f.name ≡ get_or ns n c) × IsRecorded rows f → AreNamedTo rows fs ns n → AreNamedTo rows fs ns (n + 1)
+named_next rows fs ns n f c is within here h =
+    let there = slice_get_within fs n f is in record {
+      there = omega (arith, there);
+      named = named_more rows fs ns n f c there within (sym (get_or_from_slice_get fs n f f is)) here h.named;
+    }
+
+pub named_done : (rows : List Row) (fs : List Frame) (ns : List Name) (n : ℕ) → length ns ≤ n → slice_get fs (length ns) ≡ None → AreNamedTo rows fs ns n → AreNamed rows fs ns
+named_done rows fs ns n all gone h =
+    let past = past_all fs (length ns) gone in
+    let there = h.there in
+    named_all rows fs ns n (omega arith) (omega arith) h.named
+
+-- where frames have all names, there is one for each name, and none behind them
+pub named_there : (rows : List Row) (fs : List Frame) (ns : List Name) (n : ℕ) → n < length ns → slice_get fs n ≡ None → AreNamed rows fs ns → ⊥
+named_there rows fs ns n within gone h =
+    let past = past_all fs n gone in
+    let sized = named_sized rows fs ns h in
+    absurd (omega arith)
+
+pub named_past : (rows : List Row) (fs : List Frame) (ns : List Name) → AreNamed rows fs ns → slice_get fs (length ns) ≡ None
+named_past rows fs ns h = let sized = named_sized rows fs ns h in slice_get_past fs (length ns) (omega arith)
+
+pub named_one : (rows : List Row) (fs : List Frame) (ns : List Name) (n : ℕ) (f : Frame) (c : Name) → slice_get fs n ≡ Some f → n < length ns → AreNamed rows fs ns
+    → (f.name ≡ get_or ns n c) × IsRecorded rows f
+named_one rows fs ns n f c is within h =
+    named_at rows fs ns n f c (slice_get_within fs n f is) within (sym (get_or_from_slice_get fs n f f is)) h
+
+-- whether none is lent, as a test answers it
+pub none_lent : {R X : Type 0} (now : R → X) (r : Option R) (b : Bool) → is_some r ≡ not b → IsTrue b → option_map now r ≡ None
+none_lent now None b e t = refl
+none_lent now (Some x) true e t = absurd (cc)
+none_lent now (Some x) false e t = absurd (cc)
+
+pub lent_none : {R X : Type 0} (now : R → X) (r : Option R) (b : Bool) → is_some r ≡ not b → option_map now r ≡ None → IsTrue b
+lent_none now None true e t = refl
+lent_none now None false e t = absurd (cc)
+lent_none now (Some x) b e t = absurd (cc)

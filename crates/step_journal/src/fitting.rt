@@ -7,8 +7,8 @@ ghost use Rattle.step_journal.specs.Fits.{Fits, place_among};
 ghost use Rattle.step_journal.specs.Fitting.{AreNamed, FitsNode, FliesAs, HoldsAt, IsRecorded};
 
 use slot_plans::Plan;
-use step_book::{Book, Buffer, StoredName};
-use step_machine::{MAX_COPY, Name, Sealed};
+use step_book::{Book, Buffer, StoredName, Waiting};
+use step_machine::{MAX_COPY, Name, SealedView};
 
 /// Whether the buffers hold the frames that the book names.
 pub(crate) fn fits<P: Plan>(book: &Book<P>, buffers: &[Buffer]) -> bool
@@ -40,29 +40,29 @@ fn fits_node<P: Plan>(book: &Book<P>, node: u32, buffer: &Buffer) -> bool
 }
 
 /// Whether frames have these names, in this order, and the recorded states.
-pub fn are_named<P: Plan>(book: &Book<P>, frames: &[Sealed], names: &[StoredName]) -> bool
-    ensures { IsTrue result ↔ AreNamed book.now.log.rows frames.now names.now }
+pub fn are_named<P: Plan>(book: &Book<P>, frames: &Waiting, names: &[StoredName]) -> bool
+    ensures { IsTrue result ↔ AreNamed book.now.log.rows frames.now.items names.now }
 {
-    if frames.len() != names.len() {
-        return false;
-    }
-    for (place, frame) in frames.iter().enumerate() {
-        if !is_named(book, frame, names[place].name()) {
+    for (place, name) in names.iter().enumerate() {
+        let Some(frame) = frames.at(place) else {
+            return false;
+        };
+        if !is_named(book, &frame.seen(), name.name()) {
             return false;
         }
     }
-    true
+    frames.at(names.len()).is_none()
 }
 
 /// Whether a frame has this name, and its sender's recorded state.
-fn is_named<P: Plan>(book: &Book<P>, frame: &Sealed, name: Name) -> bool
+fn is_named<P: Plan>(book: &Book<P>, frame: &SealedView<'_>, name: Name) -> bool
     ensures { IsTrue result ↔ ((frame.now.name ≡ name) × IsRecorded book.now.log.rows frame.now) }
 {
     frame.name() == name && is_recorded(book, frame)
 }
 
 /// Whether a frame names the state that is recorded of its sender.
-fn is_recorded<P: Plan>(book: &Book<P>, frame: &Sealed) -> bool
+fn is_recorded<P: Plan>(book: &Book<P>, frame: &SealedView<'_>) -> bool
     ensures { IsTrue result ↔ IsRecorded book.now.log.rows frame.now }
 {
     book.agrees();
@@ -131,7 +131,7 @@ pub fn holds<P: Plan>(book: &Book<P>, buffer: &Buffer, name: Name) -> bool
         (flying_at buffer.now name.round (place_among book.now.log.setup.nodes name)) }
 {
     match buffer.flying(name.round, place(book, name)) {
-        Some(frame) => book.is_flying(name) && is_named(book, frame, name),
+        Some(frame) => book.is_flying(name) && is_named(book, &frame, name),
         None => !book.is_flying(name),
     }
 }

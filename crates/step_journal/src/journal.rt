@@ -24,13 +24,13 @@ use round_meaning::Setup;
 use slot_plans::Plan;
 use std::alloc::Global;
 use std::marker::Model;
-use step_book::{Book, Buffer, CloseFault, IdleFault, ReceiveFault, Refused};
-use step_machine::{Event, Finished, InFlight, Name, Prepared, Sealed};
+use step_book::{Book, Buffer, CloseFault, IdleFault, ReceiveFault, Refused, Waiting};
+use step_machine::{Event, Finished, InFlight, Name, Prepared, Sealed, SealedView};
 
 /// What a receive handed out, in the order of the releases.
 #[derive(Drop)]
 pub struct Took {
-    pub frames: Vec<Sealed>,
+    pub frames: Waiting,
 }
 
 /// A run in single steps: its record, and one buffer of frames for each node.
@@ -138,10 +138,11 @@ impl<P: Plan> Journal<P> {
     }
 
     /// The frames that wait for a node, in the order of their releases.
-    pub fn waiting(&self, node: u32) -> &[Sealed]
+    pub fn waiting(&self, node: u32) -> &Waiting
         requires { node < self.now.log.setup.nodes }
-        ensures names { names_in result.now ≡ waiting_in (P.start self.now.plan) self.now.log node }
-        ensures said { All (IsSaid (P.start self.now.plan) self.now.log) result.now }
+        ensures names { names_in result.now.items
+            ≡ waiting_in (P.start self.now.plan) self.now.log node }
+        ensures said { All (IsSaid (P.start self.now.plan) self.now.log) result.now.items }
     {
         self.book.agrees();
         let buffer = &self.buffers[node as usize];
@@ -149,12 +150,12 @@ impl<P: Plan> Journal<P> {
     }
 
     /// The frame in flight under a name.
-    pub fn in_flight(&self, name: Name) -> Option<&Sealed>
+    pub fn in_flight(&self, name: Name) -> Option<SealedView<'_>>
         requires { IsName self.now.log.setup name }
         ensures there { IsSome result ↔ IsFlying (P.start self.now.plan) self.now.log name }
-        ensures named { IfSome result (λ frame. frame.now.name ≡ name) }
+        ensures named { IfSome result (λ frame. frame.name ≡ name) }
         ensures said { IfSome result
-            (λ frame. IsSaid (P.start self.now.plan) self.now.log frame.now) }
+            (λ frame. IsSaid (P.start self.now.plan) self.now.log frame) }
     {
         self.book.agrees();
         let buffer = &self.buffers[name.to as usize];

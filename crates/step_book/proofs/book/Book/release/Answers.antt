@@ -9,7 +9,7 @@ use Rattle.step_book.specs.Log.{Log, IsFlying, SameMarksBut, SameWaitingBut, mar
 use Rattle.step_book.proofs.Events.{kept, moved, let_be, to_fields}
 use Rattle.step_book.proofs.Leaves.{released_mark, released_others, released_waiting}
 use Rattle.step_book.proofs.Leaves.{released_waiting_others}
-use Rattle.step_book.proofs.Reading.{few_name, few_steps, of_view, trace_view, log_view}
+use Rattle.step_book.proofs.Reading.{few_name, of_view, trace_view, log_view}
 use Rattle.step_book.proofs.Reading.{flying_in, handed_len}
 use Rattle.step_book.proofs.Reading.{lists_len, waiting_len, waits_len}
 use Rattle.step_book.proofs.Vectors.{lists_same, waits_push, waits_same}
@@ -34,13 +34,6 @@ invariant_of-self g c =
     (lists_same s.mails.items c.args.name.to c.index_mut.result.now c.note_release.new.mail (omega (arith, c.requires.to)) c.index_mut.ensures.value (ap (λ (m : Mailed). m.handed) same))
     c.in_err-note_release.ensures.answers_kept refl
 
-pub put-requires-clause-short : goal.put-requires-clause-short
-put-requires-clause-short g c =
-    let count = c.count_of-count.ensures in
-    let few = few_steps c.args.name.to c.self.view_is in
-    let small = c.in_ok-note_release.ensures.small in
-    omega arith
-
 pub put-requires-clause-place : goal.put-requires-clause-place
 put-requires-clause-place g c =
     flying_in (of_view g.P.Plan.start g.P.Plan.nodes c.self.view_is c.self.invariant) c.args.name c.place-place.result c.requires (c.is_flying.ensures.0 cc) c.place-place.ensures
@@ -59,7 +52,7 @@ invariant_of-self-then-is_flying g c =
     to_fields g.P.Plan.start g.P.Plan.nodes c.self.view_is
     (moved h n _ _ c.place-place.result _ _ _ c.requires fly c.place-place.ensures
     (trace_view (Release n) _ c.self.view_is c.in_ok-note_release.ensures.trace)
-    (subst (λ x. Puts Unsent s.marks c.put.new.self n.copy c.place-place.result (Released x)) c.count_of-count.ensures c.put.ensures)
+    (subst (λ m. Puts Unsent s.marks c.put.new.self n.copy c.place-place.result m) (c.in_ok-mark.ensures.value ∙ ap Released c.count_of-count.ensures) c.put.ensures)
     (waits_push s.mails.items n.to c.index_mut.result.now c.note_release.new.mail n (omega (arith, c.requires.to)) c.index_mut.ensures.value c.in_ok-note_release.ensures.waiting)
     (lists_same s.mails.items n.to c.index_mut.result.now c.note_release.new.mail (omega (arith, c.requires.to)) c.index_mut.ensures.value c.in_ok-note_release.ensures.handed)
     c.in_ok-note_release.ensures.answers)

@@ -20,7 +20,7 @@ invariant_of-self c =
     (puts_table None rounds frames c.take.new.self c.args.round c.args.place None there.0 c.index_mut.ensures.value c.take.ensures.rest) tt c.self.invariant in
     let read = get_or_default rounds c.args.round [] frames there.0 ∙ sym c.index_mut.ensures.value in
     let taken = ap (λ t. get_or t c.args.place None) read ∙ sym c.take.ensures.taken ∙ c.in-Some.is in
-    spelt_waits _ _ c.self.inside.waiting.items c.push_reserved.new.self.items
-    (subst (All says) (sym c.push_reserved.ensures.items)
+    spelt_waits _ _ c.self.inside.waiting.items c.push.new.self.items
+    (subst (All says) (sym c.push.ensures)
     (All-push says c.self.inside.waiting.items c.in-Some.frame c.self.invariant.waits
     (subst (λ o. IfSome o says) taken (c.self.invariant.flies c.args.round c.args.place)))) kept

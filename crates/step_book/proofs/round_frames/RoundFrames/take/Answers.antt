@@ -10,7 +10,7 @@ returns-then-are_none-clause-rest c =
     let xs : List (Option Frame) = c.self.inside.frames.items in
     let ys : List (Option Frame) = set xs c.args.place None in
     let within : c.args.place < length xs = subst (λ (z : List (Option Frame)). c.args.place < length z) (sym c.self.view_is) c.requires in
-    let written : c.deref.result.now ≡ ys = c.deref.ensures.value ∙ ap (λ o. set xs c.args.place o) c.take-frame.ensures.after in
+    let written : c.deref.result.now ≡ ys = c.deref.ensures.value ∙ ap (λ o. set xs c.args.place o) c.take-frame.ensures.free in
     let none : All (λ (o : Option Frame). o ≡ None) ys = subst (All (λ (o : Option Frame). o ≡ None)) written (c.are_none.ensures.0 c.if-are_none.true) in
     let gone = subst (λ (z : List (Option Frame)). SameTable None ys z) (sym c.new.ensures.items) (same_gone None ys none) in
     subst (λ (z : List (Option Frame)). PutsAt None z c.new.result.items c.args.place None) c.self.view_is
