@@ -1,5 +1,4 @@
 pub mod Texts
-pub mod Cuts
 pub mod Members
 pub mod Parts
 pub mod Outcomes

@@ -1,25 +1,27 @@
 -- Texts as loops write them.
 use Rattle.std.proofs.Common.{◌≡◌, ℕ, zero, suc, ◌+◌, Bool, true, false, cond, List, [], ◌∷◌, ◌++◌}
 use Rattle.std.proofs.Common.{Option, map, refl, sym, ap, ◌∙◌, subst, append_assoc, append-nil}
-use Rattle.std.proofs.Common.{length, length-take-le, take, get_or, ◌<◌, add-zero, add-one, arith}
+use Rattle.std.proofs.Common.{length, length-take-le, take, drop, get_or, ◌<◌, add-zero, add-one}
+use Rattle.std.proofs.Common.{arith}
 use Rattle.std.specs.Prelude.{◌≢◌, slice_index, codes, if◌then◌else◌}
 use Rattle.std.specs.Fmt.{decimal}
 use Rattle.std.specs.List.{range_with_len, filter, flat_map}
 use Rattle.std.specs.Io.KnownBytes.{Appends}
 use Rattle.std.proofs.KnownBytes.{Appends-trans}
 use Rattle.std.proofs.lemmas.List.Elements.{filter-append}
-use Rattle.std.proofs.lemmas.List.{take_more, flat_map_more}
+use Rattle.std.proofs.lemmas.List.{take_more, flat_map_more, get_or-drop}
 use Rattle.std.proofs.lemmas.Grind.{flat_map-append}
 use Rattle.std.proofs.lemmas.Bool.Decides.{nat_tests}
 use Rattle.omission_explainer.specs.Report.{with_commas, entry_text, is_entered, count_text}
 use Rattle.omission_explainer.specs.Report.{counts_text, decision_text, entries_text, nodes_text}
 use Rattle.omission_explainer.specs.Report.{row_text}
-use Rattle.omission_explainer.specs.Report.{state_text, type_at, value_text, variable_text}
+use Rattle.omission_explainer.specs.Report.{named_text, state_text, type_at, value_text}
 use Rattle.omission_explainer.specs.Rows.{ClosedRound}
 use Rattle.omission_explainer.specs.Short.{Tells}
 use Rattle.omission_explainer.specs.declared.report.Report.{Report}
 use Rattle.round_lang.specs.declared.expr.Ty.{Ty}
 use Rattle.round_lang.specs.declared.value.Value.{Value}
+use Rattle.round_lang.specs.declared.value.Value.TheVariants.{Num}
 use Rattle.round_lang.specs.Values.{at}
 
 -- a range with its next number
@@ -175,12 +177,22 @@ items_more old mid new s t u f xs i x h is before more =
     subst (Tells old s new u) e (Tells-trans old mid new s t u _ _ before more)
 
 -- a variable in the form of its type
-pub variable_told : (old mid new : Option (List ℕ)) (s t u : List ℕ) (report : Report) (state : List Value) (i : ℕ) (name : List ℕ) (ty : Ty) → name ≡ get_or report.names i [] → ty ≡ type_at report.types i → Tells old s mid t (codes " " ++ name ++ codes "=") → Tells mid t new u (value_text report.values ty (at state i)) → Tells old s new u (variable_text report state i)
-variable_told old mid new s t u report state i name ty named typed label value =
-    let e : (codes " " ++ name ++ codes "=") ++ value_text report.values ty (at state i) ≡ variable_text report state i =
-    ap (λ n. codes " " ++ n ++ codes "=" ++ value_text report.values ty (at state i)) named
-    ∙ ap (λ k. codes " " ++ get_or report.names i [] ++ codes "=" ++ value_text report.values k (at state i)) typed in
+pub variable_told : (old mid new : Option (List ℕ)) (s t u : List ℕ) (report : Report) (v : Value) (i : ℕ) (name : List ℕ) (ty : Ty) → name ≡ get_or report.names i [] → ty ≡ type_at report.types i → Tells old s mid t (codes " " ++ name ++ codes "=") → Tells mid t new u (value_text report.values ty v) → Tells old s new u (named_text report i v)
+variable_told old mid new s t u report v i name ty named typed label value =
+    let e : (codes " " ++ name ++ codes "=") ++ value_text report.values ty v ≡ named_text report i v =
+    ap (λ n. codes " " ++ n ++ codes "=" ++ value_text report.values ty v) named
+    ∙ ap (λ k. codes " " ++ get_or report.names i [] ++ codes "=" ++ value_text report.values k v) typed in
     subst (Tells old s new u) e (Tells-trans old mid new s t u _ _ label value)
+
+-- the first value that is left is the one at the place
+pub first_left : (state left : List Value) (i : ℕ) → left ≡ drop i state → at left 0 ≡ at state i
+first_left state left i e =
+    ap (λ vs. at vs 0) e ∙ get_or-drop i state 0 (Num 0) ∙ ap (at state) (add-zero i)
+
+-- the first entry that is left is the one of the value
+pub entry_left : (entries left : List ℕ) (i : ℕ) → left ≡ drop i entries → slice_index left 0 ≡ slice_index entries i
+entry_left entries left i e =
+    ap (λ es. slice_index es 0) e ∙ get_or-drop i entries 0 0 ∙ ap (slice_index entries) (add-zero i)
 
 -- a closed round's line, piece by piece
 pub row_told : (a b c d e f g : Option (List ℕ)) (s t u v w x y : List ℕ) (report : Report) (r : ClosedRound)

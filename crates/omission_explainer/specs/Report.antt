@@ -61,11 +61,15 @@ value_text k ty.Row v = entries_text k (row v)
 abbrev pub type_at : List Ty → ℕ → Ty
 type_at types i = slice_index_or types i ty.Num
 
--- ` NAME=VALUE`
-abbrev pub variable_text : Report → List Value → ℕ → List ℕ
-variable_text report state i =
+-- ` NAME=VALUE`, of the variable at a place with this value
+abbrev pub named_text : Report → ℕ → Value → List ℕ
+named_text report i v =
     codes " " ++ slice_index_or report.names i [] ++ codes "="
-    ++ value_text report.values (type_at report.types i) (at state i)
+    ++ value_text report.values (type_at report.types i) v
+
+-- ` NAME=VALUE`, of the variable at a place in a state
+abbrev pub variable_text : Report → List Value → ℕ → List ℕ
+variable_text report state i = named_text report i (at state i)
 
 -- the variables in the order of their declarations
 abbrev pub state_text : Report → List Value → List ℕ

@@ -100,7 +100,7 @@ fn rows_of<P: Plan>(alloc: Global, book: &Book<P>) -> Result<Vec<ReportRow>, NoM
     for round in 1..book.setup().rounds + 1 {
         for node in 0..book.setup().nodes {
             if round < book.round_of(node) {
-                rows.push(row_of(book, node, round)?)?;
+                rows.push(row_of(alloc, book, node, round)?)?;
             }
         }
     }
@@ -192,7 +192,12 @@ fn outcomes_of<P: Plan>(book: &Book<P>, node: u32, round: u32) -> Outcomes
 }
 
 /// The row of a node's closed round.
-fn row_of<P: Plan>(book: &Book<P>, node: u32, round: u32) -> Result<ReportRow, NoMemory>
+fn row_of<P: Plan>(
+    alloc: Global,
+    book: &Book<P>,
+    node: u32,
+    round: u32,
+) -> Result<ReportRow, NoMemory>
     requires node { node < book.now.log.setup.nodes }
     requires first { 0 < round }
     requires few { round ≤ 4096 }
@@ -213,7 +218,7 @@ fn row_of<P: Plan>(book: &Book<P>, node: u32, round: u32) -> Result<ReportRow, N
         heard: outcomes.heard,
         silent: outcomes.silent,
         omitted: outcomes.omitted,
-        decision: decision_of(book.program(), state),
+        decision: decision_of(book.program(), &state.state(alloc)?),
         state: Arc::try_clone(state)?,
     })
 }

@@ -1,10 +1,11 @@
 //! Reports: what a run of single steps was, as a run in rounds with omissions.
 
 use crate::listed::Listed;
-use round_lang::{Identifier, Ty, Vars};
+use round_lang::{Identifier, Ty};
 use round_meaning::NodeSet;
 use std::marker::Model;
 use std::sync::Arc;
+use step_machine::StoredState;
 
 /// A closed round of a node: the nodes heard from, those that were silent to it, those whose
 /// message was omitted, and its state and decision after the round. Rounds count from 1 and nodes
@@ -16,7 +17,7 @@ pub struct ReportRow {
     pub heard: NodeSet,
     pub silent: NodeSet,
     pub omitted: NodeSet,
-    pub state: Arc<Vars>,
+    pub state: Arc<StoredState>,
     pub decision: Option<u32>,
 }
 

@@ -1,24 +1,25 @@
 //! A report's text.
 ghost use Rattle.std.specs.Prelude.{◌≡◌, ◌+◌, ◌<◌, ◌≤◌, ◌++◌, [], OnOk, codes, length};
-ghost use Rattle.std.specs.Prelude.{if◌then◌else◌, slice_index};
+ghost use Rattle.std.specs.Prelude.{drop, if◌then◌else◌};
 ghost use Rattle.std.specs.Fmt.{decimal};
 ghost use Rattle.std.specs.Io.KnownBytes.{Appends};
 ghost use Rattle.std.specs.List.{flat_map};
-ghost use Rattle.round_lang.specs.Values.{at, row};
+ghost use Rattle.round_lang.specs.Values.{at};
 ghost use Rattle.omission_explainer.specs.Short.{Tells, piece, room};
 ghost use Rattle.omission_explainer.specs.Report.{count_text, counts_text, decision_text};
 ghost use Rattle.omission_explainer.specs.Report.{entries_text, nodes_text};
 ghost use Rattle.omission_explainer.specs.Report.{report_text, row_text, set_text, state_text};
-ghost use Rattle.omission_explainer.specs.Report.{type_at, value_text, variable_text};
+ghost use Rattle.omission_explainer.specs.Report.{named_text, type_at, value_text};
 
 use crate::report::{Report, ReportRow};
 use crate::short_text::{ROOM, ShortText};
 use crate::spelt_set::{SpeltSet, push_member};
 use itoa::Buffer;
-use round_lang::{Kind, Ty, ValueSet, Vars};
+use round_lang::{Ty, ValueSet};
 use round_meaning::NodeSet;
 use std::io;
 use std::io::Write;
+use step_machine::{RowReader, StateReader, StoredState};
 
 /// How many bytes are added to a text at once, at most: 64 members below 64 take two digits and a
 /// comma each.
@@ -203,7 +204,7 @@ fn push_number(number: u64, text: &mut ShortText)
 
 fn write_state<W: Write>(
     report: &Report,
-    state: &Vars,
+    state: &StoredState,
     spelt: &mut SpeltSet,
     text: &mut ShortText,
     out: &mut W,
@@ -213,24 +214,26 @@ fn write_state<W: Write>(
 {
     make_room(text, out)?;
     text.push_all(b" state");
+    let mut left = state.reader();
     for place in 0..report.names.as_slice().len() {
-        write_variable(report, state, place, spelt, text, out)?;
+        write_variable(report, place, &mut left, spelt, text, out)?;
     }
     Ok(())
 }
 
-/// A variable's name and its value.
+/// A variable's name and its value, the first one that is left.
 fn write_variable<W: Write>(
     report: &Report,
-    state: &Vars,
     place: usize,
+    left: &mut StateReader<'_>,
     spelt: &mut SpeltSet,
     text: &mut ShortText,
     out: &mut W,
 ) -> io::Result<()>
     requires { place < length report.now.names }
-    ensures { OnOk result (Tells (W.contents out.old) text.old (W.contents out.new) text.new
-        (variable_text report.now state.now place)) }
+    ensures text { OnOk result (Tells (W.contents out.old) text.old (W.contents out.new) text.new
+        (named_text report.now place (at left.old 0))) }
+    ensures left { OnOk result (left.new ≡ drop 1 left.old) }
 {
     let names = report.names.as_slice();
     make_room(text, out)?;
@@ -238,7 +241,7 @@ fn write_variable<W: Write>(
     text.push_all(names[place].as_str().as_bytes());
     text.push(b'=');
     let ty = type_at(report.types.as_slice(), place);
-    write_value(report.values, ty, state, place, spelt, text, out)
+    write_value(report.values, ty, left, spelt, text, out)
 }
 
 /// The type of the variable at a place, num where there is none.
@@ -251,24 +254,25 @@ fn type_at(types: &[Ty], place: usize) -> Ty
     }
 }
 
+/// The first value that is left.
 fn write_value<W: Write>(
     values: u32,
     ty: Ty,
-    state: &Vars,
-    place: usize,
+    left: &mut StateReader<'_>,
     spelt: &mut SpeltSet,
     text: &mut ShortText,
     out: &mut W,
 ) -> io::Result<()>
-    ensures { OnOk result (Tells (W.contents out.old) text.old (W.contents out.new) text.new
-        (value_text values ty (at state.now place))) }
+    ensures text { OnOk result (Tells (W.contents out.old) text.old (W.contents out.new) text.new
+        (value_text values ty (at left.old 0))) }
+    ensures left { OnOk result (left.new ≡ drop 1 left.old) }
 {
     make_room(text, out)?;
     match ty {
-        Ty::Num => push_number(u64::from(state.num(place)), text),
-        Ty::Bool => push_flag(state.flag(place), text),
-        Ty::Set => push_set(state.set(place), spelt, text),
-        Ty::Row => return write_entries(values, state, place, text, out),
+        Ty::Num => push_number(u64::from(left.next_num()), text),
+        Ty::Bool => push_flag(left.next_flag(), text),
+        Ty::Set => push_set(left.next_set(), spelt, text),
+        Ty::Row => return write_entries(values, &mut left.next_row(), text, out),
     }
     Ok(())
 }
@@ -294,20 +298,18 @@ fn push_set(set: ValueSet, spelt: &mut SpeltSet, text: &mut ShortText)
 /// A row's entries other than 0.
 fn write_entries<W: Write>(
     values: u32,
-    state: &Vars,
-    place: usize,
+    left: &mut RowReader<'_>,
     text: &mut ShortText,
     out: &mut W,
 ) -> io::Result<()>
     ensures { OnOk result (Tells (W.contents out.old) text.old (W.contents out.new) text.new
-        (entries_text values (row (at state.now place)))) }
+        (entries_text values left.old)) }
 {
     make_room(text, out)?;
     text.push(b'[');
-    let entries = entries_of(state, place);
     let mut has_entry = false;
     for value in 0..values {
-        let entry = entry_at(entries, value);
+        let entry = left.next_entry();
         if entry != 0 {
             make_room(text, out)?;
             push_entry(has_entry, value, entry, text);
@@ -317,34 +319,6 @@ fn write_entries<W: Write>(
     make_room(text, out)?;
     text.push(b']');
     Ok(())
-}
-
-/// The entries of the row at a place, none where there is no row. They are found once for all of
-/// them, since most are 0.
-fn entries_of(state: &Vars, place: usize) -> &[u64]
-    ensures { result.now ≡ row (at state.now place) }
-{
-    let mut words = state.as_words();
-    for (i, kind) in state.kinds().iter().enumerate() {
-        if i == place {
-            return match *kind {
-                Kind::Row(size) => &words[..size],
-                _ => &[],
-            };
-        }
-        words = &words[kind.size()..];
-    }
-    &[]
-}
-
-/// The entry of a value, 0 past the row's end.
-fn entry_at(entries: &[u64], value: u32) -> u64
-    ensures { result ≡ slice_index entries.now value }
-{
-    match entries.get(value as usize) {
-        Some(entry) => *entry,
-        None => 0,
-    }
 }
 
 /// Appends an entry, behind a comma where it isn't the first.
