@@ -12,9 +12,9 @@ use round_lang::NoMemory;
 use slot_plans::Plan;
 use std::alloc::Global;
 use std::sync::Wait;
-use step_book::{CloseFault, ReceiveFault, SendFault};
+use step_book::{CloseFault, ReceiveFault, SendFault, Waiting};
 use step_journal::Journal;
-use step_machine::{Finished, InFlight, Name, Prepared, Sealed};
+use step_machine::{Finished, InFlight, Name, Prepared};
 
 /// What records the events of a run, of which `program` and `setup` are those.
 pub trait Recorder {
@@ -35,7 +35,7 @@ pub trait Recorder {
         ensures setup { setup self.new ≡ setup self.old };
 
     /// A receive step of the node.
-    fn receive(&mut self, me: u32) -> Result<Vec<Sealed>, PostFault>
+    fn receive(&mut self, me: u32) -> Result<Waiting, PostFault>
         requires { me < (setup self.old).nodes }
         ensures mail { IfOk result (λ frames. All (IsMail
             (algorithm_of (program self.old) (setup self.old)) (setup self.old).nodes me)
@@ -96,7 +96,7 @@ impl<P: Plan> Recorder for Journal<P> {
         self.send(prepared).map_err(|refused| refused.fault)
     }
 
-    fn receive(&mut self, me: u32) -> Result<Vec<Sealed>, PostFault> {
+    fn receive(&mut self, me: u32) -> Result<Waiting, PostFault> {
         match self.receive(me) {
             Ok(took) => Ok(took.frames),
             Err(fault) => Err(as_post(fault)),
@@ -162,7 +162,7 @@ impl<'a, R: Wait, P: Plan> Recorder for Counter<'a, R, P> {
         }
     }
 
-    fn receive(&mut self, me: u32) -> Result<Vec<Sealed>, PostFault> {
+    fn receive(&mut self, me: u32) -> Result<Waiting, PostFault> {
         match self.seats.get_mut(me as usize) {
             Some(seat) if seat.node() == me => match self.post.receive(self.rt, seat) {
                 Ok(took) => Ok(took.frames),

@@ -15,9 +15,9 @@ use schedule_text::Schedule;
 use slot_plans::Plan;
 use std::alloc::Global;
 use std::sync::Wait;
-use step_book::{CloseFault, SendFault};
+use step_book::{CloseFault, SendFault, Waiting};
 use step_journal::Journal;
-use step_machine::{Event, MAX_COPY, Name, Node, Sealed};
+use step_machine::{Event, MAX_COPY, Name, Node};
 
 /// The nodes of a run before their first step.
 fn all_nodes(alloc: Global, program: &Checked, setup: &Setup) -> Result<Vec<Node>, Fault>
@@ -77,13 +77,14 @@ fn send<C: Recorder>(
 }
 
 /// The node takes frames, and each is told with what became of it.
-fn take_all(node: &mut Node, frames: Vec<Sealed>, out: &mut String) -> Result<(), Fault>
+fn take_all(node: &mut Node, frames: Waiting, out: &mut String) -> Result<(), Fault>
     requires { All (IsMail (algorithm_in node.old) node.old.setup.nodes node.old.me) frames.items }
     ensures program { node.new.program ≡ node.old.program }
     ensures setup { node.new.setup ≡ node.old.setup }
 {
     out.push_str("took")?;
-    for frame in frames {
+    let mut frames = frames.into_frames();
+    while let Some(frame) = frames.next() {
         write_name(out, frame.name())?;
         let taken = node.take(frame);
         write!(out, " {taken:?}")?;

@@ -5,6 +5,7 @@ use round_lang::{Identifier, NoMemory, Row, Shape, Ty, Value, ValueSet, VarsBuil
 use round_meaning::NodeSet;
 use std::alloc::Global;
 use std::sync::Arc;
+use step_machine::StoredState;
 
 /// A value of a table.
 enum Given {
@@ -64,6 +65,8 @@ impl GivenRow {
             values.push(&value(alloc, given)?)?;
         }
         let state = values.finish(&Shape::empty())?;
+        let shape = Shape::new(alloc, state.kinds())?;
+        let state = StoredState::new(alloc, &shape, &state)?;
         Ok(ReportRow {
             round: self.round,
             node: self.node,

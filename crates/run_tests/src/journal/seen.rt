@@ -1,6 +1,7 @@
 //! What a call that was refused must leave as it was, and what calls answer.
 ghost use Rattle.std.specs.Prelude.{◌<◌};
 
+use super::telling::frames_of;
 use crate::fault::Fault;
 use slot_plans::Known;
 use std::fmt::Debug;
@@ -26,7 +27,7 @@ impl Seen {
             events: book.trace().len(),
             steps: book.count_of(node),
             round: book.round_of(node),
-            waiting: journal.waiting(node).len(),
+            waiting: frames_of(journal, node),
             handed: book.mail(node).receives(),
             answers: book.answers().len(),
         }

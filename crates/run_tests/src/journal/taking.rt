@@ -8,18 +8,19 @@ use crate::journal::doing::number_of;
 use crate::journal::seen::{Answer, Seen, tell};
 use crate::journal::telling::tell_name;
 use slot_plans::Known;
-use step_book::ReceiveFault;
+use step_book::{ReceiveFault, Waiting};
 use step_journal::Journal;
-use step_machine::{Node, Sealed};
+use step_machine::Node;
 
 /// The node takes frames, and what becomes of each is told.
-fn take_all(node: &mut Node, frames: Vec<Sealed>, out: &mut String) -> Result<(), Fault>
+fn take_all(node: &mut Node, frames: Waiting, out: &mut String) -> Result<(), Fault>
     requires { All (IsMail (algorithm_in node.old) node.old.setup.nodes node.old.me) frames.items }
     ensures program { node.new.program ≡ node.old.program }
     ensures setup { node.new.setup ≡ node.old.setup }
 {
     out.push_str("took")?;
-    for frame in frames {
+    let mut frames = frames.into_frames();
+    while let Some(frame) = frames.next() {
         tell_name(out, frame.name())?;
         let taken = node.take(frame);
         write!(out, " {taken:?}")?;

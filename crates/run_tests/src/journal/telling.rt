@@ -75,17 +75,27 @@ fn tell_event(journal: &Journal<Known>, place: u32, out: &mut String) -> Result<
     Ok(())
 }
 
-/// What the node has seen: the second variable of its last state.
-fn seen_by(journal: &Journal<Known>, node: u32) -> ValueSet
+/// What the node has seen: the second variable of its last state, which is asked for again where
+/// there was no memory for it.
+fn seen_by(alloc: Global, journal: &Journal<Known>, node: u32) -> Result<ValueSet, Fault>
     requires { node < journal.now.log.setup.nodes }
 {
-    match journal.book().states(node).last() {
-        Some(state) => state.set(1),
-        None => ValueSet::empty(),
-    }
+    let Some(stored) = journal.book().states(node).last() else {
+        return Ok(ValueSet::empty());
+    };
+    let state = match stored.state(alloc) {
+        Ok(state) => state,
+        Err(_) => stored.state(alloc)?,
+    };
+    Ok(state.set(1))
 }
 
-fn tell_node(journal: &Journal<Known>, node: u32, out: &mut String) -> Result<(), Fault>
+fn tell_node(
+    alloc: Global,
+    journal: &Journal<Known>,
+    node: u32,
+    out: &mut String,
+) -> Result<(), Fault>
     requires { node < journal.now.log.setup.nodes }
 {
     let book = journal.book();
@@ -97,14 +107,29 @@ fn tell_node(journal: &Journal<Known>, node: u32, out: &mut String) -> Result<()
         out,
         "steps {steps} round {round} due {is_due} receives {receives} seen "
     )?;
-    tell_set(out, seen_by(journal, node))
+    let seen = seen_by(alloc, journal, node)?;
+    tell_set(out, seen)
+}
+
+/// How many frames wait for a node; one more than names do where there are too many.
+pub fn frames_of(journal: &Journal<Known>, node: u32) -> usize
+    requires { node < journal.now.log.setup.nodes }
+{
+    let frames = journal.waiting(node);
+    let names = journal.book().waiting(node);
+    let named = names
+        .iter()
+        .enumerate()
+        .filter(|(place, _)| frames.at(*place).is_some())
+        .count();
+    named.saturating_add(usize::from(frames.at(names.len()).is_some()))
 }
 
 /// The names that wait by the record, and how many frames do.
 fn tell_waiting(journal: &Journal<Known>, node: u32, out: &mut String) -> Result<(), Fault>
     requires { node < journal.now.log.setup.nodes }
 {
-    let frames = journal.waiting(node).len();
+    let frames = frames_of(journal, node);
     write!(out, "{frames}:")?;
     tell_names(out, journal.book().waiting(node))
 }
@@ -171,10 +196,15 @@ fn tell_in_flight(journal: &Journal<Known>, name: Name, out: &mut String) -> Res
     }
 }
 
-fn tell_of_node(journal: &Journal<Known>, asked: Question, out: &mut String) -> Result<(), Fault> {
+fn tell_of_node(
+    alloc: Global,
+    journal: &Journal<Known>,
+    asked: Question,
+    out: &mut String,
+) -> Result<(), Fault> {
     let nodes = journal.book().setup().nodes;
     match asked {
-        Question::Node(node) if node < nodes => tell_node(journal, node, out),
+        Question::Node(node) if node < nodes => tell_node(alloc, journal, node, out),
         Question::Waiting(node) if node < nodes => tell_waiting(journal, node, out),
         Question::Handed(node, at) if node < nodes => tell_handed(journal, node, at, out),
         _ => Ok(out.push_str(OUTSIDE)?),
@@ -193,11 +223,16 @@ pub fn within(journal: &Journal<Known>, name: Name) -> bool
         && name.copy <= MAX_COPY
 }
 
-fn tell_of_name(journal: &Journal<Known>, asked: Question, out: &mut String) -> Result<(), Fault> {
+fn tell_of_name(
+    alloc: Global,
+    journal: &Journal<Known>,
+    asked: Question,
+    out: &mut String,
+) -> Result<(), Fault> {
     match asked {
         Question::Mark(name) if within(journal, name) => tell_mark(journal, name, out),
         Question::InFlight(name) if within(journal, name) => tell_in_flight(journal, name, out),
-        _ => tell_of_node(journal, asked, out),
+        _ => tell_of_node(alloc, journal, asked, out),
     }
 }
 
@@ -212,6 +247,6 @@ pub fn answer(
         Question::Book => tell_book(journal, out),
         Question::Flight => tell_flight(alloc, journal, out),
         Question::Event(place) => tell_event(journal, place, out),
-        _ => tell_of_name(journal, asked, out),
+        _ => tell_of_name(alloc, journal, asked, out),
     }
 }
