@@ -24,6 +24,10 @@ ready_in n dest = record {
   message = sent_to n dest;
 }
 
+-- the name of what a node sends to another in its round
+abbrev pub IsOwn : NodeView → Name → Type 0
+IsOwn n name = name ≡ record { from = n.me; to = name.to; round = n.round; copy = 0 }
+
 -- it says what the node's state sends
 pub ready_is : (s : Inside) (n : NodeView) (dest : ℕ) (p : Ready) → node_seen s ≡ n → HasStateTypes (algorithm_of s.machine s.setup) s.state → p ≡ ready_in n dest → IsPrepared (algorithm_in n) p
 ready_is s n dest p seen types e =
@@ -50,3 +54,11 @@ pub ready_told : (s : Inside) (n : NodeView) (dest : ℕ) (a : Spoken) (p : Read
 ready_told s n dest a p seen told =
     ready_from s n dest (origin_of a).state told.message p seen (told.origin.state_is ∙ ap (λ (x : NodeView). x.state) seen)
     (sym (told.told dest) ∙ ap (λ (x : NodeView). sent_to x dest) seen)
+
+-- what is said to all for the first time in a round
+pub ready_first : (s : Inside) (n : NodeView) (name : Name) (a : Spoken) (m : Option (List Value)) (p : Ready) → node_seen s ≡ n → IsOwn n name → (origin_of a).state ≡ n.state → m ≡ sent_to n name.to
+    → p ≡ record { name = name; state = (origin_of a).state; message = m } → p ≡ ready_in n name.to
+ready_first s n name a m p seen own e f is =
+    let under : Name → Ready = λ x. record { name = x; state = (origin_of a).state; message = m } in
+    let own_in : NodeView → Name = λ x. record { from = x.me; to = name.to; round = x.round; copy = 0 } in
+    ready_from s n name.to (origin_of a).state m p seen e f (is ∙ ap under (own ∙ sym (ap own_in seen)))

@@ -1,24 +1,13 @@
 -- States that are read value by value.
-use Rattle.std.proofs.Common.{◌≡◌, ◌∙◌, ℕ, zero, suc, ◌+◌, ◌-◌, ◌≤◌, List, [], ◌∷◌, length, drop, take, get_or, refl}
-use Rattle.std.proofs.Common.{sym, ap, subst, arith, length-drop}
+use Rattle.std.proofs.Common.{◌≡◌, ◌∙◌, ℕ, zero, suc, ◌-◌, List, [], ◌∷◌, drop, take, get_or, refl}
+use Rattle.std.proofs.Common.{sym, ap, subst, arith}
 use Rattle.std.specs.Prelude.{◌≢◌, slice_index}
-use Rattle.std.proofs.lemmas.List.{drop_all, drop_at, drop-drop}
+use Rattle.std.proofs.lemmas.List.{drop_at}
 use Rattle.round_lang.specs.declared.kind.Kind.{Kind}
 use Rattle.round_lang.specs.Values.{at}
 use Rattle.round_lang.specs.Words.{size, read, values_of, kind_of, words_of, all_words, IsSmall}
 use Rattle.round_lang.specs.Words.{IsSpelled}
 use Rattle.round_lang.proofs.Spelling.{size-kind_of}
-
--- one word more is passed
-pub passed_more : (words left behind : List ℕ) (word i : ℕ) → left ≡ drop i words → left ≡ word ∷ behind → behind ≡ drop (i + 1) words
-passed_more words left behind word i before first =
-    ap (drop 1) (sym first) ∙ ap (drop 1) before ∙ drop-drop 1 i words
-
--- where none is left, none is behind those that were to be passed either
-pub passed_all : (words left : List ℕ) (i n : ℕ) → i ≤ n → left ≡ drop i words → left ≡ [] → left ≡ drop n words
-passed_all words left i n few before none =
-    let short : length (drop i words) ≡ 0 = ap length (sym before ∙ none) in
-    none ∙ sym (drop_all n words (omega (arith, short, length-drop i words)))
 
 -- what is read of a value, and what is left behind it
 pub record IsNext (kinds : List Kind) (words : List ℕ) (kind : Kind) (rest_kinds : List Kind) (rest_words : List ℕ) : Type 0 where

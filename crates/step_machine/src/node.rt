@@ -144,6 +144,7 @@ impl Node {
     }
 
     /// What it sends to `dest` in its round, which is one of the setup's.
+    #[inline(always)]
     pub fn prepare(&mut self, dest: u32) -> Result<Prepared, NoMemory>
         requires dest { dest < self.old.setup.nodes }
         requires last { self.old.round ≤ self.old.setup.rounds }
@@ -164,7 +165,26 @@ impl Node {
         if let Some(spoken) = &self.spoken {
             return spoken.prepared(name);
         }
-        let message = self.message_to(dest)?;
+        self.prepare_first(name)
+    }
+
+    /// What it sends where it hasn't said anything to all in its round. It stands apart, since that
+    /// is rare.
+    #[inline(never)]
+    fn prepare_first(&mut self, name: Name) -> Result<Prepared, NoMemory>
+        requires named { name
+            ≡ record { from = self.old.me; to = name.to; round = self.old.round; copy = 0 } }
+        requires to { name.to < self.old.setup.nodes }
+        requires last { self.old.round ≤ self.old.setup.rounds }
+        ensures ready { IfOk result (λ p. p ≡ record {
+          name = name;
+          state = self.old.state;
+          message = sent_to self.old name.to;
+        }) }
+        ensures prepared { IfOk result (IsPrepared (algorithm_in self.old)) }
+        ensures same { self.new ≡ self.old }
+    {
+        let message = self.message_to(name.to)?;
         let origin = self.shared_origin()?;
         if !is_broadcast(self.machine.program(), self.round) {
             return Prepared::new(name, origin, message);

@@ -86,6 +86,13 @@ impl<'a> StateReader<'a> {
         }
     }
 
+    /// Passes the next value by.
+    pub(crate) fn skip(&mut self)
+        ensures { self.new ≡ drop 1 self.old }
+    {
+        self.take_next();
+    }
+
     /// The next value's kind, and the bytes from its first one on; none behind the last value.
     fn take_next(&mut self) -> Option<(Kind, &'a [u8])>
         ensures value { read_next result ≡ at self.old 0 }

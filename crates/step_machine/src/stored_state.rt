@@ -1,10 +1,11 @@
 //! States in few bytes.
 ghost use Rattle.std.specs.Prelude.{◌≡◌, ◌↔◌, IfOk, IsTrue, map};
+ghost use Rattle.round_lang.specs.Values.{at, set};
 ghost use Rattle.round_lang.specs.Words.{kind_of};
 
 use crate::state_reader::StateReader;
 use crate::word_bytes::{BYTES, are_words, spelled, words_of};
-use round_lang::{NoMemory, Shape, Vars};
+use round_lang::{NoMemory, Shape, ValueSet, Vars};
 use smallvec::SmallVec;
 use std::alloc::Global;
 use std::marker::Model;
@@ -55,6 +56,17 @@ impl StoredState {
         ensures { result ≡ self.now }
     {
         StateReader::new(self.shape.kinds(), self.bytes.as_slice())
+    }
+
+    /// The value at a place as a set. Takes no memory.
+    pub fn set_at(&self, place: usize) -> ValueSet
+        ensures { result.bits ≡ set (at self.now place) }
+    {
+        let mut reader = self.reader();
+        for _ in 0..place {
+            reader.skip();
+        }
+        reader.next_set()
     }
 
     /// Whether a state has the same values. Takes no memory.

@@ -1,7 +1,7 @@
 //! Words of 64 bits in few bytes, by LEB128.
 ghost use Rattle.std.specs.Prelude.{◌≡◌, ◌↔◌, ℕ, List, ◌∷◌, ◌++◌, [], IfOk, IsTrue, OnOk};
 ghost use Rattle.std.specs.Prelude.{IfSome, IsNone, drop, option_to_list, slice_index};
-ghost use Rattle.step_machine.specs.StoredStates.{read, words_in, IsWhole};
+ghost use Rattle.step_machine.specs.StoredStates.{words_from, words_in, IsWhole};
 
 use round_lang::NoMemory;
 use smallvec::SmallVec;
@@ -68,7 +68,20 @@ pub(crate) fn words_of(alloc: Global, bytes: &[u8]) -> Result<SmallVec<u64, WORD
 }
 
 /// The first word that the bytes spell, and the bytes behind it.
+#[inline]
 pub(crate) fn split_word(bytes: &[u8]) -> Option<(u64, &[u8])>
+    ensures some { IfSome result (λ s. words_in bytes.now ≡ s.0 ∷ words_in s.1.now) }
+    ensures none { IsNone result → words_in bytes.now ≡ [] }
+{
+    let (byte, behind) = bytes.split_first()?;
+    if *byte < 128 {
+        return Some((u64::from(*byte), behind));
+    }
+    split_long_word(bytes)
+}
+
+/// The same, byte by byte: `split_word` is faster where the word is one byte.
+fn split_long_word(bytes: &[u8]) -> Option<(u64, &[u8])>
     ensures some { IfSome result (λ s. words_in bytes.now ≡ s.0 ∷ words_in s.1.now) }
     ensures none { IsNone result → words_in bytes.now ≡ [] }
 {
@@ -93,17 +106,21 @@ pub(crate) fn first_word(bytes: &[u8]) -> u64
     }
 }
 
-/// The bytes behind those of so many words.
-#[tactic(auto, using(crate::proofs::StatesRead::passed_all))]
+/// The bytes behind those of so many words. Each byte below 128 ends a word, so no word is read.
+#[inline]
 pub(crate) fn skip_words(bytes: &[u8], count: usize) -> &[u8]
     ensures { words_in result.now ≡ drop count (words_in bytes.now) }
 {
     let mut left = bytes;
-    for _ in 0..count {
-        let Some((_, behind)) = split_word(left) else {
+    let mut ahead = count;
+    while ahead > 0 {
+        let Some((byte, behind)) = left.split_first() else {
             return left;
         };
         left = behind;
+        if *byte < 128 {
+            ahead -= 1;
+        }
     }
     left
 }
@@ -150,8 +167,8 @@ impl Begun {
     /// Reads its next byte. The number, where that was its last byte; then another one begins.
     #[inline(always)]
     fn take(&mut self, byte: u8) -> Option<u64>
-        ensures reads { (bytes : List ℕ) → read self.old.weight self.old.value (byte ∷ bytes)
-            ≡ option_to_list result ++ read self.new.weight self.new.value bytes }
+        ensures reads { (bytes : List ℕ) → words_from self.old.weight self.old.value (byte ∷ bytes)
+            ≡ option_to_list result ++ words_from self.new.weight self.new.value bytes }
         ensures whole { IfSome result (λ _. (self.new.value ≡ 0) × (self.new.weight ≡ 1)) }
     {
         let digit = u64::from(byte);

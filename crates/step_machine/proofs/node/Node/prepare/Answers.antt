@@ -1,10 +1,8 @@
 use Rattle.std.proofs.Common.{◌≡◌, ◌<◌, ap, sym, subst, ◌∙◌}
 use Rattle.frame_format.specs.Formats.{Format}
-use Rattle.step_machine.specs.declared.origin.Origin.{Origin}
 use Rattle.step_machine.specs.Nodes.{NodeView}
-use Rattle.step_machine.specs.NodeInside.{node_seen}
-use Rattle.step_machine.specs.Saying.{AreSpoken, layout_in, origin_of}
-use Rattle.step_machine.proofs.Preparing.{if_ok_so, ready_from, ready_is, ready_told}
+use Rattle.step_machine.specs.Saying.{layout_in, origin_of}
+use Rattle.step_machine.proofs.Preparing.{if_ok_so, ready_is, ready_told}
 use Rattle.step_machine.proofs.node.Node.prepare.Goals as goal
 
 pub prepared-requires-clause-spoken : goal.prepared-requires-clause-spoken
@@ -32,29 +30,3 @@ returns-in-Some-clause-prepared c =
     (λ p is. ready_is c.self.inside c.args.self.now c.args.dest p c.self.view_is c.self.invariant.state.types
     (ready_told c.self.inside c.args.self.now c.args.dest c.in-Some.spoken p c.self.view_is told is))
     (c.prepared.ensures told.message told.spoken)
-
-pub returns-clause-ready : goal.returns-clause-ready
-returns-clause-ready c =
-    let s = c.self.inside in
-    let n = c.args.self.now in
-    let m = c.in_ok-message.message in
-    let a = c.in_ok-spoken.spoken in
-    let seen : node_seen c.self-2.inside ≡ node_seen s = c.self-2.view_is ∙ c.in_ok-origin.ensures.same ∙ c.in_ok-message.ensures.same ∙ sym c.self.view_is in
-    let spoken : AreSpoken s.me s.round m a = subst (λ (x : NodeView). AreSpoken x.me x.round m a) seen c.in_ok-spoken.ensures.spoken in
-    let state : (origin_of a).state ≡ n.state =
-    ap (λ (o : Origin). o.state) c.in_ok-spoken.ensures.origin ∙ c.in_ok-origin.ensures.origin.state_is ∙ ap (λ (x : NodeView). x.state) c.in_ok-message.ensures.same in
-    let ready = ready_from s n c.args.dest (origin_of a).state m c.in_ok-prepared.prepared c.self.view_is state c.in_ok-message.ensures.says (c.in_ok-prepared.ensures m spoken) in
-    ready
-
-pub returns-clause-prepared : goal.returns-clause-prepared
-returns-clause-prepared c =
-    let s = c.self.inside in
-    let n = c.args.self.now in
-    let m = c.in_ok-message.message in
-    let a = c.in_ok-spoken.spoken in
-    let seen : node_seen c.self-2.inside ≡ node_seen s = c.self-2.view_is ∙ c.in_ok-origin.ensures.same ∙ c.in_ok-message.ensures.same ∙ sym c.self.view_is in
-    let spoken : AreSpoken s.me s.round m a = subst (λ (x : NodeView). AreSpoken x.me x.round m a) seen c.in_ok-spoken.ensures.spoken in
-    let state : (origin_of a).state ≡ n.state =
-    ap (λ (o : Origin). o.state) c.in_ok-spoken.ensures.origin ∙ c.in_ok-origin.ensures.origin.state_is ∙ ap (λ (x : NodeView). x.state) c.in_ok-message.ensures.same in
-    let ready = ready_from s n c.args.dest (origin_of a).state m c.in_ok-prepared.prepared c.self.view_is state c.in_ok-message.ensures.says (c.in_ok-prepared.ensures m spoken) in
-    ready_is s n c.args.dest c.in_ok-prepared.prepared c.self.view_is c.self.invariant.state.types ready

@@ -1,0 +1,7 @@
+use Rattle.std.proofs.Common.{◌∙◌, ap, drop}
+use Rattle.std.proofs.lemmas.List.{drop-drop}
+use Rattle.step_machine.proofs.stored_state.StoredState.set_at.Goals as goal
+
+pub loop-preserved : goal.loop-preserved
+loop-preserved c =
+    c.skip.ensures ∙ ap (drop 1) c.loop.invariant ∙ drop-drop 1 c.loop.counter c.args.self.now
