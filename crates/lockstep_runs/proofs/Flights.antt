@@ -6,7 +6,7 @@ use Rattle.policies.specs.declared.bounded.Bounded.{Bounded}
 use Rattle.policies.specs.Policies.{due_at}
 use Rattle.step_book.specs.declared.mark.Mark.TheVariants.{Flying}
 use Rattle.step_book.specs.Fates.{is_slot}
-use Rattle.step_book.specs.History.{let_go, mark_of}
+use Rattle.step_book.specs.History.{counted, let_go, mark_of}
 use Rattle.step_book.specs.Trace.{steps}
 use Rattle.step_book.specs.World.{IsPlan, World}
 use Rattle.step_book.proofs.Keeps.{released_other}
@@ -157,7 +157,7 @@ module _ (w : World) (p : IsPlan w) where
 
   release_came_by : (m : Name) (t : List Event) (n : Name) → IsAloft w t m → IsAloft w (Release m ∷ t) n → (n ≡ m) ⊎ (n ≡ m → ⊥) → (n ≡ m → ⊥) × IsAloft w t n
   release_came_by m t n up a (inl same) =
-      let own = mark_release w p t m up.original.named.first up.original.named.last ∙ ap (let_go (steps m.to t)) up.flies in
+      let own = mark_release w p t m up.original.named.first up.original.named.last ∙ ap (let_go (counted w (steps m.to t))) up.flies in
       let flies : mark_of w (Release m ∷ t) m ≡ Flying = subst (λ (x : Name). mark_of w (Release m ∷ t) x ≡ Flying) same a.flies in
       absurd cc
   release_came_by m t n up a (inr apart) = (

@@ -107,7 +107,7 @@ module _ (w : World) (b : Bounded) (correct ticks : ℕ) (t : List Event) (run :
     landed : (m : Option (List Value)) → is_some m ≡ true → message w t n ≡ m → fate w t (original n) ≡ Moving → ⊥
     landed None s e f = cc
     landed (Some m) s e f =
-        let flies : mark_of w t (original n) ≡ Flying = mark_is w t (original n) ∙ ap (λ z. marked 0 z (fate w t (original n))) e ∙ ap (marked 0 (Some m)) f in
+        let flies : mark_of w t (original n) ≡ Flying = mark_is w t (original n) ∙ ap (λ z. marked w 0 z (fate w t (original n))) e ∙ ap (marked w 0 (Some m)) f in
         let above : ticks ≤ due_in w b t (original n) = run.released (original n) (record {
           original = record {
             named = record { from = inside n.from x; to = inside n.to y; first = spoken.first; last = spoken.last; copy = omega arith };

@@ -50,8 +50,8 @@ pub round-unique : (nodes : ℕ) (start : ℕ → ℕ) → StartsApart nodes sta
 round-unique nodes start apart step r s f g =
     omega (arith, before-later nodes start apart step r s f.first f.ends g.starts, before-later nodes start apart step s r g.first g.ends f.starts)
 
--- the start of a round fits a number of 32 bits
-pub start-fits : {nodes : ℕ} {receives start : ℕ → ℕ} → PlanLaws nodes receives start → (r : ℕ) → 1 ≤ r → r ≤ max_rounds + 1 → start r < 2 ^ 32
+-- the start of a round fits a number of 31 bits
+pub start-fits : {nodes : ℕ} {receives start : ℕ → ℕ} → PlanLaws nodes receives start → (r : ℕ) → 1 ≤ r → r ≤ max_rounds + 1 → start r < 2 ^ 31
 start-fits {nodes} {start} laws r h l =
     omega (arith, laws.few_steps, start-le nodes start (starts_apart laws) r (max_rounds + 1) h l)
 

@@ -22,7 +22,7 @@ pub record PlanLaws (nodes : ℕ) (receives start : ℕ → ℕ) : Type 0 where
   pub receives_rise : (r : ℕ) → 1 ≤ r → receives r ≤ receives (r + 1)
   pub first_start : start 1 ≡ 0
   pub next_start : (r : ℕ) → 1 ≤ r → start (r + 1) ≡ start r + nodes + receives r
-  pub few_steps : start (max_rounds + 1) < 2 ^ 32
+  pub few_steps : start (max_rounds + 1) < 2 ^ 31
 
 -- the round starts at the global stabilization time or later, and lasts for the delay
 pub record IsClear (receives start : ℕ → ℕ) (delta gst r : ℕ) : Type 0 where

@@ -18,6 +18,7 @@ use Rattle.step_book.specs.Log.{IsBookOf, Log, history, mark_in, round_of, waiti
 use Rattle.step_book.specs.Names.{IsName}
 use Rattle.step_book.specs.Places.{IsCarried, IsMadeAt, IsSlotAt, Sent, steps_before}
 use Rattle.step_book.specs.Trace.{is_name}
+use Rattle.step_book.specs.World.{World}
 use Rattle.step_book.proofs.Buffers.{buffer_counts}
 use Rattle.step_book.proofs.Kept.{mark_is}
 use Rattle.step_book.proofs.Placed.{IsMoving, IsWaiting, Placed, carried_found, carried_place}
@@ -27,46 +28,46 @@ use Rattle.step_book.proofs.Reading.{faithful}
 
 -- ---- the mark of one copy
 
-spoken_by : (m : Option (List Value)) (f : Fate) → (f ≡ Unmade → ⊥) → IsSpoken m (marked 0 m f)
-spoken_by m Unmade h = absurd (h refl)
-spoken_by None Moving h = refl
-spoken_by None (Waiting x) h = refl
-spoken_by None (Taken x c) h = refl
-spoken_by None Lost h = refl
-spoken_by (Some m) Moving h = tt
-spoken_by (Some m) (Waiting x) h = tt
-spoken_by (Some m) (Taken x c) h = tt
-spoken_by (Some m) Lost h = tt
+spoken_by : (w : World) (m : Option (List Value)) (f : Fate) → (f ≡ Unmade → ⊥) → IsSpoken m (marked w 0 m f)
+spoken_by w m Unmade h = absurd (h refl)
+spoken_by w None Moving h = refl
+spoken_by w None (Waiting x) h = refl
+spoken_by w None (Taken x c) h = refl
+spoken_by w None Lost h = refl
+spoken_by w (Some m) Moving h = tt
+spoken_by w (Some m) (Waiting x) h = tt
+spoken_by w (Some m) (Taken x c) h = tt
+spoken_by w (Some m) Lost h = tt
 
-silent_by : (k : ℕ) (m : Option (List Value)) (f : Fate) → m ≡ None → marked (suc k) m f ≡ mark.Unsent
-silent_by k m Unmade h = refl
-silent_by k None Moving h = refl
-silent_by k None (Waiting x) h = refl
-silent_by k None (Taken x c) h = refl
-silent_by k None Lost h = refl
-silent_by k (Some m) Moving h = cc
-silent_by k (Some m) (Waiting x) h = cc
-silent_by k (Some m) (Taken x c) h = cc
-silent_by k (Some m) Lost h = cc
+silent_by : (w : World) (k : ℕ) (m : Option (List Value)) (f : Fate) → m ≡ None → marked w (suc k) m f ≡ mark.Unsent
+silent_by w k m Unmade h = refl
+silent_by w k None Moving h = refl
+silent_by w k None (Waiting x) h = refl
+silent_by w k None (Taken x c) h = refl
+silent_by w k None Lost h = refl
+silent_by w k (Some m) Moving h = cc
+silent_by w k (Some m) (Waiting x) h = cc
+silent_by w k (Some m) (Taken x c) h = cc
+silent_by w k (Some m) Lost h = cc
 
 hushed_still : (k : ℕ) → hushed k ≡ mark.Flying → ⊥
 hushed_still zero h = cc
 hushed_still (suc k) h = cc
 
-flying_by : (k : ℕ) (m : Option (List Value)) (f : Fate) → marked k m f ≡ mark.Flying → (f ≡ Moving) × IsSome m
-flying_by k m Unmade h = cc
-flying_by k None Moving h = absurd (hushed_still k h)
-flying_by k None (Waiting x) h = absurd (hushed_still k h)
-flying_by k None (Taken x c) h = absurd (hushed_still k h)
-flying_by k None Lost h = absurd (hushed_still k h)
-flying_by k (Some m) Moving h = (refl, refl)
-flying_by k (Some m) (Waiting x) h = cc
-flying_by k (Some m) (Taken x c) h = cc
-flying_by k (Some m) Lost h = cc
+flying_by : (w : World) (k : ℕ) (m : Option (List Value)) (f : Fate) → marked w k m f ≡ mark.Flying → (f ≡ Moving) × IsSome m
+flying_by w k m Unmade h = cc
+flying_by w k None Moving h = absurd (hushed_still k h)
+flying_by w k None (Waiting x) h = absurd (hushed_still k h)
+flying_by w k None (Taken x c) h = absurd (hushed_still k h)
+flying_by w k None Lost h = absurd (hushed_still k h)
+flying_by w k (Some m) Moving h = (refl, refl)
+flying_by w k (Some m) (Waiting x) h = cc
+flying_by w k (Some m) (Taken x c) h = cc
+flying_by w k (Some m) Lost h = cc
 
-flies_by : (k : ℕ) (m : Option (List Value)) → IsSome m → marked k m Moving ≡ mark.Flying
-flies_by k None h = cc
-flies_by k (Some m) h = refl
+flies_by : (w : World) (k : ℕ) (m : Option (List Value)) → IsSome m → marked w k m Moving ≡ mark.Flying
+flies_by w k None h = cc
+flies_by w k (Some m) h = refl
 
 waiting_by : (f : Fate) → is_waiting f ≡ true → (x : ℕ) × (f ≡ Waiting x)
 waiting_by Unmade h = cc
@@ -94,7 +95,7 @@ module _ {start : ℕ → ℕ} {nodes : ℕ} {v : Log} {counts : List ℕ} {tabl
   abbrev fate_in : Name → Fate
   fate_in n = fate (world_of start v) (history v) n
 
-  mark_as : (n : Name) → mark_in start v n ≡ marked n.copy (message_sent start v n) (fate_in n)
+  mark_as : (n : Name) → mark_in start v n ≡ marked (world_of start v) n.copy (message_sent start v n) (fate_in n)
   mark_as n = mark_is (world_of start v) (history v) n
 
   to_made : (n : Name) (p : ℕ) → IsMadeAt (world_of start v) v.trace n p → IsMadeAt (world_of start v) (reverse (history v)) n p
@@ -103,23 +104,23 @@ module _ {start : ℕ → ℕ} {nodes : ℕ} {v : Log} {counts : List ℕ} {tabl
   agreed_spoken : (n : Name) (p : ℕ) → IsName v.setup n → n.copy ≡ 0 → IsSlotAt (world_of start v) v.trace n p → IsSpoken (message_sent start v n) (mark_in start v n)
   agreed_spoken n p l c s =
       let made = made_found (world_of start v) (history v) n p (to_made n p (Sent c s)) in
-      subst (λ z. IsSpoken (message_sent start v n) z) (sym (mark_as n ∙ ap (λ k. marked k (message_sent start v n) (fate_in n)) c))
-      (spoken_by (message_sent start v n) (fate_in n) made)
+      subst (λ z. IsSpoken (message_sent start v n) z) (sym (mark_as n ∙ ap (λ k. marked (world_of start v) k (message_sent start v n) (fate_in n)) c))
+      (spoken_by (world_of start v) (message_sent start v n) (fate_in n) made)
 
   agreed_unsent : (n : Name) → IsName v.setup n → ((p : ℕ) → IsMadeAt (world_of start v) v.trace n p → ⊥) → mark_in start v n ≡ mark.Unsent
   agreed_unsent n l none =
       mark_as n
-      ∙ ap (marked n.copy (message_sent start v n)) (unmade_found (world_of start v) (history v) n (λ a m. none a (subst (λ z. IsMadeAt (world_of start v) z n a) own_list m)))
+      ∙ ap (marked (world_of start v) n.copy (message_sent start v n)) (unmade_found (world_of start v) (history v) n (λ a m. none a (subst (λ z. IsMadeAt (world_of start v) z n a) own_list m)))
 
   agreed_uncopied : (n : Name) → IsName v.setup n → 0 < n.copy → message_sent start v n ≡ None → mark_in start v n ≡ mark.Unsent
   agreed_uncopied n l other none =
       let e : n.copy ≡ suc (n.copy - 1) = omega arith in
-      mark_as n ∙ ap (λ k. marked k (message_sent start v n) (fate_in n)) e ∙ silent_by (n.copy - 1) (message_sent start v n) (fate_in n) none
+      mark_as n ∙ ap (λ k. marked (world_of start v) k (message_sent start v n) (fate_in n)) e ∙ silent_by (world_of start v) (n.copy - 1) (message_sent start v n) (fate_in n) none
 
   flies_to : (n : Name) → mark_in start v n ≡ mark.Flying → IsInFlight start v n
   flies_to n e =
       let w = world_of start v in
-      let x = flying_by n.copy (message_sent start v n) (fate_in n) (sym (mark_as n) ∙ e) in
+      let x = flying_by w n.copy (message_sent start v n) (fate_in n) (sym (mark_as n) ∙ e) in
       let p : IsMoving w v.trace n = subst (λ z. IsMoving w z n) own_list (subst (λ (f : Fate). Placed w (reverse (history v)) n f) x.0 (placed w (history v) n)) in
       record { a = p.a; made = p.made; message = x.1; none = p.none }
 
@@ -128,8 +129,8 @@ module _ {start : ℕ → ℕ} {nodes : ℕ} {v : Log} {counts : List ℕ} {tabl
       let w = world_of start v in
       let p : IsMoving w v.trace n = record { a = f.a; made = f.made; none = f.none } in
       mark_as n
-      ∙ ap (marked n.copy (message_sent start v n)) (moving_found w (history v) n (subst (λ z. IsMoving w z n) (sym own_list) p))
-      ∙ flies_by n.copy (message_sent start v n) f.message
+      ∙ ap (marked w n.copy (message_sent start v n)) (moving_found w (history v) n (subst (λ z. IsMoving w z n) (sym own_list) p))
+      ∙ flies_by w n.copy (message_sent start v n) f.message
 
   buffered_to : (n : Name) → is_buffered (world_of start v) (history v) n ≡ true → IsInBuffer start v n
   buffered_to n e =

@@ -104,7 +104,7 @@ hushed_arrival n (suc k) = refl
 
 -- a release of it
 arrives : (w : World) (n : Name) (t : List Event) (first f : Fate) (m : Option (List Value)) → is_name n n ≡ true → makes w n (Release n) t first ≡ false
-    → as_count (is_waiting f && is_some m) + count_by (is_name n) (arrival n (marked n.copy m f)) ≡ as_count (is_waiting (after w n (Release n) t first f) && is_some m)
+    → as_count (is_waiting f && is_some m) + count_by (is_name n) (arrival n (marked w n.copy m f)) ≡ as_count (is_waiting (after w n (Release n) t first f) && is_some m)
 arrives w n t first Unmade m h k = rw k refl
 arrives w n t first Moving None h k = rw (h, hushed_arrival n n.copy) refl
 arrives w n t first Moving (Some m) h k = rw h refl

@@ -15,7 +15,7 @@ use Rattle.step_book.specs.declared.mark.Mark.TheVariants.{Unsent, Silent, Flyin
 use Rattle.step_book.specs.World.{World, nodes_of, is_receive}
 use Rattle.step_book.specs.Trace.{steps}
 use Rattle.step_book.specs.History.{arrival, copied, dropped, is_copied, is_flying, is_unsent}
-use Rattle.step_book.specs.History.{let_go, message, spoken, state}
+use Rattle.step_book.specs.History.{counted, let_go, message, spoken, state}
 use Rattle.step_book.specs.Agreement.{Row, place_of, Agrees, Waits, Accounts}
 use Rattle.step_book.specs.Tables.{Puts, SameTables, read_at}
 use Rattle.step_book.specs.Log.{CanCopy, Log, Recorded, IsBookOf, IsDue, IsSlot, IsFlying, world_of}
@@ -298,15 +298,15 @@ module _ {start : ℕ → ℕ} {nodes : ℕ} {v : Log} {counts : List ℕ} {tabl
   read n a = h.book.mark n (named start v n a)
 
   -- a copy in flight goes to those that wait
-  pub moved : (n : Name) (trace : List Event) (mk : List (List Mark)) (place : ℕ) (wt : List (List Name)) (hd : List (List (List Name))) (tl : List Bool) → IsName v.setup n → IsFlying start v n → place ≡ ((n.round - 1) * v.setup.nodes + n.from) * v.setup.nodes + n.to → trace ≡ v.trace ++ Release n ∷ [] → Puts Unsent tables mk n.copy place (Released (count_of v n.to)) → wt ≡ set waiting n.to (get_or waiting n.to [] ++ n ∷ []) → hd ≡ handed → tl ≡ answers ++ true ∷ [] → IsBookOf start nodes (record v { trace = trace }) counts mk wt hd tl messages
+  pub moved : (n : Name) (trace : List Event) (mk : List (List Mark)) (place : ℕ) (wt : List (List Name)) (hd : List (List (List Name))) (tl : List Bool) → IsName v.setup n → IsFlying start v n → place ≡ ((n.round - 1) * v.setup.nodes + n.from) * v.setup.nodes + n.to → trace ≡ v.trace ++ Release n ∷ [] → Puts Unsent tables mk n.copy place (Released (counted (world_of start v) (count_of v n.to))) → wt ≡ set waiting n.to (get_or waiting n.to [] ++ n ∷ []) → hd ≡ handed → tl ≡ answers ++ true ∷ [] → IsBookOf start nodes (record v { trace = trace }) counts mk wt hd tl messages
   moved n trace mk place wt hd tl a fly at e f g d i =
       let w = world_of start v in
       let arrives : arrival n (mark_in start v n) ≡ n ∷ [] = ap (arrival n) fly in
       noted (Release n) trace counts mk wt hd tl messages e
-      (keeps_network w h.plan (Release n) (history v) counts v.rows tables mk n (Released (count_of v n.to)) (named start v n a) (λ i. refl)
-      (sym (mark_release w h.plan (history v) n a.first a.last ∙ ap (let_go (count_of v n.to)) fly))
+      (keeps_network w h.plan (Release n) (history v) counts v.rows tables mk n (Released (counted w (count_of v n.to))) (named start v n a) (λ i. refl)
+      (sym (mark_release w h.plan (history v) n a.first a.last ∙ ap (let_go (counted w (count_of v n.to))) fly))
       (λ m b apart. released_other w h.plan (history v) n m b.first b.last apart)
-      (subst (λ (z : ℕ). Puts Unsent tables mk n.copy z (Released (count_of v n.to))) (place_in n place at) f) h.book)
+      (subst (λ (z : ℕ). Puts Unsent tables mk n.copy z (Released (counted w (count_of v n.to)))) (place_in n place at) f) h.book)
       (rw g (subst (λ (x : List Name). Waits w (Release n ∷ history v) (set waiting n.to (get_or waiting n.to [] ++ x))) arrives (waits_release w (history v) waiting n (one_of start v n.to a.to) h.waits)))
       (rw d (accounts_answer w (history v) handed answers tl (Release n) true (λ i. refl) (ap (λ (m : Mark). is_flying m ∷ []) fly) i h.accounts))
       (quietly (Release n) refl)
@@ -317,7 +317,7 @@ module _ {start : ℕ → ℕ} {nodes : ℕ} {v : Log} {counts : List ℕ} {tabl
       let w = world_of start v in
       noted (Release n) trace counts tables waiting handed tl messages e
       (keeps_network w h.plan (Release n) (history v) counts v.rows tables tables n (mark_in start v n) (named start v n a) (λ i. refl)
-      (sym (mark_release w h.plan (history v) n a.first a.last ∙ let_go_idle (count_of v n.to) (mark_in start v n) off))
+      (sym (mark_release w h.plan (history v) n a.first a.last ∙ let_go_idle (counted w (count_of v n.to)) (mark_in start v n) off))
       (λ m b apart. released_other w h.plan (history v) n m b.first b.last apart)
       (puts_same Unsent tables n.copy (place_of w n) (mark_in start v n) (read n a)) h.book)
       (waits_late w (history v) waiting n (arrival_idle n (mark_in start v n) off) h.waits)

@@ -48,16 +48,16 @@ hushed_lies : (k : ℕ) → hushed k ≡ mark.Flying → ⊥
 hushed_lies zero h = cc
 hushed_lies (suc k) h = cc
 
-flying_marked : (k : ℕ) (m : Option (List Value)) (f : Fate) → marked k m f ≡ mark.Flying → (f ≡ Unmade → ⊥) × (is_some m ≡ true)
-flying_marked k m Unmade h = cc
-flying_marked k None Moving h = absurd (hushed_lies k h)
-flying_marked k None (Waiting x) h = absurd (hushed_lies k h)
-flying_marked k None (Taken x c) h = absurd (hushed_lies k h)
-flying_marked k None Lost h = absurd (hushed_lies k h)
-flying_marked k (Some m) Moving h = (λ u. cc, refl)
-flying_marked k (Some m) (Waiting x) h = cc
-flying_marked k (Some m) (Taken x c) h = cc
-flying_marked k (Some m) Lost h = cc
+flying_marked : (w : World) (k : ℕ) (m : Option (List Value)) (f : Fate) → marked w k m f ≡ mark.Flying → (f ≡ Unmade → ⊥) × (is_some m ≡ true)
+flying_marked w k m Unmade h = cc
+flying_marked w k None Moving h = absurd (hushed_lies k h)
+flying_marked w k None (Waiting x) h = absurd (hushed_lies k h)
+flying_marked w k None (Taken x c) h = absurd (hushed_lies k h)
+flying_marked w k None Lost h = absurd (hushed_lies k h)
+flying_marked w k (Some m) Moving h = (λ u. cc, refl)
+flying_marked w k (Some m) (Waiting x) h = cc
+flying_marked w k (Some m) (Taken x c) h = cc
+flying_marked w k (Some m) Lost h = cc
 
 module _ {start : ℕ → ℕ} {nodes : ℕ} {v : Log} {counts : List ℕ} {tables : List (List Mark)} {waiting : List (List Name)} {handed : List (List (List Name))} {answers : List Bool} {messages : List Name} (h : IsBookOf start nodes v counts tables waiting handed answers messages) where
   -- the message of a copy in flight was sent
@@ -65,7 +65,7 @@ module _ {start : ℕ → ℕ} {nodes : ℕ} {v : Log} {counts : List ℕ} {tabl
   flying_sent n fly =
       let w = world_of start v in
       let t = history v in
-      let both = flying_marked n.copy (message w t n) _ (sym (mark_is w t n) ∙ fly) in
+      let both = flying_marked w n.copy (message w t n) _ (sym (mark_is w t n) ∙ fly) in
       record {
         slot = made_sent w t n both.0;
         said = both.1;

@@ -2,10 +2,10 @@
 use Rattle.std.proofs.Common.{◌≡◌, ℕ, zero, suc, ◌+◌, ◌-◌, ◌<◌, ◌≤◌, Bool, true, false, not, List}
 use Rattle.std.proofs.Common.{[], ◌∷◌, length, get_or, Option, Some, None, sym, refl, ap}
 use Rattle.std.proofs.Common.{if◌then◌else◌, ◌∙◌, arith, ◌⊎◌, inl, inr}
-use Rattle.std.specs.Prelude.{option_map}
+use Rattle.std.specs.Prelude.{◌&&◌, min, nat_le, nat_lt, option_map}
 use Rattle.std.specs.Option.{ForSome}
 use Rattle.std.specs.List.{filter_map, range_with_len}
-use Rattle.std.proofs.lemmas.Bool.{cases_lt}
+use Rattle.std.proofs.lemmas.Bool.{and_right, cases_lt, le-ltb}
 use Rattle.round_lang.specs.declared.value.Value.{Value}
 use Rattle.round_meaning.specs.declared.received.Received.{Received}
 use Rattle.round_meaning.specs.Rounds.{rounds, inbox, received}
@@ -14,15 +14,15 @@ use Rattle.step_machine.specs.declared.event.Name.{Name}
 use Rattle.step_machine.specs.Sealed.{Frame, held_at}
 use Rattle.step_machine.specs.Nodes.{inbox_of, IsFrom}
 use Rattle.step_book.specs.declared.mark.Mark.{Mark}
-use Rattle.step_book.specs.declared.mark.Mark.TheVariants.{Unsent}
+use Rattle.step_book.specs.declared.mark.Mark.TheVariants.{Released, Unsent}
 use Rattle.step_book.specs.Agreement.{Row, row, Agrees}
 use Rattle.step_book.specs.Fates.{Fate, Unmade, Moving, Waiting, Taken, Lost, carried, fate}
 use Rattle.step_book.specs.Fates.{some_copy}
-use Rattle.step_book.specs.History.{hushed, mark_of, marked, message, state}
+use Rattle.step_book.specs.History.{counted, hushed, mark_of, marked, message, state}
 use Rattle.step_book.specs.Trace.{steps}
 use Rattle.step_book.specs.Work.{AreCarried, Tag, any_within, heard_from, is_within, sent_name}
 use Rattle.step_book.specs.Work.{tag_by, tag_of}
-use Rattle.step_book.specs.World.{World, nodes_of, IsPlan, earliest}
+use Rattle.step_book.specs.World.{World, nodes_of, IsPlan, earliest, lies_near}
 use Rattle.step_book.proofs.Fates.{carried_is, copy_to, let_near, some_found, some_none, some_same}
 use Rattle.step_book.proofs.Kept.{end_same, mark_before, mark_is}
 use Rattle.step_book.proofs.Plans.{start_le}
@@ -40,38 +40,47 @@ hushed_within : (k first end : ℕ) → is_within (hushed k) first end ≡ false
 hushed_within zero first end = refl
 hushed_within (suc k) first end = refl
 
-silent_within : (k first end : ℕ) (f : Fate) → is_within (marked k None f) first end ≡ false
-silent_within k first end Unmade = refl
-silent_within k first end Moving = hushed_within k first end
-silent_within k first end (Waiting x) = hushed_within k first end
-silent_within k first end (Taken x c) = hushed_within k first end
-silent_within k first end Lost = hushed_within k first end
+silent_within : (w : World) (k first end : ℕ) (f : Fate) → is_within (marked w k None f) first end ≡ false
+silent_within w k first end Unmade = refl
+silent_within w k first end Moving = hushed_within k first end
+silent_within w k first end (Waiting x) = hushed_within k first end
+silent_within w k first end (Taken x c) = hushed_within k first end
+silent_within w k first end Lost = hushed_within k first end
 
-near_within : (w : World) (k r : ℕ) (m : List Value) (f : Fate) → is_within (marked k (Some m) f) (w.start (earliest r)) (w.start (r + 1)) ≡ let_near w r f
-near_within w k r m Unmade = refl
-near_within w k r m Moving = refl
-near_within w k r m (Waiting x) = refl
-near_within w k r m (Taken x c) = refl
-near_within w k r m Lost = refl
+-- a count as marks keep it lies below a step of a round where the count itself does
+counted_within : (x end first past : ℕ) → past ≤ end → (end < x) ⊎ (x ≤ end) → (nat_le first (min x end) && nat_lt (min x end) past) ≡ (nat_le first x && nat_lt x past)
+counted_within x end first past l (inr low) = let e : min x end ≡ x = omega arith in rw e refl
+counted_within x end first past l (inl high) =
+    and_right _ _ (le-ltb (min x end) past (omega arith)) ∙ sym (and_right _ _ (le-ltb x past (omega arith)))
 
-heard_pure : (w : World) (j i q : ℕ) (s : List Value) (m : Option (List Value)) (f : ℕ → Fate)
+counted_near : (w : World) → IsPlan w → (r x : ℕ) → r ≤ w.rounds → is_within (Released (counted w x)) (w.start (earliest r)) (w.start (r + 1)) ≡ lies_near w r x
+counted_near w p r x l = counted_within x (w.start (w.rounds + 1)) (w.start (earliest r)) (w.start (r + 1)) (start_le w p (r + 1) (w.rounds + 1) (omega arith) (omega arith)) (cases_lt _ _)
+
+near_within : (w : World) → IsPlan w → (k r : ℕ) (m : List Value) (f : Fate) → r ≤ w.rounds → is_within (marked w k (Some m) f) (w.start (earliest r)) (w.start (r + 1)) ≡ let_near w r f
+near_within w p k r m Unmade l = refl
+near_within w p k r m Moving l = refl
+near_within w p k r m (Waiting x) l = counted_near w p r x l
+near_within w p k r m (Taken x c) l = counted_near w p r x l
+near_within w p k r m Lost l = refl
+
+heard_pure : (w : World) → IsPlan w → (j i q : ℕ) (s : List Value) (m : Option (List Value)) (f : ℕ → Fate) → suc q ≤ w.rounds
     → ◌≡◌ {A = Option Tag} (if some_copy (λ k. let_near w (suc q) (f k)) then tag_by m (sent_name j i (suc q)) s else None)
-    (if some_copy (λ k. is_within (marked k m (f k)) (w.start (earliest (suc q))) (w.start (suc q + 1))) then Some (tagged j i q s) else None)
-heard_pure w j i q s None f =
+    (if some_copy (λ k. is_within (marked w k m (f k)) (w.start (earliest (suc q))) (w.start (suc q + 1))) then Some (tagged j i q s) else None)
+heard_pure w p j i q s None f l =
     either (some_copy (λ k. let_near w (suc q) (f k))) None
-    ∙ sym (ap (λ (b : Bool). if b then Some (tagged j i q s) else None) (some_none _ (λ k l. silent_within k (w.start (earliest (suc q))) (w.start (suc q + 1)) (f k))))
-heard_pure w j i q s (Some m) f =
-    sym (ap (λ (b : Bool). if b then Some (tagged j i q s) else None) (some_same _ _ (λ k. near_within w k (suc q) m (f k))))
+    ∙ sym (ap (λ (b : Bool). if b then Some (tagged j i q s) else None) (some_none _ (λ k l. silent_within w k (w.start (earliest (suc q))) (w.start (suc q + 1)) (f k))))
+heard_pure w p j i q s (Some m) f l =
+    sym (ap (λ (b : Bool). if b then Some (tagged j i q s) else None) (some_same _ _ (λ k. near_within w p k (suc q) m (f k) l)))
 
 -- what is within, by the marks of all copies
-within_is : (w : World) (t : List Event) (j i q first end : ℕ) → any_within (λ k. mark_of w t (copy_to j i (suc q) k)) first end ≡ some_copy (λ k. is_within (marked k (message w t (sent_name j i (suc q))) (fate w t (copy_to j i (suc q) k))) first end)
+within_is : (w : World) (t : List Event) (j i q first end : ℕ) → any_within (λ k. mark_of w t (copy_to j i (suc q) k)) first end ≡ some_copy (λ k. is_within (marked w k (message w t (sent_name j i (suc q))) (fate w t (copy_to j i (suc q) k))) first end)
 within_is w t j i q first end = some_same _ _ (λ k. ap (λ m. is_within m first end) (mark_is w t (copy_to j i (suc q) k)))
 
 -- once the round is past, what was carried to it is told by the marks
 pub heard_is : (w : World) → IsPlan w → (t : List Event) (i q j : ℕ) → suc q ≤ w.rounds → w.start (suc q + 1) ≤ steps i t → heard_from w t i q j ≡ (if any_within (λ k. mark_of w t (copy_to j i (suc q) k)) (w.start (earliest (suc q))) (w.start (suc q + 1)) then Some (tagged j i q (state w t q j)) else None)
 heard_is w p t i q j l n =
     ap (λ c. if c then tag_by (message w t (sent_name j i (suc q))) (sent_name j i (suc q)) (state w t q j) else None) (carried_is w p i (suc q) j t (omega arith) l n)
-    ∙ heard_pure w j i q (state w t q j) (message w t (sent_name j i (suc q))) (λ k. fate w t (copy_to j i (suc q) k))
+    ∙ heard_pure w p j i q (state w t q j) (message w t (sent_name j i (suc q))) (λ k. fate w t (copy_to j i (suc q) k)) l
     ∙ sym (ap (λ (b : Bool). if b then Some (tagged j i q (state w t q j)) else None) (within_is w t j i q (w.start (earliest (suc q))) (w.start (suc q + 1))))
 
 -- the sender of what was released has closed the rounds before

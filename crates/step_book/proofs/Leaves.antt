@@ -10,7 +10,7 @@ use Rattle.step_machine.specs.declared.event.Name.{Name}
 use Rattle.step_book.specs.declared.mark.Mark.{Mark}
 use Rattle.step_book.specs.declared.mark.Mark.TheVariants.{Unsent}
 use Rattle.step_book.specs.World.{is_receive}
-use Rattle.step_book.specs.History.{arrival, buffer_of, copied, dropped, let_go, mark_of, spoken}
+use Rattle.step_book.specs.History.{arrival, buffer_of, copied, counted, dropped, let_go, mark_of, spoken}
 use Rattle.step_book.specs.Log.{Log, IsBookOf, IsDue, IsSlot, IsReceive, SameMarks, SameMarksBut}
 use Rattle.step_book.specs.Log.{SameWaiting, SameWaitingBut, happened, world_of, history, round_of}
 use Rattle.step_book.specs.Log.{count_of, mark_in, waiting_in}
@@ -88,7 +88,7 @@ module _ {start : ℕ → ℕ} {nodes : ℕ} {v : Log} {counts : List ℕ} {tabl
 
   -- ---- a release
 
-  pub released_mark : (n : Name) → IsName v.setup n → mark_in start (happened v (Release n)) n ≡ let_go (count_of v n.to) (mark_in start v n)
+  pub released_mark : (n : Name) → IsName v.setup n → mark_in start (happened v (Release n)) n ≡ let_go (counted (world_of start v) (count_of v n.to)) (mark_in start v n)
   released_mark n a =
       ap (λ t. mark_of (world_of start v) t n) (happened_first v (Release n)) ∙ mark_release (world_of start v) h.plan (history v) n a.first a.last
 

@@ -1,7 +1,7 @@
 -- Frames in pieces, as they are read, added and taken.
 use Rattle.std.proofs.Common.{◌≡◌, ℕ, zero, suc, ◌+◌, ◌-◌, ◌*◌, ◌<◌, ◌≤◌, List, [], ◌∷◌, ◌++◌}
-use Rattle.std.proofs.Common.{append-nil, append_assoc, arith, get_or, length, ap, sym, subst, ◌∙◌, refl}
-use Rattle.std.specs.Prelude.{All, Option, None, Some, Vec, option_map, slice_get}
+use Rattle.std.proofs.Common.{append-nil, append_assoc, arith, length, ap, sym, ◌∙◌, refl}
+use Rattle.std.specs.Prelude.{Option, None, Some, Vec, option_map, slice_get}
 use Rattle.std.specs.List.{ItemBy, flat_map}
 use Rattle.std.proofs.lemmas.Option.{none-some, same_Some, slice_get_past, slice_get_read}
 use Rattle.std.proofs.lemmas.Grind.{flat_map-append}

@@ -26,6 +26,16 @@ receives_by_before w p (suc n) q x l h =
     let off : ltb x (w.start (suc n + 1)) ≡ false = le-ltb x (w.start (suc n + 1)) (omega arith) in
     rw (receives_by_before w p n q x (omega arith) h) (and_right (leb (w.start (suc n) + nodes_of w) x) (ltb x (w.start (suc n + 1))) off)
 
+-- no step past the last round is a receive
+pub receive_early : (w : World) → IsPlan w → (x : ℕ) → is_receive w x ≡ true → x < w.start (w.rounds + 1)
+receive_early w p x h = by (cases_lt x (w.start (w.rounds + 1)))
+  where
+    by : (x < w.start (w.rounds + 1)) ⊎ (w.start (w.rounds + 1) ≤ x) → x < w.start (w.rounds + 1)
+    by (inl early) = early
+    by (inr past) =
+        let off : is_receive w x ≡ false = receives_by_before w p w.rounds (w.rounds + 1) x (omega arith) past in
+        cc
+
 -- the newest round is q, or one after it
 receives_by_more : (w : World) → IsPlan w → (n q x : ℕ) → 0 < q → q ≤ suc n → w.start q ≤ x → x < w.start (q + 1) → (n < q) ⊎ (q ≤ n) → (q ≤ n → receives_by w n x ≡ leb (w.start q + nodes_of w) x) → receives_by w (suc n) x ≡ leb (w.start q + nodes_of w) x
 receives_by_more w p n q x z l h k (inl new) ih =

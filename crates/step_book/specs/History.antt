@@ -1,6 +1,6 @@
 -- What a history says of the run in rounds, and of each message.
-use Rattle.std.specs.Prelude.{ℕ, zero, suc, ◌-◌, Bool, true, false, not, ◌&&◌, ◌==◌, if◌then◌else◌}
-use Rattle.std.specs.Prelude.{List, [], ◌∷◌, ◌++◌, Option, Some, None, is_some}
+use Rattle.std.specs.Prelude.{ℕ, zero, suc, ◌+◌, ◌-◌, Bool, true, false, not, ◌&&◌, ◌==◌}
+use Rattle.std.specs.Prelude.{if◌then◌else◌, List, [], ◌∷◌, ◌++◌, Option, Some, None, is_some, min}
 use Rattle.round_lang.specs.declared.value.Value.{Value}
 use Rattle.round_meaning.specs.Rounds.{rounds}
 use Rattle.step_book.specs.declared.mark.Mark.{Mark}
@@ -30,21 +30,25 @@ abbrev pub hushed : ℕ → Mark
 hushed zero = mark.Silent
 hushed (suc k) = mark.Unsent
 
+-- a node's step count, or that of its first step past the last round: none later is told apart
+abbrev pub counted : World → ℕ → ℕ
+counted w x = min x (w.start (w.rounds + 1))
+
 -- what is to be marked of copy k, by what is said and what became of it
-abbrev pub marked : ℕ → Option (List Value) → Fate → Mark
-marked k m Unmade = mark.Unsent
-marked k None Moving = hushed k
-marked k None (Waiting x) = hushed k
-marked k None (Taken x c) = hushed k
-marked k None Lost = hushed k
-marked k (Some m) Moving = mark.Flying
-marked k (Some m) (Waiting x) = mark.Released x
-marked k (Some m) (Taken x c) = mark.Released x
-marked k (Some m) Lost = mark.Lost
+abbrev pub marked : World → ℕ → Option (List Value) → Fate → Mark
+marked w k m Unmade = mark.Unsent
+marked w k None Moving = hushed k
+marked w k None (Waiting x) = hushed k
+marked w k None (Taken x c) = hushed k
+marked w k None Lost = hushed k
+marked w k (Some m) Moving = mark.Flying
+marked w k (Some m) (Waiting x) = mark.Released (counted w x)
+marked w k (Some m) (Taken x c) = mark.Released (counted w x)
+marked w k (Some m) Lost = mark.Lost
 
 -- what is to be marked under a name
 unfoldable pub mark_of : World → List Event → Name → Mark
-mark_of w t n = marked n.copy (message w t n) (fate w t n)
+mark_of w t n = marked w n.copy (message w t n) (fate w t n)
 
 -- what a release adds to its receiver's buffer: the copy, where it was in flight
 abbrev pub arrival : Name → Mark → List Name
@@ -72,7 +76,7 @@ abbrev pub spoken : Option (List Value) → Mark
 spoken None = mark.Silent
 spoken (Some m) = mark.Flying
 
--- what is marked after a release, when the receiver has taken x steps
+-- what is marked after a release, when the receiver's steps count as x
 abbrev pub let_go : ℕ → Mark → Mark
 let_go x mark.Unsent = mark.Unsent
 let_go x mark.Silent = mark.Silent

@@ -10,8 +10,8 @@ ghost use Rattle.step_book.specs.Agreement.{IsBuffer, row};
 ghost use Rattle.step_book.specs.Causes.{CloseCause, IdleCause, IsDueIn, EndsAsRecorded};
 ghost use Rattle.step_book.specs.Causes.{IsReceiveFit, IsSendFit, ReceiveCause, SendCause};
 ghost use Rattle.step_book.specs.Flight.{IsFlight, IsFlightBefore};
-ghost use Rattle.step_book.specs.History.{answers_of, arrival, copied, dropped, handed_of, let_go};
-ghost use Rattle.step_book.specs.History.{spoken};
+ghost use Rattle.step_book.specs.History.{answers_of, arrival, copied, counted, dropped};
+ghost use Rattle.step_book.specs.History.{handed_of, let_go, spoken};
 ghost use Rattle.step_book.specs.Log.{CanCopy, HasNoCopy, IsDue, IsFaithful, IsFlying, IsLeastCopy};
 ghost use Rattle.step_book.specs.Log.{IsReceive, SameMarks};
 ghost use Rattle.step_book.specs.Log.{SameMarksBut, SameWaiting, SameWaitingBut, closed, count_of};
@@ -24,7 +24,7 @@ ghost use Rattle.step_book.specs.Work.{AreCarried, any_within, heard_from, is_wi
 
 use crate::fault::{CloseFault, IdleFault, ReceiveFault, SendFault};
 use crate::mail::Mail;
-use crate::mark::{Mark, released};
+use crate::mark::Mark;
 use crate::marks::Marks;
 use crate::notes::{note_answer, note_close, note_receive, note_release, note_send, note_step};
 use crate::opening::{first_rows, no_mail, no_steps};
@@ -349,9 +349,20 @@ impl<P: Plan> Book<P> {
         requires first { 0 < round }
         requires last { round ≤ self.now.log.setup.rounds + 1 }
         ensures value { result ≡ P.start self.now.plan round }
-        ensures small { result < 2 ^ 32 }
+        ensures small { result < 2 ^ 31 }
     {
         u64::from(self.plan.start(round))
+    }
+
+    /// How many steps a node has taken, as marks keep it: at most as many as the rounds have, since
+    /// later ones receive nothing.
+    fn counted(&self, node: u32) -> u64
+        requires { node < self.now.log.setup.nodes }
+        ensures value { result ≡ counted (world_of (P.start self.now.plan) self.now.log)
+            (count_of self.now.log node) }
+        ensures small { result < 2 ^ 31 }
+    {
+        self.count_of(node).min(self.start(self.setup.rounds + 1))
     }
 
     /// Whether a round of the node is due and isn't closed.
@@ -501,8 +512,7 @@ impl<P: Plan> Book<P> {
         Ok(())
     }
 
-    /// A release by the network: true where a copy went from flight to those that wait. A receiver
-    /// that has taken 4,294,967,292 steps or more counts as out of memory.
+    /// A release by the network: true where a copy went from flight to those that wait.
     #[inline(always)]
     pub fn release(&mut self, name: Name) -> Result<bool, NoMemory>
         requires { IsName self.old.log.setup name }
@@ -512,8 +522,8 @@ impl<P: Plan> Book<P> {
         ensures moved { IfOk result (λ moved. IsTrue moved
             ↔ IsFlying (P.start self.old.plan) self.old.log name) }
         ensures released { OnOk result (mark_in (P.start self.old.plan) self.new.log name
-            ≡ let_go (count_of self.old.log name.to)
-            (mark_in (P.start self.old.plan) self.old.log name)) }
+            ≡ let_go (counted (world_of (P.start self.old.plan) self.old.log)
+            (count_of self.old.log name.to)) (mark_in (P.start self.old.plan) self.old.log name)) }
         ensures marks { OnOk result
             (SameMarksBut (P.start self.old.plan) name self.old.log self.new.log) }
         ensures arrived { OnOk result (waiting_in (P.start self.old.plan) self.new.log name.to
@@ -524,9 +534,8 @@ impl<P: Plan> Book<P> {
         ensures kept { OnOk result (KeepsClosed (P.start self.old.plan) self.old.log self.new.log) }
     {
         let place = self.place(name);
-        let count = self.count_of(name.to);
         if self.is_flying(name) {
-            let mark = released(count)?;
+            let mark = Mark::Released(self.counted(name.to));
             note_release(
                 &mut self.trace,
                 &mut self.answers,

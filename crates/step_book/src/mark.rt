@@ -1,14 +1,13 @@
 //! What is recorded of messages.
-ghost use Rattle.std.specs.Prelude.{◌≡◌, IfOk, OnErr};
-ghost use Rattle.step_book.specs.declared.mark.Mark.TheVariants.{Released};
+ghost use Rattle.std.specs.Prelude.{◌≡◌};
 ghost use Rattle.step_book.specs.Stored.{IsShort, mark_by};
 
-use round_lang::NoMemory;
 use std::marker::Model;
 
 /// What became of a copy of a message: it wasn't made, since its slot or its copying hasn't come;
 /// its sender was silent; it's in flight; it was released when its receiver had taken so many
-/// steps; or it was dropped.
+/// steps; or it was dropped. The number of steps stops at that of all rounds together: past the
+/// last round no release is told from another.
 #[derive(Clone, Copy, PartialEq, Eq, Debug)]
 pub enum Mark {
     Unsent,
@@ -58,19 +57,6 @@ impl StoredMark {
     {
         mark_by(self.code)
     }
-}
-
-/// The mark of a release before the receiver's next step, unless its count of steps is too large.
-#[inline(always)]
-pub(crate) fn released(count: u64) -> Result<Mark, NoMemory>
-    ensures value { IfOk result (λ mark. mark ≡ Released count) }
-    ensures short { IfOk result IsShort }
-    ensures large { OnErr result (¬ IsShort (Released count)) }
-{
-    if count > u64::from(u32::MAX - FIRST_RELEASED) {
-        return Err(NoMemory);
-    }
-    Ok(Mark::Released(count))
 }
 
 /// The mark of a code.

@@ -1,5 +1,5 @@
 //! The marks of a run's messages.
-ghost use Rattle.std.specs.Prelude.{◌≡◌, ◌<◌, ◌≤◌, [], OnOk, length, vec_len};
+ghost use Rattle.std.specs.Prelude.{◌≡◌, ◌<◌, ◌≤◌, [], IsTrue, OnOk, length, vec_len};
 ghost use Rattle.step_book.specs.declared.mark.Mark.TheVariants.{Unsent};
 ghost use Rattle.step_book.specs.Stored.{IsShort};
 ghost use Rattle.step_book.specs.Tables.{HasPlace, Puts, SameTable, SameTables, read_at, tables_of};
@@ -8,6 +8,9 @@ use crate::mark::{Mark, StoredMark};
 use round_lang::NoMemory;
 use std::alloc::Global;
 use std::marker::Model;
+
+/// How many marks a table gets at once.
+const MARKS_AHEAD: usize = 256;
 
 /// The marks of all copies of all messages: a table for each copy number, which grows with the
 /// rounds, so that those of copies that were never made take no memory.
@@ -58,6 +61,30 @@ impl Marks {
         ensures room { OnOk result (HasPlace self.new copy place) }
         ensures same { SameTables Unsent self.old self.new }
     {
+        if self.has_place(copy, place) {
+            return Ok(());
+        }
+        self.grow(copy, place)
+    }
+
+    /// Whether a place is in a copy's table.
+    #[inline(always)]
+    fn has_place(&self, copy: u32, place: usize) -> bool
+        ensures { IsTrue result → HasPlace self.now copy place }
+    {
+        match self.tables.get(copy as usize) {
+            Some(table) => place < table.len(),
+            None => false,
+        }
+    }
+
+    /// Makes the table of a copy longer than a place, with some marks ahead. It stands apart, since
+    /// that is rare.
+    #[inline(never)]
+    fn grow(&mut self, copy: u32, place: usize) -> Result<(), NoMemory>
+        ensures room { OnOk result (HasPlace self.new copy place) }
+        ensures same { SameTables Unsent self.old self.new }
+    {
         add_tables(self.alloc, &mut self.tables, copy as usize)?;
         grow(&mut self.tables[copy as usize], place)
     }
@@ -74,7 +101,6 @@ impl Marks {
 }
 
 /// Adds empty tables until the copy has one.
-#[inline(always)]
 fn add_tables(alloc: Global, tables: &mut Vec<Vec<StoredMark>>, copy: usize) -> Result<(), NoMemory>
     ensures there { OnOk result (copy < vec_len tables.new) }
     ensures same { SameTables Unsent (tables_of tables.old.items) (tables_of tables.new.items) }
@@ -85,13 +111,12 @@ fn add_tables(alloc: Global, tables: &mut Vec<Vec<StoredMark>>, copy: usize) -> 
     Ok(())
 }
 
-/// Makes a table longer than a place.
-#[inline(always)]
+/// Makes a table longer than a place, with some marks ahead.
 fn grow(marks: &mut Vec<StoredMark>, place: usize) -> Result<(), NoMemory>
     ensures long { OnOk result (place < vec_len marks.new) }
     ensures same { SameTable Unsent marks.old.items marks.new.items }
 {
-    while marks.len() <= place {
+    while marks.len() <= place || marks.len() < place.saturating_add(MARKS_AHEAD) {
         marks.push(StoredMark::new(Mark::Unsent))?;
     }
     Ok(())

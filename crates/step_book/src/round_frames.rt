@@ -53,10 +53,10 @@ impl RoundFrames {
         ensures room { OnOk result (place < length self.new) }
         ensures same { SameTable None self.old self.new }
     {
-        if self.frames.is_empty() {
-            self.frames.reserve(nodes)?;
+        if place < self.frames.len() {
+            return Ok(());
         }
-        grow(&mut self.frames, place)
+        grow(&mut self.frames, nodes, place)
     }
 
     /// Puts a frame at a place.
@@ -85,13 +85,15 @@ impl RoundFrames {
     }
 }
 
-/// Makes a table longer than a place.
-#[inline(always)]
-fn grow(frames: &mut Vec<FramePlace>, place: usize) -> Result<(), NoMemory>
+/// Makes a table longer than a place, and gives it a place for each node at once. It stands apart,
+/// since that is rare.
+#[inline(never)]
+fn grow(frames: &mut Vec<FramePlace>, nodes: usize, place: usize) -> Result<(), NoMemory>
     ensures long { OnOk result (place < vec_len frames.new) }
     ensures same { SameTable None frames.old.items frames.new.items }
 {
-    while frames.len() <= place {
+    frames.reserve(nodes)?;
+    while frames.len() <= place || frames.len() < nodes {
         frames.push(FramePlace::free())?;
     }
     Ok(())

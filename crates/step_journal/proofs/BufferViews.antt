@@ -22,7 +22,7 @@ use Rattle.step_book.specs.declared.mark.Mark.{Mark}
 use Rattle.step_book.specs.declared.mark.Mark.TheVariants.{Unsent, Silent, Flying, Released, Lost}
 use Rattle.step_book.specs.Agreement.{Row, row}
 use Rattle.step_book.specs.Trace.{steps}
-use Rattle.step_book.specs.History.{arrival, buffer_of, copied, dropped, let_go, spoken}
+use Rattle.step_book.specs.History.{arrival, buffer_of, copied, counted, dropped, let_go, spoken}
 use Rattle.step_book.specs.Log.{CanCopy, Log, Recorded, IsFlying, SameMarks, SameMarksBut}
 use Rattle.step_book.specs.Log.{SameWaiting, SameWaitingBut, closed, count_of, end_state, happened}
 use Rattle.step_book.specs.Log.{mark_in, opened, round_of, waiting_in, world_of}
@@ -317,15 +317,15 @@ module _ {start : ℕ → ℕ} {v : Log} {bs : List BufferView} (f : Fits start 
       flies_same (algorithm_of v.program v.setup) v.rows n _ Flying _ _ (sym fly) (ap (λ (b : BufferView). flying_at b n.round (place_among v.setup.nodes n)) (sym was)) (f.flying n a)
 
   -- a copy in flight goes to those that wait
-  pub fits_move : (n : Name) (old new : BufferView) → IsName v.setup n → IsFlying start v n → old ≡ get_or bs n.to old → IsSameRun old new → Puts None old.flying new.flying n.round (place_among v.setup.nodes n) None → new.waiting ≡ old.waiting ++ option_to_list (flying_at old n.round (place_among v.setup.nodes n)) → mark_in start (happened v (Release n)) n ≡ let_go (count_of v n.to) (mark_in start v n) → SameMarksBut start n v (happened v (Release n)) → waiting_in start (happened v (Release n)) n.to ≡ waiting_in start v n.to ++ arrival n (mark_in start v n) → SameWaitingBut start n.to v (happened v (Release n)) → Fits start (happened v (Release n)) (set bs n.to new)
+  pub fits_move : (n : Name) (old new : BufferView) → IsName v.setup n → IsFlying start v n → old ≡ get_or bs n.to old → IsSameRun old new → Puts None old.flying new.flying n.round (place_among v.setup.nodes n) None → new.waiting ≡ old.waiting ++ option_to_list (flying_at old n.round (place_among v.setup.nodes n)) → mark_in start (happened v (Release n)) n ≡ let_go (counted (world_of start v) (count_of v n.to)) (mark_in start v n) → SameMarksBut start n v (happened v (Release n)) → waiting_in start (happened v (Release n)) n.to ≡ waiting_in start v n.to ++ arrival n (mark_in start v n) → SameWaitingBut start n.to v (happened v (Release n)) → Fits start (happened v (Release n)) (set bs n.to new)
   fits_move n old new a fly h r puts d mark marks names waits =
       let a0 = algorithm_of v.program v.setup in
       let was : buffer_at bs n.to ≡ old = buffer_read bs n.to old (let s = f.sized in let t = a.to in omega arith) h in
       let there = frame_there n old a fly h in
-      let released : mark_in start (happened v (Release n)) n ≡ Released (count_of v n.to) = mark ∙ ap (let_go (count_of v n.to)) fly in
+      let released : mark_in start (happened v (Release n)) n ≡ Released (counted (world_of start v) (count_of v n.to)) = mark ∙ ap (let_go (counted (world_of start v) (count_of v n.to))) fly in
       let arrived = arrives a0 v.rows n old.waiting (flying_at old n.round (place_among v.setup.nodes n)) there in
       fits_mark (Release n) n old new None a h r puts marks
-      (flies_same a0 v.rows n (Released (count_of v n.to)) _ None None released refl refl)
+      (flies_same a0 v.rows n (Released (counted (world_of start v) (count_of v n.to))) _ None None released refl refl)
       (ap names_in d ∙ arrived.0 ∙ ap (λ x. x ++ n ∷ []) (ap (λ (b : BufferView). names_in b.waiting) (sym was) ∙ f.waiting n.to a.to) ∙ ap (λ x. waiting_in start v n.to ++ arrival n x) (sym fly) ∙ sym names)
       (All-same (IsGenuine a0 v.rows) _ _ d (arrived.1 (All-same (IsGenuine a0 v.rows) _ _ (ap (λ (b : BufferView). b.waiting) (sym was)) (f.genuine n.to a.to))))
       waits
@@ -351,9 +351,9 @@ module _ {start : ℕ → ℕ} {v : Log} {bs : List BufferView} (f : Fits start 
       same m b (inr apart) = marks m b apart
 
   -- what isn't in flight doesn't move
-  pub fits_let_be : (n : Name) → (IsFlying start v n → ⊥) → mark_in start (happened v (Release n)) n ≡ let_go (count_of v n.to) (mark_in start v n) → SameMarksBut start n v (happened v (Release n)) → waiting_in start (happened v (Release n)) n.to ≡ waiting_in start v n.to ++ arrival n (mark_in start v n) → SameWaitingBut start n.to v (happened v (Release n)) → Fits start (happened v (Release n)) bs
+  pub fits_let_be : (n : Name) → (IsFlying start v n → ⊥) → mark_in start (happened v (Release n)) n ≡ let_go (counted (world_of start v) (count_of v n.to)) (mark_in start v n) → SameMarksBut start n v (happened v (Release n)) → waiting_in start (happened v (Release n)) n.to ≡ waiting_in start v n.to ++ arrival n (mark_in start v n) → SameWaitingBut start n.to v (happened v (Release n)) → Fits start (happened v (Release n)) bs
   fits_let_be n off mark marks names waits =
-      fits_idle (Release n) n (mark ∙ let_go_idle (count_of v n.to) (mark_in start v n) off) marks (λ i. wait i (cases_eq i n.to))
+      fits_idle (Release n) n (mark ∙ let_go_idle (counted (world_of start v) (count_of v n.to)) (mark_in start v n) off) marks (λ i. wait i (cases_eq i n.to))
     where
       wait : (i : ℕ) → (i ≡ n.to) ⊎ (i ≡ n.to → ⊥) → waiting_in start (happened v (Release n)) i ≡ waiting_in start v i
       wait i (inl is) =
@@ -403,7 +403,7 @@ module _ {start : ℕ → ℕ} {v : Log} {bs : List BufferView} (f : Fits start 
       fits_silent (fits_kept f n.to b0 b1 (let t = a.to in omega arith) h0 r0 same wait) p.name before (mark ∙ ap spoken (silence p (sym is ∙ none))) marks waits
 
   -- a release of what is in flight, from the room that was made
-  pub fits_moved : (n : Name) (place : ℕ) (b0 b1 b2 b3 : BufferView) → IsName v.setup n → IsFlying start v n → place ≡ place_among v.setup.nodes n → b0 ≡ get_or bs n.to b0 → IsSameRun b0 b1 → b1.flying ≡ b0.flying → b1.waiting ≡ b0.waiting → b2 ≡ get_or (set bs n.to b1) n.to b2 → IsSameRun b2 b3 → Puts None b2.flying b3.flying n.round place None → b3.waiting ≡ b2.waiting ++ option_to_list (flying_at b2 n.round place) → mark_in start (happened v (Release n)) n ≡ let_go (count_of v n.to) (mark_in start v n) → SameMarksBut start n v (happened v (Release n)) → waiting_in start (happened v (Release n)) n.to ≡ waiting_in start v n.to ++ arrival n (mark_in start v n) → SameWaitingBut start n.to v (happened v (Release n)) → Fits start (happened v (Release n)) (set (set bs n.to b1) n.to b3)
+  pub fits_moved : (n : Name) (place : ℕ) (b0 b1 b2 b3 : BufferView) → IsName v.setup n → IsFlying start v n → place ≡ place_among v.setup.nodes n → b0 ≡ get_or bs n.to b0 → IsSameRun b0 b1 → b1.flying ≡ b0.flying → b1.waiting ≡ b0.waiting → b2 ≡ get_or (set bs n.to b1) n.to b2 → IsSameRun b2 b3 → Puts None b2.flying b3.flying n.round place None → b3.waiting ≡ b2.waiting ++ option_to_list (flying_at b2 n.round place) → mark_in start (happened v (Release n)) n ≡ let_go (counted (world_of start v) (count_of v n.to)) (mark_in start v n) → SameMarksBut start n v (happened v (Release n)) → waiting_in start (happened v (Release n)) n.to ≡ waiting_in start v n.to ++ arrival n (mark_in start v n) → SameWaitingBut start n.to v (happened v (Release n)) → Fits start (happened v (Release n)) (set (set bs n.to b1) n.to b3)
   fits_moved n place b0 b1 b2 b3 a fly at h0 r0 same wait h2 r2 e d mark marks names waits =
       let kept = fits_kept f n.to b0 b1 a.to h0 r0 (λ c k. ap (λ (x : List (List (Option Frame))). read_at None x c k) same) wait in
       fits_move kept n b2 b3 a fly h2 r2 (subst (λ (z : ℕ). Puts None b2.flying b3.flying n.round z None) at e) (d ∙ ap (λ k. b2.waiting ++ option_to_list (flying_at b2 n.round k)) at) mark marks names waits

@@ -9,7 +9,7 @@ ghost use Rattle.step_book.specs.Agreement.{IsBuffer};
 ghost use Rattle.step_book.specs.Causes.{CloseCause, IdleCause, IsDueIn, EndsAsRecorded};
 ghost use Rattle.step_book.specs.Causes.{IsReceiveFit, IsSendFit, ReceiveCause, SendCause};
 ghost use Rattle.step_book.specs.Flight.{IsFlight};
-ghost use Rattle.step_book.specs.History.{arrival, copied, dropped, let_go, spoken};
+ghost use Rattle.step_book.specs.History.{arrival, copied, counted, dropped, let_go, spoken};
 ghost use Rattle.step_book.specs.Log.{CanCopy, IsFlying, SameMarks, SameMarksBut, SameWaiting};
 ghost use Rattle.step_book.specs.Log.{SameWaitingBut, closed, count_of, happened, history, mark_in};
 ghost use Rattle.step_book.specs.Log.{opened, round_of, waiting_in, world_of};
@@ -320,8 +320,8 @@ impl<P: Plan> Journal<P> {
         ensures moved { IfOk result (λ moved. IsTrue moved
             ↔ IsFlying (P.start self.old.plan) self.old.log name) }
         ensures released { OnOk result (mark_in (P.start self.old.plan) self.new.log name
-            ≡ let_go (count_of self.old.log name.to)
-            (mark_in (P.start self.old.plan) self.old.log name)) }
+            ≡ let_go (counted (world_of (P.start self.old.plan) self.old.log)
+            (count_of self.old.log name.to)) (mark_in (P.start self.old.plan) self.old.log name)) }
         ensures marks { OnOk result
             (SameMarksBut (P.start self.old.plan) name self.old.log self.new.log) }
         ensures arrived { OnOk result (waiting_in (P.start self.old.plan) self.new.log name.to

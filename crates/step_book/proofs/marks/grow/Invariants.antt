@@ -7,4 +7,4 @@ abbrev pub invariant-loop-marks : goal.invariant-loop-marks
 invariant-loop-marks l = SameTable Unsent l.fn.marks.items l.marks.items
 
 abbrev pub decreases-loop-marks : goal.decreases-loop-marks
-decreases-loop-marks l = l.place + 1 - vec_len l.marks
+decreases-loop-marks l = l.place + 257 - vec_len l.marks

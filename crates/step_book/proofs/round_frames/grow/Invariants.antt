@@ -6,4 +6,4 @@ abbrev pub invariant-loop-frames : goal.invariant-loop-frames
 invariant-loop-frames l = SameTable None l.fn.frames.items l.frames.items
 
 abbrev pub decreases-loop-frames : goal.decreases-loop-frames
-decreases-loop-frames l = l.place + 1 - vec_len l.frames
+decreases-loop-frames l = l.place + 1 + l.nodes - vec_len l.frames

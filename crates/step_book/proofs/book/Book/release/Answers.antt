@@ -52,7 +52,7 @@ invariant_of-self-then-is_flying g c =
     to_fields g.P.Plan.start g.P.Plan.nodes c.self.view_is
     (moved h n _ _ c.place-place.result _ _ _ c.requires fly c.place-place.ensures
     (trace_view (Release n) _ c.self.view_is c.in_ok-note_release.ensures.trace)
-    (subst (λ m. Puts Unsent s.marks c.put.new.self n.copy c.place-place.result m) (c.in_ok-mark.ensures.value ∙ ap Released c.count_of-count.ensures) c.put.ensures)
+    (subst (λ m. Puts Unsent s.marks c.put.new.self n.copy c.place-place.result m) (ap Released c.counted.ensures.value) c.put.ensures)
     (waits_push s.mails.items n.to c.index_mut.result.now c.note_release.new.mail n (omega (arith, c.requires.to)) c.index_mut.ensures.value c.in_ok-note_release.ensures.waiting)
     (lists_same s.mails.items n.to c.index_mut.result.now c.note_release.new.mail (omega (arith, c.requires.to)) c.index_mut.ensures.value c.in_ok-note_release.ensures.handed)
     c.in_ok-note_release.ensures.answers)

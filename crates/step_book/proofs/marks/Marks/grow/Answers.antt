@@ -3,7 +3,7 @@ use Rattle.step_book.specs.declared.mark.Mark.{Mark}
 use Rattle.step_book.specs.declared.mark.Mark.TheVariants.{Unsent}
 use Rattle.step_book.specs.Tables.{SameTables, tables_of}
 use Rattle.step_book.proofs.Tables.{on_ok, room_vec, same_then, same_vec}
-use Rattle.step_book.proofs.marks.Marks.reserve.Goals as goal
+use Rattle.step_book.proofs.marks.Marks.grow.Goals as goal
 
 pub returns-clause-room : goal.returns-clause-room
 returns-clause-room c =
