@@ -1,7 +1,7 @@
 -- The delay bound by places, and by the receiver's own step counts.
 use Rattle.std.proofs.Common.{◌≡◌, ℕ, ◌+◌, ◌<◌, ◌≤◌, true, false, max, List, length, Option, Some}
 use Rattle.std.proofs.Common.{None, sym, subst, refl, ap, ◌∙◌, leb, arith, ◌⊎◌, inl, inr}
-use Rattle.std.specs.Prelude.{is_some, reverse}
+use Rattle.std.specs.Prelude.{is_some, option_map, reverse}
 use Rattle.std.specs.Option.{unwrap_or}
 use Rattle.std.proofs.lemmas.Bool.{cases_lt, cases_order, lt-leb}
 use Rattle.round_lang.specs.declared.value.Value.{Value}
@@ -10,14 +10,14 @@ use Rattle.step_machine.specs.declared.event.Event.TheVariants.{Step, Release}
 use Rattle.step_machine.specs.declared.event.Name.{Name}
 use Rattle.step_machine.specs.Sealed.{original}
 use Rattle.step_book.specs.Fates.{Unmade, fate}
-use Rattle.step_book.specs.History.{message}
+use Rattle.step_book.specs.History.{counted, message}
 use Rattle.step_book.specs.Places.{IsSlotAt, Sent, steps_before}
 use Rattle.step_book.specs.Trace.{steps}
 use Rattle.step_book.specs.World.{World, IsPlan, is_receive, nodes_of}
 use Rattle.step_book.proofs.Moments.{At, at_place, at_same, at_steps, at_within, place_at}
 use Rattle.step_book.proofs.Moments.{step_rises}
 use Rattle.step_book.proofs.Placed.{made_found}
-use Rattle.step_book.proofs.Plans.{is_receive_at}
+use Rattle.step_book.proofs.Plans.{is_receive_at, receive_early}
 use Rattle.omission_explainer.specs.Lateness.{HasReceive, copy_open_until, least_copy, marks_of}
 use Rattle.omission_explainer.specs.Lateness.{open_until}
 use Rattle.omission_explainer.specs.Verdict.{IsLetInAt, IsLetInBetween}
@@ -119,11 +119,12 @@ module _ (w : World) (t p : List Event) (n : Name) (plan : IsPlan w) (few : n.to
 
       by_copy : (k : ℕ) (o : Option ℕ) → k ≤ 3 → let_in_of (fate w t (record n { copy = k })) ≡ o → (m : List Value) → message w t n ≡ Some m → copy_open_until (steps n.to t) (marks_of w t n k) ≤ steps n.to c → IsLetInBetween w (reverse t) n (length p) (length c)
       by_copy k None l e m says low =
-          let open_is : copy_open_until (steps n.to t) (marks_of w t n k) ≡ steps n.to t = copy_open_is w t n (steps n.to t) k m says ∙ ap (λ o. unwrap_or o (steps n.to t)) e in
+          let open_is : copy_open_until (steps n.to t) (marks_of w t n k) ≡ steps n.to t = copy_open_is w t n (steps n.to t) k m says ∙ ap (λ o. unwrap_or (option_map (counted w) o) (steps n.to t)) e in
           let rise = step_rises n.to c t s in
           absurd (omega arith)
       by_copy k (Some x) l e m says low =
-          let open_is : copy_open_until (steps n.to t) (marks_of w t n k) ≡ x = copy_open_is w t n (steps n.to t) k m says ∙ ap (λ o. unwrap_or o (steps n.to t)) e in
+          let open_is : copy_open_until (steps n.to t) (marks_of w t n k) ≡ counted w x = copy_open_is w t n (steps n.to t) k m says ∙ ap (λ o. unwrap_or (option_map (counted w) o) (steps n.to t)) e in
+          let early = receive_early w plan (steps n.to c) h in
           came_between c k x l s e (omega arith)
 
       by_message : (m : Option (List Value)) → is_some m ≡ true → message w t n ≡ m → IsLetInBetween w (reverse t) n (length p) (length c)
@@ -144,16 +145,16 @@ module _ (w : World) (t p : List Event) (n : Name) (plan : IsPlan w) (few : n.to
       let up = steps_up_to n.to (Release (record n { copy = r.copy })) at.moment c inside in
       let count : steps_before (reverse t) n.to r.place ≡ steps n.to at.moment = at.count in
       let found = let_in_found w t (record n { copy = r.copy }) r.place r.let_in in
-      let open_is : copy_open_until (steps n.to t) (marks_of w t n r.copy) ≡ steps_before (reverse t) n.to r.place =
-      copy_open_is w t n (steps n.to t) r.copy m says ∙ ap (λ o. unwrap_or o (steps n.to t)) found in
+      let open_is : copy_open_until (steps n.to t) (marks_of w t n r.copy) ≡ counted w (steps_before (reverse t) n.to r.place) =
+      copy_open_is w t n (steps n.to t) r.copy m says ∙ ap (λ o. unwrap_or (option_map (counted w) o) (steps n.to t)) found in
       let least : least_copy (λ k. copy_open_until (steps n.to t) (marks_of w t n k)) ≤ copy_open_until (steps n.to t) (marks_of w t n r.copy) =
       least_below (λ k. copy_open_until (steps n.to t) (marks_of w t n k)) r.copy r.few in
       subst (λ x. x ≤ steps n.to c) (sym (open_spoken w t n (steps n.to t) m says was_made)) (omega arith)
 
   -- each step at which it's lacked was taken
-  most_by : (o : Option ℕ) → let_in_of (fate w t (original n)) ≡ o → unwrap_or o (steps n.to t) ≤ steps n.to t
+  most_by : (o : Option ℕ) → let_in_of (fate w t (original n)) ≡ o → unwrap_or (option_map (counted w) o) (steps n.to t) ≤ steps n.to t
   most_by None e = omega arith
-  most_by (Some x) e = let_in_few w t (original n) x e
+  most_by (Some x) e = let few = let_in_few w t (original n) x e in omega arith
 
   open_most : (m : List Value) → message w t n ≡ Some m → open_until (steps n.to t) (marks_of w t n) ≤ steps n.to t
   open_most m e =

@@ -46,36 +46,36 @@ is_quiet Flying = false
 is_quiet (Released x) = false
 is_quiet Lost = false
 
-quiet_unmade : (m : Option (List Value)) → is_quiet (marked 0 m Unmade) ≡ false
-quiet_unmade None = refl
-quiet_unmade (Some m) = refl
+quiet_unmade : (w : World) (m : Option (List Value)) → is_quiet (marked w 0 m Unmade) ≡ false
+quiet_unmade w None = refl
+quiet_unmade w (Some m) = refl
 
-quiet_made : (m : Option (List Value)) (f : Fate) → (f ≡ Unmade → ⊥) → is_quiet (marked 0 m f) ≡ not (is_some m)
-quiet_made m Unmade h = absurd (h refl)
-quiet_made None Moving h = refl
-quiet_made None (Waiting x) h = refl
-quiet_made None (Taken x c) h = refl
-quiet_made None fates.Lost h = refl
-quiet_made (Some m) Moving h = refl
-quiet_made (Some m) (Waiting x) h = refl
-quiet_made (Some m) (Taken x c) h = refl
-quiet_made (Some m) fates.Lost h = refl
+quiet_made : (w : World) (m : Option (List Value)) (f : Fate) → (f ≡ Unmade → ⊥) → is_quiet (marked w 0 m f) ≡ not (is_some m)
+quiet_made w m Unmade h = absurd (h refl)
+quiet_made w None Moving h = refl
+quiet_made w None (Waiting x) h = refl
+quiet_made w None (Taken x c) h = refl
+quiet_made w None fates.Lost h = refl
+quiet_made w (Some m) Moving h = refl
+quiet_made w (Some m) (Waiting x) h = refl
+quiet_made w (Some m) (Taken x c) h = refl
+quiet_made w (Some m) fates.Lost h = refl
 
 -- the mark tells whether the slot came with no message
 pub quiet_is : (w : World) (t : List Event) (n : Name) → n.copy ≡ 0 → is_quiet (mark_of w t n) ≡ (nat_lt (w.start n.round + n.to) (steps n.from t) && not (is_some (message w t n)))
-quiet_is w t n c = ap is_quiet (mark_is w t n ∙ ap (λ k. marked k (message w t n) (fate w t n)) c) ∙ by (cases_lt _ _)
+quiet_is w t n c = ap is_quiet (mark_is w t n ∙ ap (λ k. marked w k (message w t n) (fate w t n)) c) ∙ by (cases_lt _ _)
   where
-    by : (w.start n.round + n.to < steps n.from t) ⊎ (steps n.from t ≤ w.start n.round + n.to) → is_quiet (marked 0 (message w t n) (fate w t n)) ≡ (nat_lt (w.start n.round + n.to) (steps n.from t) && not (is_some (message w t n)))
+    by : (w.start n.round + n.to < steps n.from t) ⊎ (steps n.from t ≤ w.start n.round + n.to) → is_quiet (marked w 0 (message w t n) (fate w t n)) ≡ (nat_lt (w.start n.round + n.to) (steps n.from t) && not (is_some (message w t n)))
     by (inl late) =
         let a = step_at n.from (w.start n.round + n.to) t late in
         let slot : IsSlotAt w (reverse t) n (length a.moment) = record {
           there = at_place a.moment (Step n.from) t a.stands;
           number = at_steps n.from a.moment (Step n.from) t a.stands ∙ a.number;
         } in
-        quiet_made (message w t n) (fate w t n) (made_found w t n (length a.moment) (Sent c slot))
+        quiet_made w (message w t n) (fate w t n) (made_found w t n (length a.moment) (Sent c slot))
         ∙ sym (ap (λ b. b && not (is_some (message w t n))) (lt-ltb _ _ late))
     by (inr early) =
-        ap (λ f. is_quiet (marked 0 (message w t n) f)) (unmade_before w t n early) ∙ quiet_unmade (message w t n)
+        ap (λ f. is_quiet (marked w 0 (message w t n) f)) (unmade_before w t n early) ∙ quiet_unmade w (message w t n)
         ∙ sym (ap (λ b. b && not (is_some (message w t n))) (le-ltb _ _ early))
 
 if_some : {A : Type 0} (b : Bool) (x : A) → is_some (if b then Some x else None) ≡ b

@@ -1,7 +1,7 @@
 -- When a copy was let in, by places and by what became of it.
 use Rattle.std.proofs.Common.{◌≡◌, ℕ, zero, suc, ◌<◌, ◌≤◌, Bool, true, false, if◌then◌else◌, List}
 use Rattle.std.proofs.Common.{Option, Some, None, min, sym, refl, ap, ◌∙◌, arith, ◌⊎◌, inl, inr}
-use Rattle.std.specs.Prelude.{reverse}
+use Rattle.std.specs.Prelude.{option_map, reverse}
 use Rattle.std.specs.List.{slice_get}
 use Rattle.std.specs.Option.{unwrap_or}
 use Rattle.std.proofs.lemmas.Bool.{cases_lt, cases_order}
@@ -13,7 +13,7 @@ use Rattle.step_machine.specs.declared.event.Name.{Name}
 use Rattle.step_machine.specs.Sealed.{original}
 use Rattle.step_book.specs.declared.mark.Mark.{Mark}
 use Rattle.step_book.specs.Fates.{Fate, Unmade, Moving, Waiting, Taken, Lost, fate}
-use Rattle.step_book.specs.History.{marked, message}
+use Rattle.step_book.specs.History.{counted, marked, message}
 use Rattle.step_book.specs.Places.{Copied, IsCopyAt, IsDropAt, IsFirstAfter, IsLeftAt, IsMadeAt}
 use Rattle.step_book.specs.Places.{IsReleaseAt, IsSlotAt, Sent, steps_before}
 use Rattle.step_book.specs.Trace.{steps}
@@ -152,26 +152,26 @@ least_found f x l = least_by f x l (cases_lt _ _) (cases_lt _ _) (cases_lt _ _)
 
 -- ---- until when a message is lacked
 
-copy_open : (k count : ℕ) (m : List Value) (f : Fate) → copy_open_until count (marked k (Some m) f) ≡ unwrap_or (let_in_of f) count
-copy_open k count m Unmade = refl
-copy_open k count m Moving = refl
-copy_open k count m (Waiting x) = refl
-copy_open k count m (Taken x c) = refl
-copy_open k count m Lost = refl
+copy_open : (w : World) (k count : ℕ) (m : List Value) (f : Fate) → copy_open_until count (marked w k (Some m) f) ≡ unwrap_or (option_map (counted w) (let_in_of f)) count
+copy_open w k count m Unmade = refl
+copy_open w k count m Moving = refl
+copy_open w k count m (Waiting x) = refl
+copy_open w k count m (Taken x c) = refl
+copy_open w k count m Lost = refl
 
-spoken_made : (m : List Value) (f : Fate) → (f ≡ Unmade → ⊥) → is_spoken (marked 0 (Some m) f) ≡ true
-spoken_made m Unmade h = absurd (h refl)
-spoken_made m Moving h = refl
-spoken_made m (Waiting x) h = refl
-spoken_made m (Taken x c) h = refl
-spoken_made m Lost h = refl
+spoken_made : (w : World) (m : List Value) (f : Fate) → (f ≡ Unmade → ⊥) → is_spoken (marked w 0 (Some m) f) ≡ true
+spoken_made w m Unmade h = absurd (h refl)
+spoken_made w m Moving h = refl
+spoken_made w m (Waiting x) h = refl
+spoken_made w m (Taken x c) h = refl
+spoken_made w m Lost h = refl
 
-unspoken : (f : Fate) → is_spoken (marked 0 None f) ≡ false
-unspoken Unmade = refl
-unspoken Moving = refl
-unspoken (Waiting x) = refl
-unspoken (Taken x c) = refl
-unspoken Lost = refl
+unspoken : (w : World) (f : Fate) → is_spoken (marked w 0 None f) ≡ false
+unspoken w Unmade = refl
+unspoken w Moving = refl
+unspoken w (Waiting x) = refl
+unspoken w (Taken x c) = refl
+unspoken w Lost = refl
 
 -- silence, by the mark of copy 0
 pub open_none : (count : ℕ) (marks : ℕ → Mark) (x : Mark) → x ≡ marks 0 → is_spoken x ≡ false → 0 ≡ open_until count marks
@@ -193,14 +193,14 @@ module _ (w : World) (t : List Event) (n : Name) where
 
   pub open_silent : (count : ℕ) → message w t n ≡ None → open_until count (marks_of w t n) ≡ 0
   open_silent count h =
-      let off : is_spoken (marks_of w t n 0) ≡ false = ap is_spoken (mark_is w t (original n) ∙ ap (λ m. marked 0 m (copy_fate 0)) h) ∙ unspoken (copy_fate 0) in
+      let off : is_spoken (marks_of w t n 0) ≡ false = ap is_spoken (mark_is w t (original n) ∙ ap (λ m. marked w 0 m (copy_fate 0)) h) ∙ unspoken w (copy_fate 0) in
       ap (λ (b : Bool). if b then least_copy (λ k. copy_open_until count (marks_of w t n k)) else 0) off
 
   pub open_spoken : (count : ℕ) (m : List Value) → message w t n ≡ Some m → (copy_fate 0 ≡ Unmade → ⊥) → open_until count (marks_of w t n) ≡ least_copy (λ k. copy_open_until count (marks_of w t n k))
   open_spoken count m h made =
-      let on : is_spoken (marks_of w t n 0) ≡ true = ap is_spoken (mark_is w t (original n) ∙ ap (λ x. marked 0 x (copy_fate 0)) h) ∙ spoken_made m (copy_fate 0) made in
+      let on : is_spoken (marks_of w t n 0) ≡ true = ap is_spoken (mark_is w t (original n) ∙ ap (λ x. marked w 0 x (copy_fate 0)) h) ∙ spoken_made w m (copy_fate 0) made in
       ap (λ (b : Bool). if b then least_copy (λ k. copy_open_until count (marks_of w t n k)) else 0) on
 
-  pub copy_open_is : (count k : ℕ) (m : List Value) → message w t n ≡ Some m → copy_open_until count (marks_of w t n k) ≡ unwrap_or (let_in_of (copy_fate k)) count
+  pub copy_open_is : (count k : ℕ) (m : List Value) → message w t n ≡ Some m → copy_open_until count (marks_of w t n k) ≡ unwrap_or (option_map (counted w) (let_in_of (copy_fate k))) count
   copy_open_is count k m h =
-      ap (copy_open_until count) (mark_is w t (record n { copy = k }) ∙ ap (λ x. marked k x (copy_fate k)) h) ∙ copy_open k count m (copy_fate k)
+      ap (copy_open_until count) (mark_is w t (record n { copy = k }) ∙ ap (λ x. marked w k x (copy_fate k)) h) ∙ copy_open w k count m (copy_fate k)

@@ -11,7 +11,7 @@ use Rattle.step_machine.specs.declared.event.Event.{Event}
 use Rattle.step_machine.specs.declared.event.Name.{Name}
 
 -- the step number below which a receiver that has taken `count` steps lacked a copy: that of its
--- release, or the next one
+-- release, as its mark keeps it, or the next one
 abbrev pub copy_open_until : ℕ → Mark → ℕ
 copy_open_until count Unsent = count
 copy_open_until count Silent = count

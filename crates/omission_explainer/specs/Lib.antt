@@ -7,3 +7,4 @@ pub mod Lateness
 pub mod InRounds
 pub mod Short
 pub mod Decided
+pub mod StoredDecisions

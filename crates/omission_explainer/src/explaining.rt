@@ -8,16 +8,21 @@ ghost use Rattle.round_meaning.specs.Turn.{decision};
 ghost use Rattle.step_book.specs.Agreement.{row};
 ghost use Rattle.step_book.specs.Log.{history, round_of, world_of};
 ghost use Rattle.step_book.specs.History.{state};
+ghost use Rattle.step_book.specs.Names.{IsName};
+ghost use Rattle.step_book.specs.Work.{any_within, is_within};
 ghost use Rattle.omission_explainer.specs.Decided.{AreAgreed, AreInputs};
 ghost use Rattle.omission_explainer.specs.InRounds.{IsOfRounds, printed_omits};
+ghost use Rattle.omission_explainer.specs.Lateness.{marks_of};
 ghost use Rattle.omission_explainer.specs.Reported.{IsReported, IsRowOf, closed_rounds, counts_in};
 ghost use Rattle.omission_explainer.specs.Reported.{heard_in, declared_names, omitted_in, place};
 ghost use Rattle.omission_explainer.specs.Reported.{silent_in, declared_types};
+ghost use Rattle.omission_explainer.specs.StoredDecisions.{IsDecidedAt};
 
 use crate::listed::Listed;
 use crate::report::{Report, ReportRow};
+use crate::stored_decision::{decided_place, decision_at};
 use round_lang::{Identifier, NoMemory, Program, Ty, VariableKind};
-use round_meaning::{NodeSet, decision_of};
+use round_meaning::NodeSet;
 use slot_plans::Plan;
 use std::alloc::Global;
 use std::sync::Arc;
@@ -96,11 +101,12 @@ fn rows_of<P: Plan>(alloc: Global, book: &Book<P>) -> Result<Vec<ReportRow>, NoM
         (printed_omits rows.items)) rows.items) }
 {
     book.agrees();
+    let decided = decided_place(book.program().program());
     let mut rows = Vec::new(alloc);
     for round in 1..book.setup().rounds + 1 {
         for node in 0..book.setup().nodes {
             if round < book.round_of(node) {
-                rows.push(row_of(alloc, book, node, round)?)?;
+                rows.push(row_of(book, decided, node, round)?)?;
             }
         }
     }
@@ -127,18 +133,36 @@ enum Outcome {
     Omitted,
 }
 
-/// Silence by the mark of copy 0, and else whether one of the copies was carried.
-fn outcome_of(mark: Mark, carried: bool) -> Outcome
-    ensures heard { result ≡ Outcome.Heard ↔ (IsTrue carried × (mark ≢ Mark.Silent)) }
-    ensures silent { result ≡ Outcome.Silent ↔ mark ≡ Mark.Silent }
+/// Silence by the mark of copy 0, and else whether one of the copies was released in these steps of
+/// its receiver: mostly copy 0 was, and no other is asked for.
+fn outcome_of<P: Plan>(book: &Book<P>, name: Name, first: u64, end: u64) -> Outcome
+    requires { IsName book.now.log.setup name }
+    ensures heard { let marks = marks_of (world_of (P.start book.now.plan) book.now.log)
+        (history book.now.log) name in
+        result ≡ Outcome.Heard
+        ↔ (IsTrue (any_within marks first end) × (marks 0 ≢ Mark.Silent)) }
+    ensures silent { let marks = marks_of (world_of (P.start book.now.plan) book.now.log)
+        (history book.now.log) name in
+        result ≡ Outcome.Silent ↔ marks 0 ≡ Mark.Silent }
 {
+    let mark = book.mark(name.original());
     if mark == Mark::Silent {
         return Outcome::Silent;
     }
-    if carried {
+    if is_within(mark, first, end) || book.was_released(name, first, end) {
         Outcome::Heard
     } else {
         Outcome::Omitted
+    }
+}
+
+/// Whether a copy was released while its receiver's step count stood in these steps.
+fn is_within(mark: Mark, first: u64, end: u64) -> bool
+    ensures { result ≡ is_within mark first end }
+{
+    match mark {
+        Mark::Released(count) => first <= count && count < end,
+        Mark::Unsent | Mark::Silent | Mark::Flying | Mark::Lost => false,
     }
 }
 
@@ -178,7 +202,7 @@ fn outcomes_of<P: Plan>(book: &Book<P>, node: u32, round: u32) -> Outcomes
             round,
             copy: 0,
         };
-        match outcome_of(book.mark(name), book.was_released(name, first, end)) {
+        match outcome_of(book, name, first, end) {
             Outcome::Heard => heard = heard.with(from),
             Outcome::Silent => silent = silent.with(from),
             Outcome::Omitted => omitted = omitted.with(from),
@@ -191,13 +215,14 @@ fn outcomes_of<P: Plan>(book: &Book<P>, node: u32, round: u32) -> Outcomes
     }
 }
 
-/// The row of a node's closed round.
+/// The row of a node's closed round, where the decided variable has this place.
 fn row_of<P: Plan>(
-    alloc: Global,
     book: &Book<P>,
+    decided: Option<usize>,
     node: u32,
     round: u32,
 ) -> Result<ReportRow, NoMemory>
+    requires decided { IsDecidedAt book.now.log.program decided }
     requires node { node < book.now.log.setup.nodes }
     requires first { 0 < round }
     requires few { round ≤ 4096 }
@@ -218,7 +243,7 @@ fn row_of<P: Plan>(
         heard: outcomes.heard,
         silent: outcomes.silent,
         omitted: outcomes.omitted,
-        decision: decision_of(book.program(), &state.state(alloc)?),
+        decision: decision_at(decided, state),
         state: Arc::try_clone(state)?,
     })
 }

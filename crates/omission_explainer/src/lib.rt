@@ -9,6 +9,7 @@ mod printed;
 mod report;
 mod short_text;
 mod spelt_set;
+mod stored_decision;
 mod summary;
 mod writing;
 

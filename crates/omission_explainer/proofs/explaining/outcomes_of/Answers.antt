@@ -1,4 +1,4 @@
-use Rattle.std.proofs.Common.{◌≡◌, ◌∙◌, ◌<◌, ◌+◌, ap, refl, sym, arith}
+use Rattle.std.proofs.Common.{◌≡◌, ◌∙◌, ◌<◌, ◌+◌, ap, refl, arith}
 use Rattle.round_meaning.specs.declared.nodes.NodeSet.{NodeSet}
 use Rattle.omission_explainer.specs.declared.explaining.Outcome.TheVariants.{Heard, Silent, Omitted}
 use Rattle.step_book.specs.Log.{history, world_of}
@@ -30,16 +30,16 @@ loop-from-preserved g c = λ few.
     let first : c.from-first.result ≡ start (earliest c.args.round) = c.from-first.ensures ∙ c.start.ensures ∙ ap (λ x. g.P.Plan.start x c.earliest.result) c.plan.ensures ∙ ap start c.earliest.ensures in
     let end : c.from-end.result ≡ start (c.args.round + 1) = c.from-end.ensures ∙ c.start-2.ensures ∙ ap (λ x. g.P.Plan.start x (c.args.round + 1)) c.plan-2.ensures in
     let marks = marks_to (world_of start v) (history v) c.args.node c.args.round c.loop-from.from in
-    let within : c.was_released.result ≡ within_in start v c.args.node c.args.round c.loop-from.from =
-    c.was_released.ensures ∙ ap (λ x. any_within marks x c.from-end.result) first ∙ ap (any_within marks (start (earliest c.args.round))) end in
+    let within : any_within marks c.from-first.result c.from-end.result ≡ within_in start v c.args.node c.args.round c.loop-from.from =
+    ap (λ x. any_within marks x c.from-end.result) first ∙ ap (any_within marks (start (earliest c.args.round))) end in
     elim c.match-outcome_of.branch [
-      | in-Heard w ↦ sorted_heard _ _ _ _ _ k c.mark.ensures within before (w.in-Heard.ensures.heard.0 refl).0 (w.in-Heard.ensures.heard.0 refl).1 (ap bits w.heard-is ∙ w.with-heard.ensures) (ap bits w.silent-is) (ap bits w.omitted-is)
+      | in-Heard w ↦ sorted_heard _ _ _ _ _ k refl within before (w.in-Heard.ensures.heard.0 refl).0 (w.in-Heard.ensures.heard.0 refl).1 (ap bits w.heard-is ∙ w.with-heard.ensures) (ap bits w.silent-is) (ap bits w.omitted-is)
       | in-Silent w ↦
           let mark = w.in-Silent.ensures.silent.0 refl in
-          let none = silent_unheard start (g.P.Plan.receives p) (g.P.Plan.nodes p) v c.args.node c.args.round c.loop-from.from (g.met.P.Plan.laws p) c.agrees.ensures.sized c.agrees.ensures.faithful c.requires.node c.requires.first c.requires.closed (sym c.mark.ensures ∙ mark) in
-          sorted_silent _ _ _ _ _ k c.mark.ensures within before mark (within ∙ none) (ap bits w.heard-is) (ap bits w.silent-is ∙ w.with-silent.ensures) (ap bits w.omitted-is)
+          let none = silent_unheard start (g.P.Plan.receives p) (g.P.Plan.nodes p) v c.args.node c.args.round c.loop-from.from (g.met.P.Plan.laws p) c.agrees.ensures.sized c.agrees.ensures.faithful c.requires.node c.requires.first c.requires.closed mark in
+          sorted_silent _ _ _ _ _ k refl within before mark (within ∙ none) (ap bits w.heard-is) (ap bits w.silent-is ∙ w.with-silent.ensures) (ap bits w.omitted-is)
       | in-Omitted w ↦
-          sorted_omitted _ _ _ _ _ k c.mark.ensures within before
+          sorted_omitted _ _ _ _ _ k refl within before
           (λ e. not_heard (w.in-Omitted.ensures.heard.1 (e, λ s. not_quiet (w.in-Omitted.ensures.silent.1 s))))
           (λ s. not_quiet (w.in-Omitted.ensures.silent.1 s)) (ap bits w.heard-is) (ap bits w.silent-is) (ap bits w.omitted-is ∙ w.with-omitted.ensures)
     ]

@@ -4,6 +4,7 @@ use Rattle.step_book.specs.Log.{round_of}
 use Rattle.step_book.proofs.Starts.{plan_is}
 use Rattle.omission_explainer.proofs.PrintedRounds.{rows_in_rounds}
 use Rattle.omission_explainer.specs.Reported.{IsReported, place}
+use Rattle.omission_explainer.specs.StoredDecisions.{IsDecidedAt}
 use Rattle.omission_explainer.proofs.Reports.{reported, reported_more, listed_row, listed_none}
 use Rattle.omission_explainer.proofs.Reports.{listed_first, listed_round, listed_all}
 use Rattle.omission_explainer.proofs.explaining.rows_of.Goals as goal
@@ -68,3 +69,7 @@ returns-clause-in_rounds g c =
     let few = c.agrees.ensures.lawful.sized.few_nodes in
     let listed = listed_all v c.loop-round.round (c.setup.result.now.rounds + 1) c.loop-round.rows.items (omega arith) (omega arith) c.loop-round.invariant.listed in
     rows_in_rounds start v c.loop-round.rows.items plan c.agrees.ensures.faithful (omega arith) c.loop-round.invariant.reported listed
+
+pub row_of-requires-clause-decided : goal.row_of-requires-clause-decided
+row_of-requires-clause-decided g c =
+    subst (λ p. IsDecidedAt p c.decided_place-decided.result) (c.program-2.ensures ∙ c.program.ensures) c.decided_place-decided.ensures
