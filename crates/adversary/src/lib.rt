@@ -1,4 +1,4 @@
-//! Schedules of a run: their texts, and the journals of running them.
+//! Runs in single steps, on one thread: of schedules, of texts that are read, and under policies.
 #![tactic(auto)]
 
 mod asking;

@@ -6,9 +6,6 @@ use std::sync::{Mutex, MutexGuard, Wait};
 /// How often a lock is tried before a thread sleeps for it.
 const TRIES: u32 = 20;
 
-/// How long a thread pauses between two tries.
-const PAUSES: u32 = 25;
-
 /// Takes a lock. Each is held for less time than it takes to sleep and be woken, so it's tried for
 /// a while first.
 pub(crate) fn take<'a, T, R: Wait>(rt: &R, lock: &'a Mutex<T>) -> MutexGuard<'a, T> {
@@ -16,9 +13,7 @@ pub(crate) fn take<'a, T, R: Wait>(rt: &R, lock: &'a Mutex<T>) -> MutexGuard<'a,
         if let Some(guard) = lock.try_lock() {
             return guard;
         }
-        for _pause in 0..PAUSES {
-            spin_loop();
-        }
+        spin_loop();
     }
     lock.lock(rt)
 }

@@ -37,8 +37,9 @@ impl Count {
 pub(crate) struct Clock {
     pace: Pace,
     count: Mutex<Count>,
-    /// Whether a node took a step or ended since the network's last turn. A node that finds it set
-    /// needs no lock: its event was recorded before, and the network clears this before it looks.
+    /// Whether a node took a step or ended since the network's last turn, and before its first one.
+    /// A node that finds it set needs no lock: its event was recorded before, and the network clears
+    /// this before it looks.
     is_new: AtomicBool,
     /// A tick began, or the network ended.
     begun: Condvar,
@@ -57,7 +58,7 @@ impl Clock {
                 stepped: 0,
                 is_over: false,
             }),
-            is_new: AtomicBool::new(false),
+            is_new: AtomicBool::new(true),
             begun: Condvar::new(),
             moved: Condvar::new(),
         }
@@ -111,8 +112,8 @@ impl Clock {
         self.begun.notify_all();
     }
 
-    /// The network waits for its next turn; false once every node ended. Under the free pace it
-    /// waits until a node took a step or ended.
+    /// The network waits for its next turn; false once every node ended. Under the free pace its
+    /// first turn comes at once, and each other when a node has taken a step or has ended.
     pub(crate) fn turn<R: Wait>(&self, rt: &R) -> bool {
         let count = self.count.lock(rt);
         if self.pace == Pace::Ticks {

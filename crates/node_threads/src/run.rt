@@ -68,7 +68,7 @@ fn jobs<'a, P: Plan>(
 }
 
 /// The lesser of a fault, if there is one, and another.
-fn worst(fault: Option<ThreadFault>, other: ThreadFault) -> Option<ThreadFault> {
+fn lesser(fault: Option<ThreadFault>, other: ThreadFault) -> Option<ThreadFault> {
     match fault {
         Some(fault) => Some(fault.or(other)),
         None => Some(other),
@@ -100,12 +100,12 @@ where
             match scope.spawn(move || job.run(rt, gate, &ClockBeat { rt, clock })) {
                 Ok(handle) => {
                     if handles.push(handle).is_err() {
-                        fault = worst(fault, ThreadFault::NoMemory);
+                        fault = lesser(fault, ThreadFault::NoMemory);
                     }
                 }
                 Err(_) => {
                     clock.leave(rt);
-                    fault = worst(fault, ThreadFault::NoThread);
+                    fault = lesser(fault, ThreadFault::NoThread);
                 }
             }
         }
@@ -113,19 +113,19 @@ where
             Ok(network) => {
                 let (relay, halt) = network.join(rt);
                 if let Some(halt) = halt {
-                    fault = worst(fault, ThreadFault::from(halt));
+                    fault = lesser(fault, ThreadFault::from(halt));
                 }
                 Some(relay)
             }
             Err(_) => {
                 clock.close(rt);
-                fault = worst(fault, ThreadFault::NoThread);
+                fault = lesser(fault, ThreadFault::NoThread);
                 None
             }
         };
         for handle in handles {
             if reports.push(handle.join(rt)).is_err() {
-                fault = worst(fault, ThreadFault::NoMemory);
+                fault = lesser(fault, ThreadFault::NoMemory);
             }
         }
         match (fault, relay) {
