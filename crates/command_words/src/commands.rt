@@ -160,7 +160,7 @@ fn lockstep_command<'a>(alloc: Global) -> Result<Command<'a>, AllocError>
             alloc,
             "ticks",
             "T",
-            "How many ticks, where it isn't what the rounds need",
+            "How many ticks; by default as many as the rounds need",
         ))
 }
 
