@@ -37,9 +37,9 @@ impl Count {
 pub(crate) struct Clock {
     pace: Pace,
     count: Mutex<Count>,
-    /// Whether a node took a step or ended since the network's last turn, and before its first one.
-    /// A node that finds it set needs no lock: its event was recorded before, and the network clears
-    /// this before it looks.
+    /// Whether a node took a step or ended since the network's last turn; set before its first one.
+    /// A node that finds it set needs no lock: its event was recorded before, and the network
+    /// clears this before it looks.
     is_new: AtomicBool,
     /// A tick began, or the network ended.
     begun: Condvar,
