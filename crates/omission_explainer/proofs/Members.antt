@@ -1,11 +1,10 @@
 -- The members of a set, taken one after the other, and their texts.
-use Rattle.std.proofs.Common.{◌≡◌, ℕ, zero, suc, ◌+◌, ◌*◌, ◌/◌, ◌%◌, ◌<◌, ◌≤◌, Bool, true, false}
-use Rattle.std.proofs.Common.{cond, List, [], ◌∷◌, ◌++◌, length, take, drop, get_or, refl, sym, ap}
-use Rattle.std.proofs.Common.{◌∙◌, append_assoc, append-nil, arith}
+use Rattle.std.proofs.Common.{◌≡◌, ℕ, zero, suc, ◌+◌, ◌*◌, ◌<◌, ◌≤◌, Bool, true, false, cond, List}
+use Rattle.std.proofs.Common.{[], ◌∷◌, ◌++◌, length, take, drop, get_or, refl, sym, ap, ◌∙◌}
+use Rattle.std.proofs.Common.{append_assoc, append-nil, arith}
 use Rattle.std.specs.Prelude.{◌&&◌, not, nat_eq}
 use Rattle.std.specs.Fmt.{decimal}
 use Rattle.std.specs.List.{range_with_len, filter}
-use Rattle.std.proofs.lemmas.Fmt.{decimal_digit, decimal_step}
 use Rattle.std.proofs.lemmas.Bool.Decides.{nat_tests}
 use Rattle.std.proofs.lemmas.List.{take_more, drop_more}
 use Rattle.round_lang.specs.Sets.{is_in, first_or, least, members, minus, only, size}
@@ -13,22 +12,6 @@ use Rattle.omission_explainer.specs.Report.{numbers_text}
 use Rattle.omission_explainer.specs.Short.{Spells}
 use Rattle.round_lang.proofs.SetLaws.{is_in-wide}
 use Rattle.omission_explainer.proofs.Texts.{separator_after, with_commas-push}
-
--- two digits
-decimal_two : (n : ℕ) → 10 ≤ n → n < 100 → decimal n ≡ (48 + n / 10) ∷ (48 + n % 10) ∷ []
-decimal_two n ten small =
-    let front : n / 10 < 10 = omega arith in
-    decimal_step n ten (omega arith) ∙ ap (λ ds. ds ++ (48 + n % 10) ∷ []) (decimal_digit (n / 10) front)
-
--- the first of two digits, and then the other
-pub two_digits : (text : List ℕ) (n : ℕ) → 10 ≤ n → n < 100 → (text ++ (48 + n / 10) ∷ []) ++ (48 + n % 10) ∷ [] ≡ text ++ decimal n
-two_digits text n ten small =
-    append_assoc text ((48 + n / 10) ∷ []) ((48 + n % 10) ∷ []) ∙ ap (λ ds. text ++ ds) (sym (decimal_two n ten small))
-
-pub one_digit : (text : List ℕ) (n : ℕ) → n < 10 → text ++ (48 + n % 10) ∷ [] ≡ text ++ decimal n
-one_digit text n small =
-    let same : n % 10 ≡ n = omega arith in
-    ap (λ d. text ++ (48 + d) ∷ []) same ∙ ap (λ ds. text ++ ds) (sym (decimal_digit n small))
 
 -- tests that agree on a range keep the same of it
 filter_within : (p q : ℕ → Bool) (a n : ℕ) → ((i : ℕ) → a ≤ i → i < a + n → p i ≡ q i) → filter p (range_with_len a n) ≡ filter q (range_with_len a n)

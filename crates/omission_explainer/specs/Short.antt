@@ -4,10 +4,6 @@ use Rattle.std.specs.Io.KnownBytes.{Appends}
 use Rattle.round_lang.specs.Sets.{members}
 use Rattle.omission_explainer.specs.Report.{numbers_text}
 
--- how many bytes a text that takes no memory of its own has at most
-abbrev pub room : ℕ
-room = 768
-
 -- how many bytes a piece has at most that is added at once
 abbrev pub piece : ℕ
 piece = 256

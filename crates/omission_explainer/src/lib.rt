@@ -7,7 +7,6 @@ mod judging;
 mod listed;
 mod printed;
 mod report;
-mod short_text;
 mod spelt_set;
 mod stored_decision;
 mod summary;

@@ -3,10 +3,10 @@ ghost use Rattle.std.specs.Prelude.{◌≡◌, ◌+◌, ◌<◌, ◌≤◌, ◌+
 ghost use Rattle.std.specs.Fmt.{decimal};
 ghost use Rattle.round_lang.specs.Sets.{members};
 ghost use Rattle.omission_explainer.specs.Report.{numbers_text};
-ghost use Rattle.omission_explainer.specs.Short.{room};
+ghost use Rattle.short_text.specs.Short.{room};
 
-use crate::short_text::ShortText;
 use round_lang::ValueSet;
+use short_text::{ShortText, push_digits};
 use std::marker::Model;
 
 /// A set and the text of its members, kept since the next set that is written is mostly the same.
@@ -73,20 +73,7 @@ fn push_members(set: ValueSet, text: &mut ShortText)
             text.push(b',');
         }
         let member = rest.least(64);
-        push_member(member, text);
+        push_digits(member, text);
         rest = rest.minus(ValueSet::single(64, member));
     }
-}
-
-/// Appends a number of two digits at most.
-pub(crate) fn push_member(member: u32, text: &mut ShortText)
-    requires small { member < 100 }
-    requires room { length text.old + 2 ≤ room }
-    ensures text { text.new ≡ text.old ++ decimal member }
-    ensures short { length text.new ≤ length text.old + 2 }
-{
-    if member >= 10 {
-        text.push(b'0' + (member / 10) as u8);
-    }
-    text.push(b'0' + (member % 10) as u8);
 }

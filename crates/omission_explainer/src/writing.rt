@@ -5,18 +5,18 @@ ghost use Rattle.std.specs.Fmt.{decimal};
 ghost use Rattle.std.specs.Io.KnownBytes.{Appends};
 ghost use Rattle.std.specs.List.{flat_map};
 ghost use Rattle.round_lang.specs.Values.{at};
-ghost use Rattle.omission_explainer.specs.Short.{Tells, piece, room};
+ghost use Rattle.omission_explainer.specs.Short.{Tells, piece};
 ghost use Rattle.omission_explainer.specs.Report.{count_text, counts_text, decision_text};
 ghost use Rattle.omission_explainer.specs.Report.{entries_text, nodes_text};
 ghost use Rattle.omission_explainer.specs.Report.{report_text, row_text, set_text, state_text};
 ghost use Rattle.omission_explainer.specs.Report.{named_text, type_at, value_text};
+ghost use Rattle.short_text.specs.Short.{room};
 
 use crate::report::{Report, ReportRow};
-use crate::short_text::{ROOM, ShortText};
-use crate::spelt_set::{SpeltSet, push_member};
-use itoa::Buffer;
+use crate::spelt_set::SpeltSet;
 use round_lang::{Ty, ValueSet};
 use round_meaning::NodeSet;
+use short_text::{ROOM, ShortText, push_number};
 use std::io;
 use std::io::Write;
 use step_machine::{RowReader, StateReader, StoredState};
@@ -53,6 +53,7 @@ struct SpeltSets {
 }
 
 /// Makes room for a piece: where too little is left, what was kept back goes out.
+#[inline(always)]
 fn make_room<W: Write>(text: &mut ShortText, out: &mut W) -> io::Result<()>
     ensures same { OnOk result
         (Tells (W.contents out.old) text.old (W.contents out.new) text.new []) }
@@ -132,6 +133,7 @@ fn write_row<W: Write>(
 }
 
 /// Appends what a row begins with.
+#[inline(always)]
 fn push_head(round: u32, node: u32, text: &mut ShortText)
     requires { length text.old + piece ≤ room }
     ensures { text.new
@@ -144,6 +146,7 @@ fn push_head(round: u32, node: u32, text: &mut ShortText)
 }
 
 /// Appends the decision, or `-`, and the line's end.
+#[inline(always)]
 fn push_decision(decision: Option<u32>, text: &mut ShortText)
     requires { length text.old + piece ≤ room }
     ensures { text.new
@@ -176,6 +179,7 @@ fn write_nodes<W: Write>(
 }
 
 /// Appends the nodes in rising order with commas, or `-`.
+#[inline(always)]
 fn push_nodes(nodes: NodeSet, spelt: &mut SpeltSet, text: &mut ShortText)
     requires { length text.old + 192 ≤ room }
     ensures { text.new ≡ text.old ++ nodes_text nodes.bits }
@@ -185,20 +189,6 @@ fn push_nodes(nodes: NodeSet, spelt: &mut SpeltSet, text: &mut ShortText)
         text.push(b'-');
     } else {
         spelt.push_members(set, text);
-    }
-}
-
-/// Appends a number.
-fn push_number(number: u64, text: &mut ShortText)
-    requires { length text.old + 20 ≤ room }
-    ensures text { text.new ≡ text.old ++ decimal number }
-    ensures short { length text.new ≤ length text.old + 20 }
-{
-    if number < 100 {
-        push_member(number as u32, text);
-    } else {
-        let mut digits = Buffer::new();
-        text.push_all(digits.format(number).as_bytes());
     }
 }
 
@@ -278,6 +268,7 @@ fn write_value<W: Write>(
 }
 
 /// Appends a truth value.
+#[inline(always)]
 fn push_flag(flag: bool, text: &mut ShortText)
     requires { length text.old + piece ≤ room }
     ensures { text.new ≡ text.old ++ (if flag then codes "true" else codes "false") }
@@ -286,6 +277,7 @@ fn push_flag(flag: bool, text: &mut ShortText)
 }
 
 /// Appends a set of values in braces.
+#[inline(always)]
 fn push_set(set: ValueSet, spelt: &mut SpeltSet, text: &mut ShortText)
     requires { length text.old + piece ≤ room }
     ensures { text.new ≡ text.old ++ set_text set.bits }

@@ -13,7 +13,8 @@ pub mod Places
 pub mod Sound
 pub mod OneReading
 pub mod Answered
-pub mod Decimals
+pub mod EventLines
+pub mod Kept
 pub mod Utf8
 pub mod Pieces
 pub mod Intakes

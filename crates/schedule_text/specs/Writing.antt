@@ -39,6 +39,12 @@ event_line (Release m) = name_line (codes "release ") m ++ copy_ending m.copy
 event_line (Drop m) = name_line (codes "drop ") m ++ copy_ending m.copy
 event_line (Copy m) = name_line (codes "copy ") m ++ 32 ∷ decimal m.copy
 
+-- how many bytes of room such a line is given: its word has 8 at most, with the space, then there
+-- are four numbers of 10 digits at most, three spaces and the line's end, and a number is written
+-- only where there is room for 20 digits
+abbrev pub line : ℕ
+line = 64
+
 -- a line ends with LF
 abbrev pub line_text : List ℕ → List ℕ
 line_text line = line ++ 10 ∷ []

@@ -1,22 +1,29 @@
 //! Writing a schedule's text.
-ghost use Rattle.std.specs.Prelude.{◌≡◌, ◌+◌, ◌<◌, ◌≤◌, ◌∷◌, ◌++◌, [], codes, length, All, IfOk};
-ghost use Rattle.std.specs.Prelude.{OnOk};
+ghost use Rattle.std.specs.Prelude.{◌≡◌, ◌+◌, ◌<◌, ◌≤◌, ◌∷◌, ◌++◌, length, All, IfOk, OnOk};
 ghost use Rattle.std.specs.Fmt.{decimal};
 ghost use Rattle.std.specs.List.{flat_map};
+ghost use Rattle.std.specs.Str.{IsUtf8};
 ghost use Rattle.std.specs.String.{string_bytes};
 ghost use Rattle.schedule_text.specs.Small.{IsSmall, IsSmallEvent, IsSmallName, IsSmallPlan};
 ghost use Rattle.schedule_text.specs.Small.{IsSmallSetup};
 ghost use Rattle.schedule_text.specs.Texts.{Says, max_text};
 ghost use Rattle.schedule_text.specs.Writing.{event_line, header_lines, inputs_line, line_text};
-ghost use Rattle.schedule_text.specs.Writing.{copy_ending, name_line, number_line, plan_line};
-ghost use Rattle.schedule_text.specs.Writing.{text_of};
+ghost use Rattle.schedule_text.specs.Writing.{copy_ending, line, name_line, number_line};
+ghost use Rattle.schedule_text.specs.Writing.{plan_line, text_of};
+ghost use Rattle.short_text.specs.Short.{room};
 
 use round_lang::NoMemory;
 use round_meaning::Setup;
+use short_text::{ROOM, ShortText, push_number};
+use simdutf8::basic::from_utf8;
 use slot_plans::PlanKind;
 use std::alloc::Global;
 use step_machine::{Event, Name};
 use stored_events::StoredEvent;
+
+/// How many bytes of room an event's line is given. It has 52 at most, but its last number is
+/// written only where there is room for 20 digits.
+const LINE: usize = 64;
 
 /// The text of a schedule, with no comments, however long it grows. Where the setup has an input
 /// and the text isn't longer than `MAX_TEXT`, it says just this, and so is read back as the same.
@@ -43,10 +50,12 @@ fn write_events(text: &mut String, events: &[Event]) -> Result<(), NoMemory>
         ≡ string_bytes text.old ++ flat_map (λ e. line_text (event_line e)) events.now) }
     ensures small { OnOk result (All IsSmallEvent events.now) }
 {
+    let mut lines = ShortText::new();
     for event in events {
-        write_event(text, *event)?;
+        make_room(&mut lines, text)?;
+        push_event(*event, &mut lines);
     }
-    Ok(())
+    push_lines(&lines, text)
 }
 
 /// The same for events in few bytes.
@@ -73,10 +82,42 @@ fn write_stored_events(text: &mut String, events: &[StoredEvent]) -> Result<(), 
         ≡ string_bytes text.old ++ flat_map (λ e. line_text (event_line e)) events.now) }
     ensures small { OnOk result (All IsSmallEvent events.now) }
 {
+    let mut lines = ShortText::new();
     for stored in events {
-        write_event(text, stored.event())?;
+        make_room(&mut lines, text)?;
+        push_event(stored.event(), &mut lines);
+    }
+    push_lines(&lines, text)
+}
+
+/// Makes room for a line: where too little is left, the lines so far are added to the text.
+#[inline]
+fn make_room(lines: &mut ShortText, text: &mut String) -> Result<(), NoMemory>
+    requires { IsUtf8 lines.old }
+    ensures same { OnOk result
+        (string_bytes text.new ++ lines.new ≡ string_bytes text.old ++ lines.old) }
+    ensures utf8 { OnOk result (IsUtf8 lines.new) }
+    ensures room { OnOk result (length lines.new + line ≤ room) }
+{
+    if lines.len() > ROOM - LINE {
+        push_lines(lines, text)?;
+        lines.clear();
     }
     Ok(())
+}
+
+/// Adds lines to a text.
+fn push_lines(lines: &ShortText, text: &mut String) -> Result<(), NoMemory>
+    requires { IsUtf8 lines.now }
+    ensures { OnOk result (string_bytes text.new ≡ string_bytes text.old ++ lines.now) }
+{
+    match from_utf8(lines.as_slice()) {
+        Ok(part) => {
+            text.push_str(part)?;
+            Ok(())
+        }
+        Err(_) => unreachable!(),
+    }
 }
 
 fn write_header(text: &mut String, setup: &Setup, plan: PlanKind) -> Result<(), NoMemory>
@@ -98,27 +139,8 @@ fn write_number(text: &mut String, start: &str, number: u32) -> Result<(), NoMem
     ensures small { IsSmall number }
 {
     text.push_str(start)?;
-    push_number(text, number)?;
+    write!(text, "{number}")?;
     text.push('\n')?;
-    Ok(())
-}
-
-/// A number's digits. A trace has millions of numbers, which the formatter takes longer to write.
-fn push_number(text: &mut String, number: u32) -> Result<(), NoMemory>
-    ensures { OnOk result (string_bytes text.new ≡ string_bytes text.old ++ decimal number) }
-{
-    if number < 10 {
-        return push_digit(text, number);
-    }
-    push_number(text, number / 10)?;
-    push_digit(text, number % 10)
-}
-
-fn push_digit(text: &mut String, digit: u32) -> Result<(), NoMemory>
-    requires { digit < 10 }
-    ensures { OnOk result (string_bytes text.new ≡ string_bytes text.old ++ (48 + digit) ∷ []) }
-{
-    text.push(char::from(b'0' + digit as u8))?;
     Ok(())
 }
 
@@ -149,55 +171,78 @@ fn write_plan(text: &mut String, plan: PlanKind) -> Result<(), NoMemory>
     }
 }
 
-fn write_event(text: &mut String, event: Event) -> Result<(), NoMemory>
-    ensures spelled { OnOk result (string_bytes text.new
-        ≡ string_bytes text.old ++ line_text (event_line event)) }
+/// Appends an event's line.
+#[inline]
+fn push_event(event: Event, lines: &mut ShortText)
+    requires { length lines.old + line ≤ room }
+    ensures spelled { lines.new ≡ lines.old ++ line_text (event_line event) }
     ensures small { IsSmallEvent event }
 {
+    push_words(event, lines);
+    lines.push(b'\n');
+}
+
+/// Appends an event's line without its end.
+#[inline]
+fn push_words(event: Event, lines: &mut ShortText)
+    requires { length lines.old + line ≤ room }
+    ensures spelled { lines.new ≡ lines.old ++ event_line event }
+    ensures small { IsSmallEvent event }
+    ensures short { length lines.new < length lines.old + line }
+{
     match event {
-        Event::Step(node) => write_number(text, "step ", node),
-        Event::Release(name) => write_name(text, "release ", name),
-        Event::Drop(name) => write_name(text, "drop ", name),
-        Event::Copy(name) => write_whole_name(text, "copy ", name),
+        Event::Step(node) => {
+            lines.push_all(b"step ");
+            push_number(u64::from(node), lines);
+        }
+        Event::Release(name) => push_name(b"release ", name, lines),
+        Event::Drop(name) => push_name(b"drop ", name, lines),
+        Event::Copy(name) => push_whole_name(b"copy ", name, lines),
     }
 }
 
-/// The line of this beginning and a message's name, of which a copy 0 is left out.
-fn write_name(text: &mut String, start: &str, name: Name) -> Result<(), NoMemory>
-    ensures spelled { OnOk result (string_bytes text.new
-        ≡ string_bytes text.old ++ line_text (name_line start.now name ++ copy_ending name.copy)) }
+/// Appends this beginning and a message's name, of which a copy 0 is left out.
+#[inline]
+fn push_name(start: &[u8], name: Name, lines: &mut ShortText)
+    requires start { length start.now ≤ 8 }
+    requires room { length lines.old + line ≤ room }
+    ensures spelled { lines.new ≡ lines.old ++ (name_line start.now name ++ copy_ending name.copy) }
     ensures small { IsSmallName name }
+    ensures short { length lines.new < length lines.old + line }
 {
     if name.copy != 0 {
-        return write_whole_name(text, start, name);
+        return push_whole_name(start, name, lines);
     }
-    push_name(text, start, name)?;
-    text.push('\n')?;
-    Ok(())
+    push_message(start, name, lines);
 }
 
-/// The line of this beginning and a message's name.
-fn write_whole_name(text: &mut String, start: &str, name: Name) -> Result<(), NoMemory>
-    ensures spelled { OnOk result (string_bytes text.new
-        ≡ string_bytes text.old ++ line_text (name_line start.now name ++ 32 ∷ decimal name.copy)) }
+/// Appends this beginning and a message's name.
+fn push_whole_name(start: &[u8], name: Name, lines: &mut ShortText)
+    requires start { length start.now ≤ 8 }
+    requires room { length lines.old + line ≤ room }
+    ensures spelled { lines.new
+        ≡ lines.old ++ (name_line start.now name ++ 32 ∷ decimal name.copy) }
     ensures small { IsSmallName name }
+    ensures short { length lines.new < length lines.old + line }
 {
-    push_name(text, start, name)?;
-    text.push(' ')?;
-    push_number(text, name.copy)?;
-    text.push('\n')?;
-    Ok(())
+    push_message(start, name, lines);
+    lines.push(b' ');
+    push_number(u64::from(name.copy), lines);
 }
 
-/// This beginning, and a message's sender, receiver and round.
-fn push_name(text: &mut String, start: &str, name: Name) -> Result<(), NoMemory>
-    ensures { OnOk result
-        (string_bytes text.new ≡ string_bytes text.old ++ name_line start.now name) }
+/// Appends this beginning, and a message's sender, receiver and round, which are at most 40 bytes.
+#[inline]
+fn push_message(start: &[u8], name: Name, lines: &mut ShortText)
+    requires start { length start.now ≤ 8 }
+    requires room { length lines.old + line ≤ room }
+    ensures spelled { lines.new ≡ lines.old ++ name_line start.now name }
+    ensures small { IsSmallName name }
+    ensures short { length lines.new ≤ length lines.old + 40 }
 {
-    text.push_str(start)?;
-    push_number(text, name.from)?;
-    text.push(' ')?;
-    push_number(text, name.to)?;
-    text.push(' ')?;
-    push_number(text, name.round)
+    lines.push_all(start);
+    push_number(u64::from(name.from), lines);
+    lines.push(b' ');
+    push_number(u64::from(name.to), lines);
+    lines.push(b' ');
+    push_number(u64::from(name.round), lines);
 }

@@ -10,11 +10,11 @@ push-requires c =
     let few = size_small c.args.set.bits in
     omega (arith, few, c.size-place-end.ensures, c.requires, c.loop-place.invariant.short, c.loop-place-test.true)
 
-pub push_member-requires-clause-small : goal.push_member-requires-clause-small
-push_member-requires-clause-small c = omega (arith, c.least-member.ensures, least_small c.loop-place.rest.bits)
+pub push_digits-requires-clause-small : goal.push_digits-requires-clause-small
+push_digits-requires-clause-small c = omega (arith, c.least-member.ensures, least_small c.loop-place.rest.bits)
 
-pub push_member-requires-clause-room : goal.push_member-requires-clause-room
-push_member-requires-clause-room c =
+pub push_digits-requires-clause-room : goal.push_digits-requires-clause-room
+push_digits-requires-clause-room c =
     let few = size_small c.args.set.bits in
     elim c.if-place-gt0.branch [
       | then-place-gt0 w ↦ omega (arith, few, c.size-place-end.ensures, c.requires, c.loop-place.invariant.short, c.loop-place-test.true, w.push.ensures.long, ap length w.text-is)
@@ -34,10 +34,10 @@ loop-place-preserved c =
     elim c.if-place-gt0.branch [
       | then-place-gt0 w ↦
           let joined = with_comma first ms i rest text c.loop-place.invariant below next w.if-place-gt0.true (w.text-is ∙ w.push.ensures.text) in
-          one_more first ms i rest text c.loop-place.invariant below _ _ next _ c.least-member.ensures after joined c.push_member.ensures.text (omega (arith, c.loop-place.invariant.short, c.push_member.ensures.short, w.push.ensures.long, ap length w.text-is))
+          one_more first ms i rest text c.loop-place.invariant below _ _ next _ c.least-member.ensures after joined c.push_digits.ensures.text (omega (arith, c.loop-place.invariant.short, c.push_digits.ensures.short, w.push.ensures.long, ap length w.text-is))
       | else-place-gt0 w ↦
           let joined = with_none first ms i rest text c.loop-place.invariant below next (omega (arith, w.if-place-gt0.false)) w.text-is in
-          one_more first ms i rest text c.loop-place.invariant below _ _ next _ c.least-member.ensures after joined c.push_member.ensures.text (omega (arith, c.loop-place.invariant.short, c.push_member.ensures.short, ap length w.text-is))
+          one_more first ms i rest text c.loop-place.invariant below _ _ next _ c.least-member.ensures after joined c.push_digits.ensures.text (omega (arith, c.loop-place.invariant.short, c.push_digits.ensures.short, ap length w.text-is))
     ]
 
 pub returns-clause-short : goal.returns-clause-short

@@ -1,9 +1,7 @@
-use Rattle.std.proofs.Common.{◌≡◌, ◌++◌, take, All}
-use Rattle.std.specs.List.{flat_map}
+use Rattle.std.proofs.Common.{take}
 use Rattle.std.specs.String.{string_bytes}
-use Rattle.schedule_text.specs.Small.{IsSmallEvent}
-use Rattle.schedule_text.specs.Writing.{event_line, line_text}
+use Rattle.schedule_text.proofs.Kept.{Keeps}
 use Rattle.schedule_text.proofs.writing.write_events.Given as goal
 
 abbrev pub invariant-loop-event : goal.invariant-loop-event
-invariant-loop-event l = (string_bytes l.text ≡ string_bytes l.initial.text ++ flat_map (λ e. line_text (event_line e)) (take l.event-index l.events)) × All IsSmallEvent (take l.event-index l.events)
+invariant-loop-event l = Keeps (string_bytes l.initial.text) (string_bytes l.text) l.lines (take l.event-index l.events)

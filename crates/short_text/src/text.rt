@@ -1,22 +1,22 @@
 //! A text of bounded length, made in place.
 ghost use Rattle.std.specs.Prelude.{◌≡◌, ◌+◌, ◌<◌, ◌≤◌, ◌++◌, ◌∷◌, [], length};
-ghost use Rattle.omission_explainer.specs.Short.{room};
+ghost use Rattle.short_text.specs.Short.{room};
 
 use std::marker::Model;
 
 /// How many bytes a short text may have.
-pub(crate) const ROOM: usize = 768;
+pub const ROOM: usize = 768;
 
 /// Bytes up to a bound, without memory of their own; contracts see the list of them.
 #[derive(Drop)]
-pub(crate) struct ShortText {
+pub struct ShortText {
     bytes: [u8; ROOM],
     length: usize,
 }
 
 impl Model for ShortText {
     ghost use Rattle.std.specs.Prelude.{◌≤◌, List, ℕ, take};
-    ghost use Rattle.omission_explainer.specs.Short.{room};
+    ghost use Rattle.short_text.specs.Short.{room};
 
     ghost Value = { List ℕ };
 
@@ -26,7 +26,9 @@ impl Model for ShortText {
 }
 
 impl ShortText {
-    pub(crate) fn new() -> ShortText
+    /// An empty text. Its array is on the stack, so a writer makes one and clears it.
+    #[inline(always)]
+    pub fn new() -> ShortText
         ensures { result ≡ [] }
     {
         ShortText {
@@ -35,13 +37,17 @@ impl ShortText {
         }
     }
 
-    pub(crate) fn len(&self) -> usize
+    /// How many bytes there are, at most `ROOM`.
+    #[inline(always)]
+    pub fn len(&self) -> usize
         ensures { result ≡ length self.now }
     {
         self.length
     }
 
-    pub(crate) fn push(&mut self, byte: u8)
+    /// Appends a byte. The caller has made sure that there is room for it, so nothing is tested.
+    #[inline(always)]
+    pub fn push(&mut self, byte: u8)
         requires { length self.old < room }
         ensures text { self.new ≡ self.old ++ byte ∷ [] }
         ensures long { length self.new ≡ length self.old + 1 }
@@ -50,7 +56,9 @@ impl ShortText {
         self.length += 1;
     }
 
-    pub(crate) fn push_all(&mut self, bytes: &[u8])
+    /// Appends some bytes, with room as for `push`.
+    #[inline(always)]
+    pub fn push_all(&mut self, bytes: &[u8])
         requires { length self.old + length bytes.now ≤ room }
         ensures text { self.new ≡ self.old ++ bytes.now }
         ensures long { length self.new ≡ length self.old + length bytes.now }
@@ -60,13 +68,17 @@ impl ShortText {
         self.length = end;
     }
 
-    pub(crate) fn clear(&mut self)
+    /// Makes the text empty, so that there is room for `ROOM` bytes again.
+    #[inline(always)]
+    pub fn clear(&mut self)
         ensures { self.new ≡ [] }
     {
         self.length = 0;
     }
 
-    pub(crate) fn as_slice(&self) -> &[u8]
+    /// The bytes so far. They are any bytes: whoever wants a `str` tests them.
+    #[inline(always)]
+    pub fn as_slice(&self) -> &[u8]
         ensures { result.now ≡ self.now }
     {
         &self.bytes[..self.length]
