@@ -1,16 +1,17 @@
 -- What a buffer holds after a call, and when what stands under the locks lets the call go through.
-use Rattle.std.specs.Prelude.{◌≡◌, ℕ, ◌++◌, Bool, true, false, [], ◌∷◌, None, Option}
-use Rattle.std.specs.Prelude.{option_map, option_to_list}
+use Rattle.std.specs.Prelude.{◌≡◌, ◌≢◌, ℕ, ◌<◌, ◌≤◌, ◌++◌, Bool, true, false, All, [], ◌∷◌, None}
+use Rattle.std.specs.Prelude.{IsSomeAnd, Option, option_map, option_to_list}
 use Rattle.step_machine.specs.declared.event.Event.{Event}
-use Rattle.step_machine.specs.Sealed.{Frame, Ready, copied_as, original}
+use Rattle.step_machine.specs.Sealed.{Frame, Ready, copied_as, max_copy, original}
 use Rattle.step_machine.specs.Nodes.{NodeView}
 use Rattle.step_machine.specs.declared.event.Name.{Name}
+use Rattle.step_book.specs.declared.mark.Mark.{Mark}
+use Rattle.step_book.specs.declared.mark.Mark.TheVariants.{Flying}
 use Rattle.step_book.specs.Causes.{IsDueIn, EndsAsRecorded, IsReceiveFit, IsSendFit}
 use Rattle.step_book.specs.Log.{Recorded, mark_in, waiting_in}
-use Rattle.step_book.specs.Buffers.{IsSameRun, BufferView, flying_at}
+use Rattle.step_book.specs.Buffers.{IsSameRun, BufferView, flying_at, names_in}
 use Rattle.step_book.specs.Tables.{Puts, SameTables}
 use Rattle.step_journal.specs.Fits.{IsOfRun, place_among}
-use Rattle.step_journal.specs.Fitting.{AreNamed, HoldsAt}
 use Rattle.step_book.specs.declared.fault.CloseFault.{CloseFault}
 use Rattle.step_book.specs.declared.fault.CloseFault.TheVariants as close
 use Rattle.step_book.specs.declared.fault.SendFault.{SendFault}
@@ -56,27 +57,47 @@ pub record TakesAll (old new : BufferView) : Type 0 where
   pub flying : new.flying ≡ old.flying
   pub waiting : new.waiting ≡ []
 
--- the book is of the run, so is the buffer, and it has a frame under this name just where the book
+-- whether the frame of this name is there, and no other one is
+abbrev pub HasFrame : Name → Option Frame → Bool → Type 0
+HasFrame n o true = IsSomeAnd o (λ f. f.name ≡ n)
+HasFrame n o false = o ≡ None
+
+-- another frame is there
+abbrev pub HasAnother : Name → Option Frame → Type 0
+HasAnother n o = IsSomeAnd o (λ f. f.name ≢ n)
+
+-- the frame of this name, and no other one, is there just where the mark says that it's in flight
+pub record HoldsName (n : Name) (m : Mark) (o : Option Frame) : Type 0 where
+  pub flies : m ≡ Flying → HasFrame n o true
+  pub stays : (m ≡ Flying → ⊥) → HasFrame n o false
+
+-- the book is of the run, so is the buffer, and it has the frame of this name just where the book
 -- says that it's in flight
 pub record Agrees {P : Type 0} (start : P → ℕ → ℕ) (r : Run P) (s : BufferView)
     (b : Recorded P) (n : Name)
     : Type 0 where
   pub book : IsBookOfRun r b
   pub buffer : IsOfRun r.program r.setup s
-  pub frame : HoldsAt b.log.rows n (mark_in (start b.plan) b.log n)
+  pub frame : HoldsName n (mark_in (start b.plan) b.log n)
       (flying_at s n.round (place_among b.log.setup.nodes n))
 
 -- they agree, and the book takes the send
 abbrev pub TakesSend : {P : Type 0} → (P → ℕ → ℕ) → Run P → BufferView → Recorded P → Ready → Type 0
 TakesSend start r s b p = Agrees start r s b p.name × IsSendFit (start b.plan) b.log p
 
--- both are of the run, the frames that wait are those that the book names, and it takes the receive
+-- the name is that of a copy of a message from one of so many nodes
+pub record IsFromNode (nodes : ℕ) (n : Name) : Type 0 where
+  pub from : n.from < nodes
+  pub copy : n.copy ≤ max_copy
+
+-- both are of the run, the frames that wait have the names that the book has for the node, and it
+-- takes the receive
 pub record TakesReceive {P : Type 0} (start : P → ℕ → ℕ) (r : Run P) (s : BufferView)
     (b : Recorded P) (i : ℕ)
     : Type 0 where
   pub book : IsBookOfRun r b
   pub buffer : IsOfRun r.program r.setup s
-  pub frames : AreNamed b.log.rows s.waiting (waiting_in (start b.plan) b.log i)
+  pub names : names_in s.waiting ≡ waiting_in (start b.plan) b.log i
   pub fit : IsReceiveFit (start b.plan) b.log i
 
 -- the book is of the run, and takes the end of the round
@@ -91,11 +112,16 @@ abbrev pub AgreesTwice : {P : Type 0} → (P → ℕ → ℕ) → Run P → Buff
     → Type 0
 AgreesTwice start r s b n = Agrees start r s b n × Agrees start r s b (original n)
 
+-- the buffer is of the run, and what waits in it is from nodes of the run
+pub record IsReadable {P : Type 0} (r : Run P) (s : BufferView) : Type 0 where
+  pub buffer : IsOfRun r.program r.setup s
+  pub senders : All (IsFromNode r.setup.nodes) (names_in s.waiting)
+
 -- why a buffer isn't read for a receive
 abbrev pub IsUnread : {P : Type 0} → Run P → BufferView → PostFault → Type 0
 IsUnread r s post.NotClosed = ⊥
 IsUnread r s post.NotItsSlot = ⊥
-IsUnread r s post.Stranger = ¬ IsOfRun r.program r.setup s
+IsUnread r s post.Stranger = ¬ IsReadable r s
 IsUnread r s post.NoMemory = IsOfRun r.program r.setup s
 
 -- the fault of a send whose buffer isn't ready
@@ -103,10 +129,15 @@ abbrev pub send_fault : RelayFault → SendFault
 send_fault relay.Stranger = send.Stranger
 send_fault relay.NoMemory = send.NoMemory
 
+-- the buffer is of the run, and has no other frame at this message's place
+pub record IsReady {P : Type 0} (r : Run P) (s : BufferView) (n : Name) : Type 0 where
+  pub buffer : IsOfRun r.program r.setup s
+  pub own : ¬ HasAnother n (flying_at s n.round (place_among r.setup.nodes n))
+
 -- why a buffer isn't made ready for a call
-abbrev pub IsUnready : {P : Type 0} → Run P → BufferView → RelayFault → Type 0
-IsUnready r s relay.Stranger = ¬ IsOfRun r.program r.setup s
-IsUnready r s relay.NoMemory = IsOfRun r.program r.setup s
+abbrev pub IsUnready : {P : Type 0} → Run P → BufferView → Name → RelayFault → Type 0
+IsUnready r s n relay.Stranger = ¬ IsReady r s n
+IsUnready r s n relay.NoMemory = IsOfRun r.program r.setup s
 
 -- why a send that the seat allows is refused: under the locks it doesn't go, or there is no memory
 abbrev pub SendFails : {P : Type 0} → (P → ℕ → ℕ) → Run P → BufferView → Recorded P → Ready

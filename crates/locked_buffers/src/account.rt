@@ -135,7 +135,7 @@ fn is_of_network(event: Event) -> bool
 }
 
 /// Whether both are the same names, in the same order.
-fn are_same_names(left: &[Name], right: &[StoredName]) -> bool
+pub(crate) fn are_same_names(left: &[Name], right: &[StoredName]) -> bool
     ensures { IsTrue result ↔ (left.now ≡ right.now) }
 {
     if left.len() != right.len() {

@@ -1,28 +1,33 @@
 //! What is recorded under the locks. Each call records the whole of it or nothing: all room is made
 //! before the book is called, and from then on nothing can fail. The buffer was made ready before
 //! the book's lock was taken.
+ghost use Rattle.std.specs.Arc.{arc_value};
 ghost use Rattle.std.specs.Prelude.{◌≡◌, ◌+◌, ◌^◌, ◌<◌, ◌∷◌, ◌++◌, [], All, IfErr, IfOk, OnErr};
-ghost use Rattle.std.specs.Prelude.{OnOk};
+ghost use Rattle.std.specs.Prelude.{OnOk, Some};
 ghost use Rattle.step_book.specs.Log.{closed, end_state, happened};
 ghost use Rattle.step_book.specs.Names.{IsName};
-ghost use Rattle.step_book.specs.Buffers.{IsMail, names_in};
+ghost use Rattle.step_book.specs.Buffers.{IsMail, flying_at, names_in};
 ghost use Rattle.step_book.specs.Tables.{HasPlace};
 ghost use Rattle.step_journal.specs.Fits.{IsOfRun, place_among};
 ghost use Rattle.step_machine.specs.Sealed.{IsPrepared, frame_of};
 ghost use Rattle.step_machine.specs.declared.event.Event.TheVariants as event;
-ghost use Rattle.locked_buffers.specs.Commits.{CloseFails, PutsFrame, ReceiveFails};
+ghost use Rattle.locked_buffers.specs.Commits.{CloseFails, HasFrame, IsFromNode, PutsFrame};
+ghost use Rattle.locked_buffers.specs.Commits.{ReceiveFails};
 ghost use Rattle.locked_buffers.specs.Commits.{SendFails, TakesAll, TakesClose, TakesReceive};
 ghost use Rattle.locked_buffers.specs.Commits.{TakesSend};
 ghost use Rattle.locked_buffers.specs.Runs.{algorithm_by};
 
+use crate::account::are_same_names;
 use crate::fault::PostFault;
-use crate::room::room;
+use crate::network::agree;
 use crate::run::Run;
 use crate::seat::Seat;
+use round_lang::Vars;
 use slot_plans::Plan;
-use step_book::{Book, Buffer, CloseFault, ReceiveFault, Refused, SendFault};
-use step_journal::{Took, are_named, holds};
-use step_machine::{Finished, Name, Prepared};
+use std::sync::Arc;
+use step_book::{Book, Buffer, CloseFault, ReceiveFault, Refused, SendFault, room};
+use step_journal::Took;
+use step_machine::{Finished, Name, Prepared, StoredState};
 
 /// A send that the seat allows.
 pub(crate) fn commit_send<P: Plan>(
@@ -31,6 +36,7 @@ pub(crate) fn commit_send<P: Plan>(
     buffer: &mut Buffer,
     book: &mut Book<P>,
     prepared: Prepared,
+    has_frame: bool,
 ) -> Result<(), Refused>
     requires name { IsName run.now.setup prepared.name }
     requires work { IsPrepared (algorithm_by run.now) prepared }
@@ -38,6 +44,8 @@ pub(crate) fn commit_send<P: Plan>(
     requires of_run { IsOfRun run.now.program run.now.setup buffer.old }
     requires place { HasPlace buffer.old.flying prepared.name.round
         (place_among run.now.setup.nodes prepared.name) }
+    requires frame { HasFrame prepared.name (flying_at buffer.old prepared.name.round
+        (place_among run.now.setup.nodes prepared.name)) has_frame }
     ensures recorded { OnOk result (book.new ≡ record book.old {
       log = happened book.old.log
           (event.Step prepared.name.from);
@@ -54,7 +62,7 @@ pub(crate) fn commit_send<P: Plan>(
     ensures back { IfErr result (λ refused. refused.prepared ≡ prepared) }
 {
     let name = prepared.name();
-    if !run.has_book(book) || !holds(book, buffer, name) {
+    if !agree(run, buffer, book, name, has_frame) {
         return Err(Refused {
             fault: SendFault::Stranger,
             prepared,
@@ -94,6 +102,7 @@ pub(crate) fn commit_receive<P: Plan>(
     requires small { seat.old.steps < 2 ^ 33 }
     requires of_run { IsOfRun run.now.program run.now.setup buffer.old }
     requires names { names.items ≡ names_in buffer.old.waiting }
+    requires senders { All (IsFromNode run.now.setup.nodes) names.items }
     ensures recorded { OnOk result (book.new ≡ record book.old {
       log = happened book.old.log
           (event.Step seat.old.node);
@@ -113,7 +122,7 @@ pub(crate) fn commit_receive<P: Plan>(
         seat.old.node) took.frames.items) }
 {
     let node = seat.node;
-    if !run.has_book(book) || !are_named(book, buffer.waiting(), book.waiting(node)) {
+    if !run.has_book(book) || !are_same_names(&names, book.waiting(node)) {
         return Err(PostFault::Stranger);
     }
     book.agrees();
@@ -130,15 +139,20 @@ pub(crate) fn commit_receive<P: Plan>(
     Ok(Took { frames })
 }
 
-/// The end of a round that the seat allows.
+/// The end of a round that the seat allows, with the state that it ended with, which the seat and
+/// the book note.
 pub(crate) fn commit_close<P: Plan>(
     run: &Run<P>,
     seat: &mut Seat,
     book: &mut Book<P>,
     finished: &Finished<'_>,
+    state: Arc<Vars>,
+    stored: Arc<StoredState>,
 ) -> Result<(), CloseFault>
     requires program { finished.now.node.now.program ≡ run.now.program }
     requires setup { finished.now.node.now.setup ≡ run.now.setup }
+    requires state { Some (arc_value state) ≡ finished.now.node.now.next }
+    requires stored { Some (arc_value stored) ≡ finished.now.node.now.next }
     ensures recorded { OnOk result (book.new ≡ record book.old {
       log = closed book.old.log
           finished.now.node.now;
@@ -155,13 +169,13 @@ pub(crate) fn commit_close<P: Plan>(
     if !run.has_book(book) {
         return Err(CloseFault::Stranger);
     }
-    let state = finished.new_state()?;
-    room(&mut seat.states)?;
-    match book.close(finished) {
-        Ok(()) => {}
-        Err(CloseFault::NoMemory) => return Err(CloseFault::NoMemory),
-        Err(_) => return Err(CloseFault::Stranger),
+    match book.refuses_close(finished) {
+        None => {}
+        Some(CloseFault::NoMemory) => return Err(CloseFault::NoMemory),
+        Some(_) => return Err(CloseFault::Stranger),
     }
+    room(&mut seat.states)?;
+    book.record_close(finished, stored)?;
     seat.states.push_reserved(state);
     Ok(())
 }

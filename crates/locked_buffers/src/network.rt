@@ -8,25 +8,35 @@ ghost use Rattle.step_book.specs.Tables.{HasPlace};
 ghost use Rattle.step_journal.specs.Fits.{IsOfRun, place_among};
 ghost use Rattle.step_machine.specs.Sealed.{copied_as, original};
 ghost use Rattle.step_machine.specs.declared.event.Event.TheVariants as event;
-ghost use Rattle.locked_buffers.specs.Commits.{AddsCopy, Agrees, AgreesTwice, CopyFails, LetsGo};
-ghost use Rattle.locked_buffers.specs.Commits.{PutsFrame, RelayFails, told_with};
+ghost use Rattle.locked_buffers.specs.Commits.{AddsCopy, Agrees, AgreesTwice, CopyFails};
+ghost use Rattle.locked_buffers.specs.Commits.{HasFrame, LetsGo, PutsFrame, RelayFails, told_with};
 
 use crate::fault::RelayFault;
-use crate::room::room;
+use crate::ready::has_frame;
 use crate::run::Run;
 use crate::seat::Relay;
 use slot_plans::Plan;
-use step_book::{Book, Buffer};
-use step_journal::holds;
+use step_book::{Book, Buffer, room};
 use step_machine::{Event, Name, Sealed};
 
-/// Whether the book is of the run, as the buffer is, and both agree on this copy.
-fn agree<P: Plan>(run: &Run<P>, buffer: &Buffer, book: &Book<P>, name: Name) -> bool
+/// Whether the book is of the run, as the buffer is, and says that this copy is in flight just
+/// where the buffer has its frame.
+pub(crate) fn agree<P: Plan>(
+    run: &Run<P>,
+    buffer: &Buffer,
+    book: &Book<P>,
+    name: Name,
+    has_frame: bool,
+) -> bool
     requires name { IsName run.now.setup name }
     requires of_run { IsOfRun run.now.program run.now.setup buffer.now }
+    requires frame { HasFrame name
+        (flying_at buffer.now name.round (place_among run.now.setup.nodes name)) has_frame }
     ensures { IsTrue result ↔ Agrees P.start run.now buffer.now book.now name }
 {
-    run.has_book(book) && holds(book, buffer, name)
+    // Nothing at run time: the contract speaks of it.
+    let _buffer = buffer;
+    run.has_book(book) && book.is_flying(name) == has_frame
 }
 
 /// A release: true where a copy went from flight to those that wait.
@@ -36,10 +46,13 @@ pub(crate) fn commit_release<P: Plan>(
     buffer: &mut Buffer,
     book: &mut Book<P>,
     name: Name,
+    has_frame: bool,
 ) -> Result<bool, RelayFault>
     requires name { IsName run.now.setup name }
     requires of_run { IsOfRun run.now.program run.now.setup buffer.old }
     requires room { 0 < buffer.old.spare }
+    requires frame { HasFrame name
+        (flying_at buffer.old name.round (place_among run.now.setup.nodes name)) has_frame }
     ensures recorded { OnOk result (book.new ≡ record book.old {
       log = happened book.old.log
           (event.Release name);
@@ -56,7 +69,7 @@ pub(crate) fn commit_release<P: Plan>(
     ensures taken { OnOk result (Agrees P.start run.now buffer.old book.old name) }
     ensures cause { IfErr result (RelayFails P.start run.now buffer.old book.old name) }
 {
-    if !agree(run, buffer, book, name) {
+    if !agree(run, buffer, book, name, has_frame) {
         return Err(RelayFault::Stranger);
     }
     room(&mut relay.events)?;
@@ -77,9 +90,12 @@ pub(crate) fn commit_drop<P: Plan>(
     buffer: &mut Buffer,
     book: &mut Book<P>,
     name: Name,
+    has_frame: bool,
 ) -> Result<bool, RelayFault>
     requires name { IsName run.now.setup name }
     requires of_run { IsOfRun run.now.program run.now.setup buffer.old }
+    requires frame { HasFrame name
+        (flying_at buffer.old name.round (place_among run.now.setup.nodes name)) has_frame }
     ensures recorded { OnOk result (book.new ≡ record book.old {
       log = happened book.old.log
           (event.Drop name);
@@ -95,7 +111,7 @@ pub(crate) fn commit_drop<P: Plan>(
     ensures taken { OnOk result (Agrees P.start run.now buffer.old book.old name) }
     ensures cause { IfErr result (RelayFails P.start run.now buffer.old book.old name) }
 {
-    if !agree(run, buffer, book, name) {
+    if !agree(run, buffer, book, name, has_frame) {
         return Err(RelayFault::Stranger);
     }
     room(&mut relay.events)?;
@@ -143,7 +159,11 @@ pub(crate) fn commit_copy<P: Plan>(
     ensures taken { OnOk result (AgreesTwice P.start run.now buffer.old book.old name) }
     ensures cause { IfErr result (CopyFails P.start run.now buffer.old book.old name) }
 {
-    if !agree(run, buffer, book, name) || !agree(run, buffer, book, name.original()) {
+    let has_copy = has_frame(run, buffer, name)?;
+    let has_original = has_frame(run, buffer, name.original())?;
+    if !agree(run, buffer, book, name, has_copy)
+        || !agree(run, buffer, book, name.original(), has_original)
+    {
         return Err(RelayFault::Stranger);
     }
     room(&mut relay.events)?;

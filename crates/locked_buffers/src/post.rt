@@ -21,7 +21,7 @@ use crate::fault::{PostFault, RelayFault, Unmatched};
 use crate::gate::{Gate, Point};
 use crate::locking::take;
 use crate::network::{commit_copy, commit_drop, commit_release};
-use crate::ready::{copy_of, make_place, make_room, names_in};
+use crate::ready::{copy_of, has_frame, make_place, make_room, names_in};
 use crate::refusals::{may_close, refuses_receive, refuses_send};
 use crate::run::Run;
 use crate::seat::{Relay, Seat};
@@ -153,14 +153,17 @@ impl<P: Plan> Post<P> {
         }
         let mut buffer = take(rt, &self.buffers[name.to as usize]);
         gate.pass(Point::Send(name));
-        if let Err(fault) = make_place(&self.run, &mut buffer, name) {
-            return Err(Refused {
-                fault: SendFault::from(fault),
-                prepared,
-            });
-        }
+        let has_frame = match make_place(&self.run, &mut buffer, name) {
+            Ok(has_frame) => has_frame,
+            Err(fault) => {
+                return Err(Refused {
+                    fault: SendFault::from(fault),
+                    prepared,
+                });
+            }
+        };
         let mut book = take(rt, &self.book);
-        commit_send(&self.run, seat, &mut buffer, &mut book, prepared)
+        commit_send(&self.run, seat, &mut buffer, &mut book, prepared, has_frame)
     }
 
     /// A receive step: every frame that was released to the node and not yet taken.
@@ -213,8 +216,10 @@ impl<P: Plan> Post<P> {
         if !may_close(&self.run, seat, finished.round()) {
             return Err(CloseFault::NotDue);
         }
+        let state = finished.new_state()?;
+        let stored = finished.stored_state()?;
         let mut book = take(rt, &self.book);
-        commit_close(&self.run, seat, &mut book, finished)
+        commit_close(&self.run, seat, &mut book, finished, state, stored)
     }
 
     /// A release: true where a copy went from flight to its buffer.
@@ -230,9 +235,9 @@ impl<P: Plan> Post<P> {
         ensures err { OnErr result (relay.new ≡ relay.old) }
     {
         let mut buffer = take(rt, &self.buffers[name.to as usize]);
-        make_room(&self.run, &mut buffer)?;
+        let has_frame = make_room(&self.run, &mut buffer, name)?;
         let mut book = take(rt, &self.book);
-        commit_release(&self.run, relay, &mut buffer, &mut book, name)
+        commit_release(&self.run, relay, &mut buffer, &mut book, name, has_frame)
     }
 
     /// A drop: true where a copy was in flight; its frame is gone.
@@ -250,8 +255,9 @@ impl<P: Plan> Post<P> {
         if !self.run.has_buffer(&buffer) {
             return Err(RelayFault::Stranger);
         }
+        let has_frame = has_frame(&self.run, &buffer, name)?;
         let mut book = take(rt, &self.book);
-        commit_drop(&self.run, relay, &mut buffer, &mut book, name)
+        commit_drop(&self.run, relay, &mut buffer, &mut book, name, has_frame)
     }
 
     /// A copy: true where copy 0 was in flight and this one, 1 to 3, was never made; its frame is
@@ -268,7 +274,7 @@ impl<P: Plan> Post<P> {
         ensures err { OnErr result (relay.new ≡ relay.old) }
     {
         let mut buffer = take(rt, &self.buffers[name.to as usize]);
-        make_place(&self.run, &mut buffer, name)?;
+        let _is_there = make_place(&self.run, &mut buffer, name)?;
         let frame = copy_of(&self.run, &buffer, name)?;
         let mut book = take(rt, &self.book);
         commit_copy(&self.run, relay, &mut buffer, &mut book, name, frame)

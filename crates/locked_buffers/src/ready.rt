@@ -1,12 +1,13 @@
 //! What a call does while it holds a buffer's lock and doesn't yet hold the book's, which all
 //! threads want: whether the buffer is of the run, and room and copies of frames.
-ghost use Rattle.std.specs.Prelude.{◌≡◌, ◌<◌, IfErr, IfOk, OnOk, option_map};
+ghost use Rattle.std.specs.Prelude.{◌≡◌, ◌<◌, ◌↔◌, All, IfErr, IfOk, IsTrue, OnOk, option_map};
 ghost use Rattle.step_book.specs.Buffers.{flying_at, names_in};
 ghost use Rattle.step_book.specs.Names.{IsName};
 ghost use Rattle.step_book.specs.Tables.{HasPlace};
 ghost use Rattle.step_journal.specs.Fits.{IsOfRun, place_among};
 ghost use Rattle.step_machine.specs.Sealed.{copied_as, original};
-ghost use Rattle.locked_buffers.specs.Commits.{IsUnread, IsUnready, SameBuffer};
+ghost use Rattle.locked_buffers.specs.Commits.{HasAnother, HasFrame, IsFromNode, IsUnread};
+ghost use Rattle.locked_buffers.specs.Commits.{IsUnready, SameBuffer};
 
 use crate::fault::{PostFault, RelayFault};
 use crate::room::names_of;
@@ -15,43 +16,76 @@ use round_lang::NoMemory;
 use slot_plans::Plan;
 use std::alloc::Global;
 use step_book::Buffer;
-use step_machine::{Name, Sealed};
+use step_machine::{MAX_COPY, Name, Sealed};
 
-/// Makes room in a buffer of the run for the frame of a message in flight.
+/// Makes room in a buffer of the run for the frame of a message in flight, and says whether it's
+/// there already.
 pub(crate) fn make_place<P: Plan>(
     run: &Run<P>,
     buffer: &mut Buffer,
     name: Name,
-) -> Result<(), RelayFault>
+) -> Result<bool, RelayFault>
     requires { IsName run.now.setup name }
     ensures of_run { OnOk result (IsOfRun run.now.program run.now.setup buffer.new) }
+    ensures frame { IfOk result (HasFrame name
+        (flying_at buffer.new name.round (place_among run.now.setup.nodes name))) }
     ensures place { OnOk result
         (HasPlace buffer.new.flying name.round (place_among run.now.setup.nodes name)) }
     ensures same { SameBuffer buffer.old buffer.new }
-    ensures cause { IfErr result (IsUnready run.now buffer.old) }
+    ensures cause { IfErr result (IsUnready run.now buffer.old name) }
 {
     if !run.has_buffer(buffer) {
         return Err(RelayFault::Stranger);
     }
+    let is_there = has_frame(run, buffer, name)?;
     buffer.reserve_flying(name.round, run.place(name))?;
-    Ok(())
+    Ok(is_there)
 }
 
-/// Makes room in a buffer of the run for a frame more that waits.
-pub(crate) fn make_room<P: Plan>(run: &Run<P>, buffer: &mut Buffer) -> Result<(), RelayFault>
+/// Makes room in a buffer of the run for a frame more that waits, and says whether the frame of a
+/// message is in flight.
+pub(crate) fn make_room<P: Plan>(
+    run: &Run<P>,
+    buffer: &mut Buffer,
+    name: Name,
+) -> Result<bool, RelayFault>
+    requires { IsName run.now.setup name }
     ensures of_run { OnOk result (IsOfRun run.now.program run.now.setup buffer.new) }
+    ensures frame { IfOk result (HasFrame name
+        (flying_at buffer.new name.round (place_among run.now.setup.nodes name))) }
     ensures room { OnOk result (0 < buffer.new.spare) }
     ensures same { SameBuffer buffer.old buffer.new }
-    ensures cause { IfErr result (IsUnready run.now buffer.old) }
+    ensures cause { IfErr result (IsUnready run.now buffer.old name) }
 {
     if !run.has_buffer(buffer) {
         return Err(RelayFault::Stranger);
     }
+    let is_there = has_frame(run, buffer, name)?;
     buffer.reserve_waiting()?;
-    Ok(())
+    Ok(is_there)
 }
 
-/// The names of the frames that wait in a buffer of the run.
+/// Whether a buffer has the frame of this name in flight. That another frame lies at its place is
+/// refused.
+pub(crate) fn has_frame<P: Plan>(
+    run: &Run<P>,
+    buffer: &Buffer,
+    name: Name,
+) -> Result<bool, RelayFault>
+    requires { IsName run.now.setup name }
+    ensures frame { IfOk result (HasFrame name
+        (flying_at buffer.now name.round (place_among run.now.setup.nodes name))) }
+    ensures cause { IfErr result (λ fault. (fault ≡ RelayFault.Stranger) × HasAnother name
+        (flying_at buffer.now name.round (place_among run.now.setup.nodes name))) }
+{
+    match buffer.flying(name.round, run.place(name)) {
+        Some(frame) if frame.name() == name => Ok(true),
+        Some(_) => Err(RelayFault::Stranger),
+        None => Ok(false),
+    }
+}
+
+/// The names of the frames that wait in a buffer of the run, which are from nodes of the run.
 pub(crate) fn names_in<P: Plan>(
     alloc: Global,
     run: &Run<P>,
@@ -59,12 +93,27 @@ pub(crate) fn names_in<P: Plan>(
 ) -> Result<Vec<Name>, PostFault>
     ensures of_run { OnOk result (IsOfRun run.now.program run.now.setup buffer.now) }
     ensures names { IfOk result (λ names. names.items ≡ names_in buffer.now.waiting) }
+    ensures senders { IfOk result (λ names. All (IsFromNode run.now.setup.nodes) names.items) }
     ensures cause { IfErr result (IsUnread run.now buffer.now) }
 {
     if !run.has_buffer(buffer) {
         return Err(PostFault::Stranger);
     }
-    Ok(names_of(alloc, buffer.waiting())?)
+    let names = names_of(alloc, buffer.waiting())?;
+    if !names
+        .iter()
+        .all(|name| is_from_node(run.setup.nodes, *name))
+    {
+        return Err(PostFault::Stranger);
+    }
+    Ok(names)
+}
+
+/// Whether a name is that of a copy of a message from one of so many nodes.
+fn is_from_node(nodes: u32, name: Name) -> bool
+    ensures { IsTrue result ↔ IsFromNode nodes name }
+{
+    name.from < nodes && name.copy <= MAX_COPY
 }
 
 /// The frame in flight as copy 0 of a message, as the copy of this name.

@@ -159,20 +159,20 @@ pub ruleset parts = (
 module _ (P : RattleType) (p : plan.Ghosts P.Denot) (e : eq.Ghosts P.Denot) where
   pub book_send : IsSend P → IsSend (book.the_row P p e)
   book_send s = view_send (book_inside.the_row P p e) _ _ _ _ (declared_send (book_inside.the_type P p e) (
-    as_row_send checked.the_field checked_send,
+    search (event.the_send, crosses, sendable) depth 30,
     (
-      setup.the_send,
+      search (name.the_send, crosses, sendable) depth 30,
       (
-        as_row_send (row_field P) s,
+        search (crosses, sendable) depth 30,
         (
-          search (event.the_send, crosses, sendable) depth 30,
+          search (crosses, sendable) depth 30,
           (
-            search (crosses, sendable) depth 30,
+            search (vars.the_send, vars.the_sync, crosses, sendable) depth 30,
             (
-              search (vars.the_send, vars.the_sync, crosses, sendable) depth 30,
+              search (marks.the_send, sendable) depth 30,
               (
-                search (marks.the_send, sendable) depth 30,
-                (search (mail.the_send, crosses, sendable) depth 30, (search (crosses, sendable) depth 30, (search (name.the_send, crosses, sendable) depth 30, tt))),
+                search (mail.the_send, crosses, sendable) depth 30,
+                (as_row_send checked.the_field checked_send, (setup.the_send, (as_row_send (row_field P) s, tt))),
               ),
             ),
           ),

@@ -4,6 +4,7 @@ use Rattle.std.proofs.Common.{List, [], ◌∷◌, ◌++◌, length, get_or, set
 use Rattle.std.proofs.Common.{subst, refl, ap, ◌∙◌, arith, if◌then◌else◌}
 use Rattle.std.specs.Prelude.{option_map, Result, Ok, Err, OnErr, IfErr, IsErrAnd}
 use Rattle.std.specs.Option.{ForSome}
+use Rattle.std.proofs.lemmas.Option.{same_Some}
 use Rattle.round_lang.specs.declared.value.Value.{Value}
 use Rattle.round_meaning.specs.Rounds.{Algorithm, algorithm_of}
 use Rattle.step_machine.specs.Sealed.{Frame, held_at}
@@ -49,6 +50,10 @@ same_view {P} {s} rows e h = ap (λ r. record s { log = record s.log { rows = r 
 pub rows_closed : {P : Type 0} {s v : Recorded P} (n : NodeView) (k : ℕ) (rows : List Row) → s ≡ v → k ≡ n.me → rows ≡ set s.log.rows k (row s.log.rows k ++ end_state n ∷ []) → rows ≡ (closed v.log n).rows
 rows_closed {P} {s} n k rows e a h =
     h ∙ ap (λ x. set s.log.rows x (row s.log.rows x ++ end_state n ∷ [])) a ∙ ap (λ (z : Recorded P). set z.log.rows n.me (row z.log.rows n.me ++ end_state n ∷ [])) e
+
+-- the state that is recorded is the one that the node ended its round with
+pub ended_grown : (n : NodeView) (s : List Value) (old new : Row) → n.next ≡ Some (end_state n) → Some s ≡ n.next → new ≡ old ++ s ∷ [] → new ≡ old ++ end_state n ∷ []
+ended_grown n s old new is e h = h ∙ ap (λ x. old ++ x ∷ []) (same_Some s (end_state n) (e ∙ is))
 
 -- the old state and the frames of a finished node, as they are compared
 abbrev pub IsMet : (ℕ → ℕ) → Log → ℕ → ℕ → List Value → List (Option Frame) → Type 0

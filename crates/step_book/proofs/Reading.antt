@@ -1,7 +1,8 @@
 -- What the reading calls of a record answer.
 use Rattle.std.proofs.Common.{◌≡◌, ℕ, ◌+◌, ◌-◌, ◌*◌, ◌<◌, ◌≤◌, List, [], ◌∷◌, ◌++◌, length, get_or}
-use Rattle.std.proofs.Common.{sym, subst, refl, ap, ◌∙◌, arith, Bool}
-use Rattle.std.proofs.lemmas.List.{get_or-map, length-map, get_or_default}
+use Rattle.std.proofs.Common.{sym, subst, refl, ap, ◌∙◌, arith, Bool, ◌⊎◌, inl, inr}
+use Rattle.std.proofs.lemmas.Bool.{cases_lt}
+use Rattle.std.proofs.lemmas.List.{get_or-map, get_or_past, length-map, get_or_default}
 use Rattle.std.specs.List.{count_by}
 use Rattle.std.specs.Prelude.{Vec}
 use Rattle.std.specs.Arc.{arc_value}
@@ -106,6 +107,14 @@ module _ {start : ℕ → ℕ} {nodes : ℕ} {v : Log} {counts : List ℕ} {tabl
   mark_read n p a e =
       let same : p ≡ place_of (world_of start v) n = e ∙ ap (λ m. ((n.round - 1) * m + n.from) * m + n.to) (sym (nodes_are start v)) in
       ap (read_at Unsent tables n.copy) same ∙ h.book.mark n (named start v n a)
+
+  -- where a copy number has no table, none of its copies was made
+  pub none_made : (n : Name) (k : ℕ) → IsName v.setup n → n.copy ≡ k → (k < length tables → ⊥) → mark_in start v n ≡ Unsent
+  none_made n k a e none = by (cases_lt k (length tables))
+    where
+      by : (k < length tables) ⊎ (length tables ≤ k) → mark_in start v n ≡ Unsent
+      by (inl there) = absurd (none there)
+      by (inr past) = sym (mark_read n _ a refl) ∙ ap (λ t. get_or t (((n.round - 1) * v.setup.nodes + n.from) * v.setup.nodes + n.to) Unsent) (get_or_past tables n.copy [] (omega arith))
 
   -- what is in flight has its mark in the tables
   pub flying_in : (n : Name) (p : ℕ) → IsName v.setup n → IsFlying start v n → p ≡ ((n.round - 1) * v.setup.nodes + n.from) * v.setup.nodes + n.to → HasPlace tables n.copy p

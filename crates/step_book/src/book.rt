@@ -1,42 +1,43 @@
 //! What a run has recorded, by the names of its messages.
 ghost use Rattle.std.specs.Prelude.{◌≡◌, ◌+◌, ◌-◌, ◌*◌, ◌^◌, ◌<◌, ◌≤◌, ◌++◌, ◌↔◌, [], IfErr, IfOk};
-ghost use Rattle.std.specs.Prelude.{IfSome, IsTrue, MatchOption, None, OnErr, OnOk, length};
-ghost use Rattle.std.specs.Prelude.{option_map};
+ghost use Rattle.std.specs.Prelude.{IfSome, IsTrue, MatchOption, None, OnErr, OnOk};
 ghost use Rattle.round_meaning.specs.Rounds.{algorithm_of};
 ghost use Rattle.round_meaning.specs.Setups.{IsLawful};
 ghost use Rattle.step_machine.specs.Sealed.{IsPrepared, original};
 ghost use Rattle.step_book.specs.Agreed.{JournalAgrees, KeepsClosed};
 ghost use Rattle.step_book.specs.Agreement.{IsBuffer, row};
-ghost use Rattle.step_book.specs.Causes.{CloseCause, IdleCause, IsDueIn, EndsAsRecorded};
+ghost use Rattle.step_book.specs.Causes.{IdleCause};
 ghost use Rattle.step_book.specs.Causes.{IsReceiveFit, IsSendFit, ReceiveCause, SendCause};
 ghost use Rattle.step_book.specs.Flight.{IsFlight, IsFlightBefore};
 ghost use Rattle.step_book.specs.History.{answers_of, arrival, copied, counted, dropped};
 ghost use Rattle.step_book.specs.History.{handed_of, let_go, spoken};
 ghost use Rattle.step_book.specs.Log.{CanCopy, HasNoCopy, IsDue, IsFaithful, IsFlying, IsLeastCopy};
 ghost use Rattle.step_book.specs.Log.{IsReceive, SameMarks};
-ghost use Rattle.step_book.specs.Log.{SameMarksBut, SameWaiting, SameWaitingBut, closed, count_of};
-ghost use Rattle.step_book.specs.Log.{happened, history, mark_in, opened, round_of, state_before};
+ghost use Rattle.step_book.specs.Log.{SameMarksBut, SameWaiting, SameWaitingBut, count_of};
+ghost use Rattle.step_book.specs.Log.{happened, history, mark_in, opened, round_of};
 ghost use Rattle.step_book.specs.Log.{states_of, waiting_in, world_of};
 ghost use Rattle.step_book.specs.Names.{IsName};
 ghost use Rattle.step_book.specs.Serials.{AreSent, HasSerial};
 ghost use Rattle.step_book.specs.Stored.{IsShort};
-ghost use Rattle.step_book.specs.Work.{AreCarried, any_within, heard_from, is_within, tag_of};
+ghost use Rattle.step_book.specs.declared.mark.Mark.TheVariants.{Unsent};
+ghost use Rattle.step_machine.specs.declared.event.Name.{Name as OneName};
 
-use crate::fault::{CloseFault, IdleFault, ReceiveFault, SendFault};
+mod closing;
+
+use crate::fault::{IdleFault, ReceiveFault, SendFault};
 use crate::mail::Mail;
 use crate::mark::Mark;
 use crate::marks::Marks;
-use crate::notes::{note_answer, note_close, note_receive, note_release, note_send, note_step};
+use crate::notes::{note_answer, note_receive, note_release, note_send, note_step};
 use crate::opening::{first_rows, no_mail, no_steps};
-use crate::tags::{earliest, is_tagged, is_within};
 use round_check::Checked;
-use round_lang::{NoMemory, Vars};
+use round_lang::NoMemory;
 use round_meaning::Setup;
 use slot_plans::Plan;
 use std::alloc::Global;
 use std::marker::Model;
 use std::sync::Arc;
-use step_machine::{Event, Finished, InFlight, MAX_COPY, Name, Prepared, Sealed, StoredState};
+use step_machine::{Event, InFlight, MAX_COPY, Name, Prepared, StoredState};
 use stored_events::{StoredEvent, StoredName};
 
 /// The record of a run: its events, the steps of each node, the states of its closed rounds, what
@@ -44,16 +45,18 @@ use stored_events::{StoredEvent, StoredName};
 /// was answered, and the order in which the messages were sent.
 #[derive(Drop)]
 pub struct Book<P: Plan> {
-    program: Checked,
-    setup: Setup,
-    plan: P,
+    // What nearly each event changes stands first, and so, in a book under a lock, beside the
+    // lock's word.
     trace: Vec<StoredEvent>,
+    messages: Vec<StoredName>,
+    answers: Vec<bool>,
     steps: Vec<u64>,
     states: Vec<Vec<Arc<StoredState>>>,
     marks: Marks,
     mails: Vec<Mail>,
-    answers: Vec<bool>,
-    messages: Vec<StoredName>,
+    program: Checked,
+    setup: Setup,
+    plan: P,
 }
 
 impl<P: Plan> Model for Book<P> {
@@ -200,6 +203,14 @@ impl<P: Plan> Book<P> {
         ensures { result ≡ mark_in (P.start self.now.plan) self.now.log name }
     {
         self.marks.at(name.copy, self.place(name))
+    }
+
+    /// Whether messages may have this copy. Where they don't, no such copy was ever made.
+    pub fn has_copies(&self, copy: u32) -> bool
+        ensures { (¬ IsTrue result) → (name : OneName) → IsName self.now.log.setup name
+            → name.copy ≡ copy → mark_in (P.start self.now.plan) self.now.log name ≡ Unsent }
+    {
+        self.marks.has_table(copy)
     }
 
     /// Whether a copy of a message is in flight.
@@ -610,50 +621,6 @@ impl<P: Plan> Book<P> {
         Ok(false)
     }
 
-    /// Closes the due round that a node of the run finished.
-    pub fn close(&mut self, finished: &Finished<'_>) -> Result<(), CloseFault>
-        requires program { finished.now.node.now.program ≡ self.old.log.program }
-        requires setup { finished.now.node.now.setup ≡ self.old.log.setup }
-        ensures ok { OnOk result
-            (self.new ≡ record self.old { log = closed self.old.log finished.now.node.now }) }
-        ensures err { OnErr result (self.new ≡ self.old) }
-        ensures cause { IfErr result
-            (CloseCause (P.start self.old.plan) self.old.log finished.now.node.now) }
-        ensures fit { OnOk result
-            (IsDueIn (P.start self.old.plan) self.old.log finished.now.node.now
-            × EndsAsRecorded (P.start self.old.plan) self.old.log finished.now.node.now) }
-        ensures kept { OnOk result (KeepsClosed (P.start self.old.plan) self.old.log self.new.log) }
-    {
-        let node = finished.node();
-        let round = self.round_of(node);
-        if !self.is_due(node) || finished.round() != round {
-            return Err(CloseFault::NotDue);
-        }
-        if !self.is_known(node, finished.old(), finished.frames()) {
-            return Err(CloseFault::Stranger);
-        }
-        self.record_close(finished)?;
-        Ok(())
-    }
-
-    /// Closes a round that isn't refused.
-    pub fn record_close(&mut self, finished: &Finished<'_>) -> Result<(), NoMemory>
-        requires program { finished.now.node.now.program ≡ self.old.log.program }
-        requires setup { finished.now.node.now.setup ≡ self.old.log.setup }
-        requires due { IsDueIn (P.start self.old.plan) self.old.log finished.now.node.now }
-        requires ended { EndsAsRecorded (P.start self.old.plan) self.old.log finished.now.node.now }
-        ensures ok { OnOk result
-            (self.new ≡ record self.old { log = closed self.old.log finished.now.node.now }) }
-        ensures err { OnErr result (self.new ≡ self.old) }
-        ensures kept { OnOk result (KeepsClosed (P.start self.old.plan) self.old.log self.new.log) }
-    {
-        // Nothing at run time: what is known of the frames that the node folded.
-        let _frames = finished.frames();
-        let node = finished.node();
-        note_close(&mut self.states[node as usize], finished)?;
-        Ok(())
-    }
-
     /// A step after the last round.
     pub fn idle_step(&mut self, node: u32) -> Result<(), IdleFault>
         requires { node < self.old.log.setup.nodes }
@@ -688,85 +655,6 @@ impl<P: Plan> Book<P> {
     {
         note_step(&mut self.trace, &mut self.steps, node)?;
         Ok(())
-    }
-
-    /// Whether the state is the one before the node's due round, and the frames, by sender, are
-    /// those that were carried to it.
-    fn is_known(&self, node: u32, old: &Vars, frames: &[Option<Sealed>]) -> bool
-        requires node { node < self.now.log.setup.nodes }
-        requires due { IsDue (P.start self.now.plan) self.now.log node }
-        requires sized { length frames.now ≡ self.now.log.setup.nodes }
-        ensures { IsTrue result
-            ↔ (state_before self.now.log node (round_of self.now.log node) ≡ old.now)
-            × AreCarried (world_of (P.start self.now.plan) self.now.log) (history self.now.log) node
-            (round_of self.now.log node - 1) frames.now }
-    {
-        let round = self.round_of(node);
-        let row = &self.states[node as usize];
-        if !row[round as usize - 1].same(old) {
-            return false;
-        }
-        self.are_carried(node, frames)
-    }
-
-    fn are_carried(&self, node: u32, frames: &[Option<Sealed>]) -> bool
-        requires node { node < self.now.log.setup.nodes }
-        requires due { IsDue (P.start self.now.plan) self.now.log node }
-        requires sized { length frames.now ≡ self.now.log.setup.nodes }
-        ensures { IsTrue result ↔ AreCarried (world_of (P.start self.now.plan) self.now.log)
-            (history self.now.log) node (round_of self.now.log node - 1) frames.now }
-    {
-        for from in 0..self.setup.nodes {
-            if !self.is_carried(node, from, &frames[from as usize]) {
-                return false;
-            }
-        }
-        true
-    }
-
-    fn is_carried(&self, node: u32, from: u32, frame: &Option<Sealed>) -> bool
-        requires node { node < self.now.log.setup.nodes }
-        requires from { from < self.now.log.setup.nodes }
-        requires due { IsDue (P.start self.now.plan) self.now.log node }
-        ensures { IsTrue result ↔ (option_map tag_of frame.now
-            ≡ heard_from (world_of (P.start self.now.plan) self.now.log) (history self.now.log) node
-            (round_of self.now.log node - 1) from) }
-    {
-        let round = self.round_of(node);
-        let row = &self.states[from as usize];
-        let name = Name {
-            from,
-            to: node,
-            round,
-            copy: 0,
-        };
-        let first = self.start(earliest(round));
-        if !self.was_released(name, first, self.start(round + 1)) {
-            return frame.is_none();
-        }
-        is_tagged(frame, name, &row[round as usize - 1])
-    }
-
-    /// Whether one of a message's copies was released while its receiver's step count stood from
-    /// `first` on and below `end`.
-    pub fn was_released(&self, name: Name, first: u64, end: u64) -> bool
-        requires { IsName self.now.log.setup name }
-        ensures { result ≡ any_within (λ k.
-            mark_in (P.start self.now.plan) self.now.log (record name { copy = k })) first end }
-    {
-        self.was_let_go(name, 0, first, end)
-            || self.was_let_go(name, 1, first, end)
-            || self.was_let_go(name, 2, first, end)
-            || self.was_let_go(name, 3, first, end)
-    }
-
-    fn was_let_go(&self, name: Name, copy: u32, first: u64, end: u64) -> bool
-        requires name { IsName self.now.log.setup name }
-        requires copy { copy ≤ 3 }
-        ensures { result ≡ is_within (mark_in (P.start self.now.plan) self.now.log
-            (record name { copy = copy })) first end }
-    {
-        is_within(self.mark(Name { copy, ..name }), first, end)
     }
 }
 

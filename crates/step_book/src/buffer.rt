@@ -1,5 +1,6 @@
 //! The frames of one node.
-ghost use Rattle.std.specs.Prelude.{◌≡◌, ◌<◌, ◌++◌, [], IfOk, MatchOption, OnOk, None, Some};
+ghost use Rattle.std.specs.Prelude.{◌≡◌, ℕ, ◌<◌, ◌≤◌, ◌++◌, [], IfOk, IsTrue, MatchOption, OnOk};
+ghost use Rattle.std.specs.Prelude.{None, Some};
 ghost use Rattle.std.specs.Prelude.{option_to_list, vec_len};
 ghost use Rattle.step_machine.specs.Sealed.{IsHonest};
 ghost use Rattle.step_book.specs.Buffers.{AreHonest, IsSameRun, flying_at, run_of};
@@ -20,11 +21,12 @@ use step_machine::{Sealed, SealedView};
 /// that it names sends in that run.
 #[derive(Drop)]
 pub struct Buffer {
+    // What nearly each call changes stands first, as in the book.
+    waiting: Waiting,
+    flying: Vec<RoundFrames>,
     alloc: Global,
     program: Checked,
     setup: Setup,
-    flying: Vec<RoundFrames>,
-    waiting: Waiting,
 }
 
 impl Model for Buffer {
@@ -103,6 +105,14 @@ impl Buffer {
             Some(table) => table.at(place),
             None => None,
         }
+    }
+
+    /// Whether no round's table reaches a place: then no frame is in flight from there on.
+    pub fn is_free_from(&self, place: usize) -> bool
+        ensures { IsTrue result → (round later : ℕ) → place ≤ later
+            → flying_at self.now round later ≡ None }
+    {
+        self.flying.iter().all(|table| table.len() <= place)
     }
 
     /// Makes room for a frame in flight at a place of a round's table.

@@ -4,6 +4,7 @@ ghost use Rattle.std.specs.Prelude.{slice_index, slice_index_or, take};
 ghost use Rattle.step_book.specs.Mailing.{mailed};
 ghost use Rattle.stored_events.specs.Stored.{IsFewName};
 
+use crate::growth::room;
 use round_lang::NoMemory;
 use std::alloc::Global;
 use std::marker::Model;
@@ -74,7 +75,8 @@ impl Mail {
         ensures waiting { OnOk result (self.new.waiting ≡ self.old.waiting ++ name ∷ []) }
         ensures err { OnErr result (self.new ≡ self.old) }
     {
-        self.names.push(StoredName::new(name))?;
+        room(&mut self.names)?;
+        self.names.push_reserved(StoredName::new(name));
         Ok(())
     }
 
@@ -86,7 +88,8 @@ impl Mail {
         ensures err { OnErr result (self.new ≡ self.old) }
     {
         let count = self.names.len();
-        self.ends.push(count)?;
+        room(&mut self.ends)?;
+        self.ends.push_reserved(count);
         self.taken = count;
         Ok(())
     }

@@ -1,5 +1,5 @@
 //! The marks of a run's messages.
-ghost use Rattle.std.specs.Prelude.{◌≡◌, ◌<◌, ◌≤◌, [], IsTrue, OnOk, length, vec_len};
+ghost use Rattle.std.specs.Prelude.{◌≡◌, ◌<◌, ◌≤◌, ◌↔◌, [], IsTrue, OnOk, length, vec_len};
 ghost use Rattle.step_book.specs.declared.mark.Mark.TheVariants.{Unsent};
 ghost use Rattle.step_book.specs.Stored.{IsShort};
 ghost use Rattle.step_book.specs.Tables.{HasPlace, Puts, SameTable, SameTables, read_at, tables_of};
@@ -53,6 +53,13 @@ impl Marks {
             Some(stored) => stored.mark(),
             None => Mark::Unsent,
         }
+    }
+
+    /// Whether there is a table of a copy: else all its marks are `Unsent`.
+    pub(crate) fn has_table(&self, copy: u32) -> bool
+        ensures { IsTrue result ↔ (copy < length self.now) }
+    {
+        (copy as usize) < self.tables.len()
     }
 
     /// Makes room for a mark.

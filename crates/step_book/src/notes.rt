@@ -1,20 +1,22 @@
 //! What an event adds to a record, field by field. All growth goes before any change, so an error
 //! leaves each field as it was.
+ghost use Rattle.std.specs.Arc.{arc_value};
 ghost use Rattle.std.specs.Prelude.{◌≡◌, ◌+◌, ◌<◌, ◌≤◌, [], ◌∷◌, ◌++◌, OnOk, OnErr};
 ghost use Rattle.std.specs.Prelude.{slice_index, slice_set, true, vec_len};
 ghost use Rattle.step_book.specs.declared.mark.Mark.TheVariants.{Unsent};
 ghost use Rattle.step_book.specs.History.{arrival};
 ghost use Rattle.step_book.specs.Stored.{IsShort};
 ghost use Rattle.step_book.specs.Tables.{Puts, SameTables};
-ghost use Rattle.step_book.specs.Log.{end_state, states_of};
+ghost use Rattle.step_book.specs.Log.{states_of};
 ghost use Rattle.stored_events.specs.Stored.{IsFew, IsFewName};
 
+use crate::growth::room;
 use crate::mail::Mail;
 use crate::mark::Mark;
 use crate::marks::Marks;
 use round_lang::NoMemory;
 use std::sync::Arc;
-use step_machine::{Event, Finished, Name, StoredState};
+use step_machine::{Event, Name, StoredState};
 use stored_events::{StoredEvent, StoredName};
 
 /// A step of a node.
@@ -33,7 +35,7 @@ pub(crate) fn note_step(
     ensures trace_kept { OnErr result (trace.new.items ≡ trace.old.items) }
     ensures steps_kept { OnErr result (steps.new.items ≡ steps.old.items) }
 {
-    trace.reserve(1)?;
+    room(trace)?;
     let step = StoredEvent::new(Event::Step(node));
     trace.push_reserved(step);
     steps[node as usize] += 1;
@@ -66,7 +68,7 @@ pub(crate) fn note_send(
     ensures messages_kept { OnErr result (messages.new.items ≡ messages.old.items) }
 {
     marks.reserve(0, place)?;
-    messages.reserve(1)?;
+    room(messages)?;
     note_step(trace, steps, name.from)?;
     marks.put(0, place, mark);
     if mark == Mark::Flying {
@@ -95,7 +97,7 @@ pub(crate) fn note_receive(
     ensures steps_kept { OnErr result (steps.new.items ≡ steps.old.items) }
     ensures mail_kept { OnErr result (mail.new ≡ mail.old) }
 {
-    trace.reserve(1)?;
+    room(trace)?;
     mail.hand_out()?;
     trace.push_reserved(StoredEvent::new(Event::Step(node)));
     steps[node as usize] += 1;
@@ -119,8 +121,8 @@ pub(crate) fn note_release(
     ensures answers_kept { OnErr result (answers.new.items ≡ answers.old.items) }
     ensures mail_kept { OnErr result (mail.new ≡ mail.old) }
 {
-    trace.reserve(1)?;
-    answers.reserve(1)?;
+    room(trace)?;
+    room(answers)?;
     mail.push(name)?;
     answers.push_reserved(true);
     trace.push_reserved(StoredEvent::new(Event::Release(name)));
@@ -141,8 +143,9 @@ pub(crate) fn note_answer(
     ensures trace_kept { OnErr result (trace.new.items ≡ trace.old.items) }
     ensures answers_kept { OnErr result (answers.new.items ≡ answers.old.items) }
 {
-    trace.reserve(1)?;
-    answers.push(answer)?;
+    room(trace)?;
+    room(answers)?;
+    answers.push_reserved(answer);
     trace.push_reserved(StoredEvent::new(event));
     Ok(())
 }
@@ -150,14 +153,12 @@ pub(crate) fn note_answer(
 /// The state that a node ended its round with goes to its row.
 pub(crate) fn note_close(
     states: &mut Vec<Arc<StoredState>>,
-    finished: &Finished<'_>,
+    state: Arc<StoredState>,
 ) -> Result<(), NoMemory>
-    ensures ok { OnOk result (states_of states.new.items
-        ≡ states_of states.old.items ++ end_state finished.now.node.now ∷ []) }
+    ensures ok { OnOk result
+        (states_of states.new.items ≡ states_of states.old.items ++ arc_value state ∷ []) }
     ensures err { OnErr result (states.new.items ≡ states.old.items) }
 {
-    states.reserve(1)?;
-    let state = finished.stored_state()?;
-    states.push_reserved(state);
+    states.push(state)?;
     Ok(())
 }

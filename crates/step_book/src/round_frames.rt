@@ -37,6 +37,13 @@ impl RoundFrames {
         }
     }
 
+    /// How many places there are.
+    pub(crate) fn len(&self) -> usize
+        ensures { result ≡ length self.now }
+    {
+        self.frames.len()
+    }
+
     /// The frame at a place.
     pub(crate) fn at(&self, place: usize) -> Option<SealedView<'_>>
         ensures { result ≡ slice_index_or self.now place None }

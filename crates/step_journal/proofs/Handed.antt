@@ -58,6 +58,10 @@ frame_to i frames h k d l =
     let m = length-map frames (λ (f : Frame). f.name) in
     ap (λ (n : Name). n.to) (sym (get_or-map (λ (f : Frame). f.name) frames k d d.name l)) ∙ h k d.name (omega arith)
 
+-- frames under the names that wait for a node are to it
+pub mail_to : (w : World) (i : ℕ) (t : List Event) (frames : List Frame) → names_in frames ≡ buffer_of w i t → (k : ℕ) (d : Frame) → k < length frames → (get_or frames k d).name.to ≡ i
+mail_to w i t frames names = frame_to i frames (All-same (IsTo i) _ _ names (to_waiting w i t))
+
 -- a node with a recorded state is one of the run
 from_in : (rows : List Row) (j r : ℕ) → 0 < r → r ≤ length (row rows j) → (j < length rows) ⊎ (length rows ≤ j) → j < length rows
 from_in rows j r first past (inl l) = l
@@ -70,7 +74,7 @@ mail_of w t a rows n i frames long names genuine = λ k d l.
     record {
       from = subst (λ z. (get_or frames k d).name.from < z) long (from_in rows _ _ one.first one.past (cases_lt _ _));
       copy = one.copy;
-      to = frame_to i frames (All-same (IsTo i) _ _ names (to_waiting w i t)) k d l;
+      to = mail_to w i t frames names k d l;
       honest = one.honest;
     }
 

@@ -1,5 +1,5 @@
 -- A book and its buffers fit where each part of them does.
-use Rattle.std.proofs.Common.{◌≡◌, ◌≢◌, ℕ, ◌+◌, ◌-◌, ◌<◌, ◌≤◌, All, List, [], length, get_or, Option}
+use Rattle.std.proofs.Common.{◌≡◌, ◌≢◌, ℕ, ◌+◌, ◌-◌, ◌*◌, ◌<◌, ◌≤◌, All, List, [], length, get_or, Option}
 use Rattle.std.proofs.Common.{Some, None, ap, sym, subst, ◌∙◌, refl, arith, ◌⊎◌, inl, inr}
 use Rattle.std.specs.Prelude.{Bool, true, false, IfSome, IsSomeAnd, IsTrue, is_some, not, option_map, slice_get}
 use Rattle.std.proofs.lemmas.Bool.{cases_eq, cases_lt}
@@ -115,6 +115,16 @@ four_copies F zero one two three k few = at (cases_eq k 0) (cases_eq k 1) (cases
 -- a name of the run, by its parts
 named_is : (v : Log) (i k r j : ℕ) → i < v.setup.nodes → k ≤ 3 → 0 < r → r ≤ v.setup.rounds → j < v.setup.nodes → IsName v.setup (named i k r j)
 named_is v i k r j to copy first last from = record { from = from; to = to; first = first; last = last; copy = copy }
+
+-- where a copy number has neither marks nor places, nothing of it is to stand, and nothing does
+pub flies_none : (start : ℕ → ℕ) (v : Log) (b : BufferView) (i k first : ℕ) → i < v.setup.nodes → k ≤ 3 → first ≡ k * v.setup.nodes
+    → ((n : Name) → IsName v.setup n → n.copy ≡ k → mark_in start v n ≡ Unsent)
+    → ((r later : ℕ) → first ≤ later → flying_at b r later ≡ None) → FliesAs start v b i k v.setup.rounds
+flies_none start v b i k first to copy at unmade free = λ r j low last from.
+    let n = named i k r j in
+    let unsent = unmade n (named_is v i k r j to copy low last from) refl in
+    none_flies v.rows n (mark_in start v n) (flying_at b r (place_among v.setup.nodes n))
+    (λ fly. let both : Unsent ≡ Flying = sym unsent ∙ fly in cc) (free r (place_among v.setup.nodes n) (omega (arith, at)))
 
 pub fits_at : (start : ℕ → ℕ) (v : Log) (bs : List BufferView) (i : ℕ) (b : BufferView) → i < v.setup.nodes → b ≡ get_or bs i b → Fits start v bs → FitsNode start v i b
 fits_at start v bs i b l h f =

@@ -40,7 +40,7 @@ fn fits_node<P: Plan>(book: &Book<P>, node: u32, buffer: &Buffer) -> bool
 }
 
 /// Whether frames have these names, in this order, and the recorded states.
-pub fn are_named<P: Plan>(book: &Book<P>, frames: &Waiting, names: &[StoredName]) -> bool
+fn are_named<P: Plan>(book: &Book<P>, frames: &Waiting, names: &[StoredName]) -> bool
     ensures { IsTrue result ↔ AreNamed book.now.log.rows frames.now.items names.now }
 {
     for (place, name) in names.iter().enumerate() {
@@ -106,6 +106,10 @@ fn flies_as<P: Plan>(book: &Book<P>, buffer: &Buffer, node: u32, copy: u32) -> b
         book.now.log.setup.rounds }
 {
     book.agrees();
+    let first = copy as usize * book.setup().nodes as usize;
+    if !book.has_copies(copy) && buffer.is_free_from(first) {
+        return true;
+    }
     for round in 1..book.setup().rounds + 1 {
         for from in 0..book.setup().nodes {
             let name = Name {
@@ -124,7 +128,7 @@ fn flies_as<P: Plan>(book: &Book<P>, buffer: &Buffer, node: u32, copy: u32) -> b
 
 /// Whether a buffer has a frame of this name, of its sender's recorded state, just where the book
 /// says that it's in flight.
-pub fn holds<P: Plan>(book: &Book<P>, buffer: &Buffer, name: Name) -> bool
+fn holds<P: Plan>(book: &Book<P>, buffer: &Buffer, name: Name) -> bool
     requires { IsName book.now.log.setup name }
     ensures { IsTrue result ↔ HoldsAt book.now.log.rows name
         (mark_in (P.start book.now.plan) book.now.log name)

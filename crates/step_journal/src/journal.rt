@@ -453,7 +453,8 @@ impl<P: Plan> Journal<P> {
     {
         self.book.agrees();
         let _one = finished.node();
-        self.book.record_close(finished)?;
+        let state = finished.stored_state()?;
+        self.book.record_close(finished, state)?;
         Ok(())
     }
 

@@ -4,5 +4,5 @@
 mod fitting;
 mod journal;
 
-pub use fitting::{are_named, holds, place};
+pub use fitting::place;
 pub use journal::{Journal, Took};

@@ -1,4 +1,4 @@
-use Rattle.std.proofs.Common.{subst}
+use Rattle.std.proofs.Common.{subst, sym, ◌∙◌}
 use Rattle.std.specs.Prelude.{All}
 use Rattle.step_book.specs.Buffers.{IsMail}
 use Rattle.locked_buffers.specs.Runs.{algorithm_by}
@@ -11,6 +11,7 @@ returns-clause-mail g c =
     let run = c.args.run.now in
     let frames = c.take-frames.result.items in
     subst (λ (a : Account). All (IsMail (algorithm_by run) run.setup.nodes a.node) frames) c.seat.view_is
-    (mail_waits g.P.Plan.start run c.args.book.now c.args.buffer.now c.seat.inside.node frames c.waiting.result.now.items c.waiting-else-not-has_book.result.now
-    (c.has_book.ensures.0 c.if-not-has_book.false) c.requires.of_run (c.are_named.ensures.0 c.if-not-are_named.false)
-    c.waiting.ensures c.waiting-else-not-has_book.ensures.value c.honest.ensures c.agrees.ensures.faithful c.take-frames.ensures.taken)
+    (mail_waits g.P.Plan.start run c.args.book.now c.args.buffer.now c.seat.inside.node frames c.args.names.items c.waiting.result.now
+    c.requires.of_run c.requires.names c.requires.senders
+    (sym c.deref.ensures.value ∙ c.are_same_names.ensures.0 c.if-not-are_same_names.false)
+    c.waiting.ensures.value c.honest.ensures c.take-frames.ensures.taken)

@@ -6,7 +6,7 @@ use Rattle.step_machine.specs.Sealed.{Frame}
 use Rattle.step_machine.specs.Nodes.{IsHeld, algorithm_in}
 use Rattle.round_meaning.specs.declared.setup.Setup.{Setup}
 use Rattle.step_book.specs.Log.{end_state}
-use Rattle.step_book.proofs.Closing.{close, closed_view, on_err}
+use Rattle.step_book.proofs.Closing.{close, closed_view, ended_grown, on_err}
 use Rattle.step_book.proofs.Closing.{rows_closed, same_rows, same_view, to_rows}
 use Rattle.step_book.proofs.Reading.{of_view, rows_view, rows_len, rows_of_len}
 use Rattle.step_book.proofs.Vectors.{rows_grow, rows_same}
@@ -56,7 +56,7 @@ invariant_of-self-2 g c =
     to_rows g.P.Plan.start g.P.Plan.nodes c.self.view_is
     (close (of_view g.P.Plan.start g.P.Plan.nodes c.self.view_is c.self.invariant) n _ (omega arith) c.requires.program c.requires.setup (ap length (sym c.frames-frames.ensures.value) ∙ c.frames-frames.ensures.sized) (subst P c.frames-frames.ensures.value c.frames-frames.ensures.held) c.requires.due c.requires.ended
     (rows_closed n c.node-node.result _ c.self.view_is c.node-node.ensures.value
-    (rows_grow s.states.items c.node-node.result c.index_mut.result.now c.note_close.new.states (end_state n) (omega arith) c.index_mut.ensures.value c.in_ok-note_close.ensures.ok)))
+    (rows_grow s.states.items c.node-node.result c.index_mut.result.now c.note_close.new.states (end_state n) (omega arith) c.index_mut.ensures.value (ended_grown n _ _ _ c.args.finished.now.ended c.requires.state c.in_ok-note_close.ensures.ok))))
 
 pub returns-clause-ok : goal.returns-clause-ok
 returns-clause-ok g c =
@@ -68,7 +68,7 @@ returns-clause-ok g c =
     let nodes = ap (λ (x : Setup). x.nodes) c.requires.setup in
     closed_view n _ c.self.view_is
     (rows_closed n c.node-node.result _ c.self.view_is c.node-node.ensures.value
-    (rows_grow c.self.inside.states.items c.node-node.result c.index_mut.result.now c.note_close.new.states (end_state n) (omega arith) c.index_mut.ensures.value c.in_ok-note_close.ensures.ok))
+    (rows_grow c.self.inside.states.items c.node-node.result c.index_mut.result.now c.note_close.new.states (end_state n) (omega arith) c.index_mut.ensures.value (ended_grown n _ _ _ c.args.finished.now.ended c.requires.state c.in_ok-note_close.ensures.ok)))
 
 pub returns-clause-kept : goal.returns-clause-kept
 returns-clause-kept g c =
@@ -84,5 +84,5 @@ returns-clause-kept g c =
     (sym
     (closed_view n _ c.self.view_is
     (rows_closed n c.node-node.result _ c.self.view_is c.node-node.ensures.value
-    (rows_grow c.self.inside.states.items c.node-node.result c.index_mut.result.now c.note_close.new.states (end_state n) (omega arith) c.index_mut.ensures.value c.in_ok-note_close.ensures.ok))))
+    (rows_grow c.self.inside.states.items c.node-node.result c.index_mut.result.now c.note_close.new.states (end_state n) (omega arith) c.index_mut.ensures.value (ended_grown n _ _ _ c.args.finished.now.ended c.requires.state c.in_ok-note_close.ensures.ok)))))
     (kept_closed (of_view g.P.Plan.start g.P.Plan.nodes c.self.view_is c.self.invariant) n (omega arith))

@@ -1,7 +1,8 @@
-use Rattle.std.proofs.Common.{◌∙◌, ap}
+use Rattle.std.proofs.Common.{[], ◌∷◌, ◌++◌, ◌∙◌, List, ap}
+use Rattle.step_machine.specs.declared.event.Name.{Name}
 use Rattle.step_book.specs.Mailing.{Mailed}
 use Rattle.step_book.proofs.Mails.{handed_grown}
 use Rattle.step_book.proofs.mail.Mail.push.Goals as goal
 
 pub returns-clause-handed : goal.returns-clause-handed
-returns-clause-handed c = handed_grown c.self.invariant _ _ c.in_ok-push.ensures.items ∙ ap (λ (m : Mailed). m.handed) c.self.view_is
+returns-clause-handed c = handed_grown c.self.invariant _ _ (c.push_reserved.ensures.items ∙ ap (λ (ns : List Name). ns ++ c.new.result ∷ []) c.room.ensures.same) ∙ ap (λ (m : Mailed). m.handed) c.self.view_is
