@@ -14,6 +14,9 @@ use std::sync::Wait;
 use std::thread::Threads;
 use unread::Unread;
 
+/// How many bytes of what is printed go out at once.
+const PRINTED_AT_ONCE: usize = 65_536;
+
 /// The words after the program's own name.
 fn texts<'a>(alloc: Global, words: &'a [String]) -> Result<Vec<&'a str>, AllocError> {
     words
@@ -32,7 +35,7 @@ fn run<R: Threads + Wait + Sync>(
     let words = env::args(rt)?.collect::<Vec<String>>(alloc)?;
     let words = texts(alloc, words.as_slice())?;
     let mut desk = HostDesk::new(rt, alloc);
-    let mut out = BufWriter::new(alloc, rt.stdout())?;
+    let mut out = BufWriter::with_capacity(alloc, PRINTED_AT_ONCE, rt.stdout())?;
     let mut err = rt.stderr();
     let words = words.as_slice();
     let status = run_words(starter, alloc, words, &mut desk, &mut out, &mut err);
