@@ -26,8 +26,8 @@ use step_machine::{Event, InFlight, Name};
 /// The journal of a run of `ticks` ticks in which a policy decides what the network does.
 ///
 /// In each tick the policy is asked over what is in flight until it has no choice that comes to an
-/// event, and then each correct node takes one step, in rising order; the others take none. It
-/// looks through all messages for each question, so it's for short runs.
+/// event, at most 4,294,967,295 times, and then each correct node takes one step, in rising order;
+/// the others take none. It looks through all messages for each question, so it's for short runs.
 ///
 /// An unlawful setup, and a correct node that isn't one of the setup's, are refused as `BadSetup`,
 /// before any memory is taken.
@@ -59,8 +59,8 @@ pub fn run_policy<P: Plan, Q: Policy>(
     }
 }
 
-/// Whether each member is a node.
-fn are_nodes(nodes: u32, members: NodeSet) -> bool
+/// Whether each member is below the number of nodes.
+pub fn are_nodes(nodes: u32, members: NodeSet) -> bool
     ensures { IsTrue result ↔ ((i : ℕ) → has_node members.bits i ≡ true → i < nodes) }
 {
     for node in nodes..64 {
@@ -186,6 +186,7 @@ fn name_at<P: Plan>(book: &Book<P>, flight: &[InFlight], place: usize) -> Option
     ensures known { IfSome result (IsName book.now.log.setup) }
     ensures none { (result ≡ None) ↔ (length flight.now ≤ place) }
 {
+    // Nothing at run time: what is known of the book's messages.
     let _trace = book.trace();
     match flight.get(place) {
         Some(message) => Some(message.name),

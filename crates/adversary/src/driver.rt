@@ -5,9 +5,6 @@ ghost use Rattle.round_meaning.specs.Setups.{IsLawful, IsSetup, max_rounds};
 ghost use Rattle.step_book.specs.Agreement.{row};
 ghost use Rattle.step_book.specs.Log.{count_of, happened, opened, round_of};
 ghost use Rattle.step_book.specs.Names.{IsName};
-ghost use Rattle.step_book.specs.Buffers.{IsMail};
-ghost use Rattle.step_book.specs.Taking.{HasTaken};
-ghost use Rattle.step_machine.specs.Nodes.{HasPlaces, algorithm_in};
 ghost use Rattle.step_machine.specs.declared.event.Event.TheVariants as event;
 ghost use Rattle.adversary.specs.Driving.{AreMore, AreNodesOf, ClosedAreDue, GoesOn, IsDriven};
 ghost use Rattle.adversary.specs.Driving.{IsInRound, IsKnown, IsNodeOf, IsOneMore, IsSettled};
@@ -21,7 +18,7 @@ use round_meaning::Setup;
 use slot_plans::Plan;
 use std::alloc::Global;
 use std::marker::Model;
-use step_book::Waiting;
+use step_book::take_all;
 use step_journal::Journal;
 use step_machine::{Event, Name, Node};
 use stored_events::StoredEvent;
@@ -302,20 +299,6 @@ fn receive<P: Plan>(journal: &mut Journal<P>, node: &mut Node, me: u32) -> Resul
     let took = journal.record_receive(me)?;
     take_all(node, took.frames);
     Ok(())
-}
-
-/// The node takes frames that were sent to it, in their order.
-#[inline(always)]
-fn take_all(node: &mut Node, frames: Waiting)
-    requires places { HasPlaces node.old.setup.nodes node.old.held }
-    requires mail { All
-        (IsMail (algorithm_in node.old) node.old.setup.nodes node.old.me) frames.items }
-    ensures { HasTaken node.old node.new frames.items }
-{
-    let mut frames = frames.into_frames();
-    while let Some(frame) = frames.next() {
-        let _taken = node.take(frame);
-    }
 }
 
 /// The end of the node's due round.

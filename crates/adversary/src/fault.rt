@@ -4,17 +4,18 @@ use round_lang::NoMemory;
 use schedule_text::TextFault;
 use thiserror::Error;
 
-/// Why a schedule isn't run, or a run by threads has no journal; positions count the events of the
-/// whole schedule, from 0.
+/// Why a run has no journal; positions count the events of the whole schedule, from 0.
 #[derive(Clone, Copy, PartialEq, Eq, Debug, Error)]
 pub enum RunFault {
-    /// The setup isn't lawful for the program.
+    /// The setup isn't lawful for the program, a correct node or a stop is of no node of the setup,
+    /// or a bound or a table is outside its limits.
     #[error("the setup isn't lawful for the program")]
     BadSetup,
     /// The first event that names what the setup doesn't have is a step of no node.
     #[error("event {0} is a step of no node")]
     UnknownNode(usize),
-    /// It is a release, drop or copy of no message.
+    /// The first event that names what the setup doesn't have is a release, drop or copy of no
+    /// message, or a copy with the number 0.
     #[error("event {0} names no message")]
     UnknownMessage(usize),
     #[error("out of memory")]

@@ -6,9 +6,8 @@ mod driver;
 mod fault;
 mod read;
 mod running;
-mod trace;
 
-pub use asking::run_policy;
+pub use asking::{are_nodes, run_policy};
 pub use driver::Driver;
 pub use fault::{ReadFault, RunFault};
 pub use policies::{Bounded, Choice, Faulty, Hoard, Policy, Prompt, Script, Table};
@@ -18,4 +17,3 @@ pub use schedule_text::{
     MAX_TEXT, Pace, Schedule, ScheduleFault, Stop, ThreadSetup, read_header, read_schedule,
     read_threads, write_schedule,
 };
-pub use trace::write_trace;

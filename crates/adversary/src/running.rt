@@ -1,7 +1,6 @@
 //! Running a schedule on one thread.
 ghost use Rattle.std.specs.Prelude.{◌≡◌, ◌↔◌, All, Err, IfErr, IfOk, IfSome, IfNone, IsTrue};
 ghost use Rattle.round_meaning.specs.Setups.{IsLawful};
-ghost use Rattle.step_book.specs.Names.{IsName};
 ghost use Rattle.adversary.specs.Driving.{ClosedAreDue, IsFaultOf, IsKnown, IsUnknownAt, RunCause};
 
 use crate::driver::Driver;
@@ -11,8 +10,9 @@ use round_lang::NoMemory;
 use round_meaning::Setup;
 use slot_plans::Plan;
 use std::alloc::Global;
+use step_book::is_name;
 use step_journal::Journal;
-use step_machine::{Event, MAX_COPY, Name};
+use step_machine::Event;
 
 /// The journal of a schedule's events. A due round is closed at once, and steps past the last round
 /// are idle. An unlawful setup is refused first, then the first event that names what the run
@@ -80,16 +80,6 @@ pub(crate) fn is_known(setup: &Setup, event: Event) -> bool
         Event::Release(name) | Event::Drop(name) => is_name(setup, name),
         Event::Copy(name) => name.copy != 0 && is_name(setup, name),
     }
-}
-
-fn is_name(setup: &Setup, name: Name) -> bool
-    ensures { IsTrue result ↔ IsName setup.now name }
-{
-    name.from < setup.nodes
-        && name.to < setup.nodes
-        && 1 <= name.round
-        && name.round <= setup.rounds
-        && name.copy <= MAX_COPY
 }
 
 fn run<P: Plan>(

@@ -12,20 +12,20 @@ use crate::explained::nodes_in;
 use crate::refusal::Refusal;
 use crate::sources::Opened;
 use crate::texts::Text;
-use adversary::{MAX_TEXT, RunFault, ScheduleFault, read_header, write_trace};
+use adversary::{MAX_TEXT, RunFault, ScheduleFault, read_header};
 use command_words::Source;
 use lockstep_runs::run_lockstep;
 use policies::Bounded;
 use round_check::Checked;
 use round_lang::NoMemory;
 use round_meaning::Setup;
-use schedule_text::begin_utf8;
+use schedule_text::{begin_utf8, write_stored_schedule};
 use simdutf8::compat::from_utf8;
 use slot_plans::{Growing, Known, Plan, PlanKind};
 use std::alloc::Global;
 
 /// What a run in lockstep is made by: the correct nodes, the delays of the messages and the orders
-/// of the steps, and how many ticks there are, where it isn't as many as all rounds have steps.
+/// of the steps, and the number of ticks; `None` stands for as many as all rounds have steps.
 #[derive(Clone, Copy)]
 pub struct Pacing<'a> {
     pub correct: &'a [u32],
@@ -166,7 +166,7 @@ pub fn lockstep_text<P: Plan>(
     let ticks = ticks_of(plan, setup, pacing.ticks);
     let journal = run_lockstep(alloc, program, setup, plan, correct, pacing.bounded, ticks)?;
     journal.agrees();
-    match write_trace(alloc, setup, kind, journal.book().trace()) {
+    match write_stored_schedule(alloc, setup, kind, journal.book().trace()) {
         Ok(text) => Ok(text),
         Err(NoMemory) => Err(RunFault::NoMemory),
     }

@@ -21,7 +21,7 @@ use std::{fmt, io};
 pub enum Refusal {
     /// The words are no command.
     Words(WordsFault),
-    /// A file isn't there, or isn't UTF-8.
+    /// A file can't be read, or isn't UTF-8.
     File,
     Source(LangFault),
     Check(CheckFault),
@@ -30,7 +30,7 @@ pub enum Refusal {
     /// The library has no program of the name.
     NoSuchProgram,
     Run(RunFault),
-    /// Standard output takes no more.
+    /// Standard output takes no more, or the file of a trace can't be written.
     Write,
     NoMemory,
     /// The thread of a node ended out of memory, so that its run isn't whole.

@@ -27,10 +27,10 @@ use std::sync::Wait;
 use std::thread::Threads;
 
 /// Runs the command that the words name, and answers the exit status: 0 done, 1 refused input, 2 a
-/// bad command line, 3 no memory. With a refusal nothing is written to `out`, and one line to
-/// `err`; only where `out` fails it may have a part, and where the thread of a node had no memory
-/// it has the report of what was recorded. Where the words ask for help or the version, `out` gets
-/// that text.
+/// bad command line, 3 no memory. A refusal is told on `err`, in one line, or for a bad command
+/// line in `clap`'s own text. Nothing is written to `out` then, but for two cases: where `out`
+/// fails it may have a part, and where the thread of a node had no memory it has the report of what
+/// was recorded. Where the words ask for help or the version, `out` gets that text.
 ///
 /// With `threads` it waits for its threads, and needn't return.
 pub fn run_words<'a, R: Threads + Wait + Sync, D: Desk, O: Write, E: Write>(

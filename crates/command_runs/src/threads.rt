@@ -16,7 +16,7 @@ use crate::desk::Desk;
 use crate::refusal::Refusal;
 use crate::sources::Opened;
 use crate::texts::Text;
-use adversary::{MAX_TEXT, RunFault, ScheduleFault, ThreadSetup, read_threads, write_trace};
+use adversary::{MAX_TEXT, RunFault, ScheduleFault, ThreadSetup, read_threads};
 use command_words::Source;
 use locked_buffers::OpenGate;
 use node_threads::{Ended, run_threads};
@@ -24,7 +24,7 @@ use omission_explainer::{Report, explain};
 use policies::Prompt;
 use round_check::Checked;
 use round_lang::NoMemory;
-use schedule_text::begin_utf8;
+use schedule_text::{begin_utf8, write_stored_schedule};
 use simdutf8::compat::from_utf8;
 use slot_plans::{Growing, Known, Plan, PlanKind};
 use std::alloc::Global;
@@ -187,7 +187,7 @@ pub fn explained_threads<R: Threads + Wait + Sync, P: Plan + Send + Sync>(
         Ok(report) => report,
         Err(NoMemory) => return Err(RunFault::NoMemory),
     };
-    let trace = match write_trace(alloc, numbers, setup.plan, journal.book().trace()) {
+    let trace = match write_stored_schedule(alloc, numbers, setup.plan, journal.book().trace()) {
         Ok(trace) => trace,
         Err(NoMemory) => return Err(RunFault::NoMemory),
     };

@@ -130,13 +130,13 @@ send_fault relay.Stranger = send.Stranger
 send_fault relay.NoMemory = send.NoMemory
 
 -- the buffer is of the run, and has no other frame at this message's place
-pub record IsReady {P : Type 0} (r : Run P) (s : BufferView) (n : Name) : Type 0 where
+pub record HasItsPlace {P : Type 0} (r : Run P) (s : BufferView) (n : Name) : Type 0 where
   pub buffer : IsOfRun r.program r.setup s
   pub own : ¬ HasAnother n (flying_at s n.round (place_among r.setup.nodes n))
 
 -- why a buffer isn't made ready for a call
 abbrev pub IsUnready : {P : Type 0} → Run P → BufferView → Name → RelayFault → Type 0
-IsUnready r s n relay.Stranger = ¬ IsReady r s n
+IsUnready r s n relay.Stranger = ¬ HasItsPlace r s n
 IsUnready r s n relay.NoMemory = IsOfRun r.program r.setup s
 
 -- why a send that the seat allows is refused: under the locks it doesn't go, or there is no memory

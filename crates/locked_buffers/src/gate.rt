@@ -15,6 +15,7 @@ pub enum Point {
 
 /// What may watch or hold the threads at their points.
 pub trait Gate {
+    /// A thread has come to this point; it goes on when this returns.
     fn pass(&self, point: Point);
 }
 

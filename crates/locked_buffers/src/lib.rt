@@ -8,11 +8,11 @@ mod fault;
 mod gate;
 mod locking;
 mod mail;
+mod names;
 mod network;
 mod post;
 mod ready;
 mod refusals;
-mod room;
 mod run;
 mod seat;
 

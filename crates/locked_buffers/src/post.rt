@@ -255,9 +255,9 @@ impl<P: Plan> Post<P> {
         if !self.run.has_buffer(&buffer) {
             return Err(RelayFault::Stranger);
         }
-        let has_frame = has_frame(&self.run, &buffer, name)?;
+        let is_there = has_frame(&self.run, &buffer, name)?;
         let mut book = take(rt, &self.book);
-        commit_drop(&self.run, relay, &mut buffer, &mut book, name, has_frame)
+        commit_drop(&self.run, relay, &mut buffer, &mut book, name, is_there)
     }
 
     /// A copy: true where copy 0 was in flight and this one, 1 to 3, was never made; its frame is
@@ -290,9 +290,9 @@ impl<P: Plan> Post<P> {
         Ok((flight, book.trace().len()))
     }
 
-    /// Adds to this list the names of the messages that were sent, but for this many that were sent
-    /// first, in the order of their serials, and answers how many events are recorded: both of one
-    /// moment, since they are read under one lock.
+    /// Adds to `sent` the names of all messages that were sent after the first `known`, in the
+    /// order of their serials, and answers how many events are recorded: both of one moment, since
+    /// they are read under one lock.
     pub fn sent_since<R: Wait>(
         &self,
         rt: &R,
@@ -310,8 +310,9 @@ impl<P: Plan> Post<P> {
         Ok(book.trace().len())
     }
 
-    /// The least copy of a message in flight that the network can make; none of what is a copy
-    /// itself.
+    /// The least copy of a message that the network can make. `None`: the name is that of a copy
+    /// itself, copy 0 isn't in flight, or all copies were made. Refused as [`RelayFault::Stranger`]
+    /// where the book is of another setup.
     pub fn next_copy<R: Wait>(&self, rt: &R, name: Name) -> Result<Option<Name>, RelayFault>
         requires { IsName self.now.setup name }
         ensures ok { IfOk result (IsNextCopyInOne P.start name) }

@@ -10,7 +10,7 @@ ghost use Rattle.locked_buffers.specs.Commits.{HasAnother, HasFrame, IsFromNode,
 ghost use Rattle.locked_buffers.specs.Commits.{IsUnready, SameBuffer};
 
 use crate::fault::{PostFault, RelayFault};
-use crate::room::names_of;
+use crate::names::names_of;
 use crate::run::Run;
 use round_lang::NoMemory;
 use slot_plans::Plan;

@@ -11,6 +11,7 @@ use round_meaning::Setup;
 use slot_plans::Plan;
 use std::marker::Model;
 use step_book::{Book, Buffer};
+use step_journal::place;
 use step_machine::Name;
 
 /// The program, setup and plan of a run.
@@ -86,7 +87,6 @@ impl<P: Plan> Run<P> {
         requires { IsName self.now.setup name }
         ensures { result ≡ place_among self.now.setup.nodes name }
     {
-        let nodes = self.setup.nodes as usize;
-        name.copy as usize * nodes + name.from as usize
+        place(self.setup.nodes, name)
     }
 }

@@ -1,15 +1,13 @@
 //! A lockstep run of a program.
-ghost use Rattle.std.specs.Prelude.{◌≡◌, ℕ, ◌<◌, ◌≤◌, ◌↔◌, ◌⊎◌, Err, IfErr, IfOk, IsTrue, length};
-ghost use Rattle.std.specs.Prelude.{true};
+ghost use Rattle.std.specs.Prelude.{◌≡◌, ◌<◌, ◌≤◌, ◌↔◌, ◌⊎◌, Err, IfErr, IfOk, IsTrue, length};
 ghost use Rattle.adversary.specs.Driving.{ClosedAreDue};
-ghost use Rattle.round_meaning.specs.Nodes.{has_node};
 ghost use Rattle.round_meaning.specs.Setups.{IsLawful};
 ghost use Rattle.step_book.specs.Log.{history, world_of};
 ghost use Rattle.omission_explainer.specs.Verdict.{AreNodes, IsDelayBound, IsLockstep};
 ghost use Rattle.lockstep_runs.specs.Lockstep.{HearsFromClear, IsFit, IsLockstepRun};
 
 use crate::ticking::tick;
-use adversary::{Driver, RunFault};
+use adversary::{Driver, RunFault, are_nodes};
 use policies::Bounded;
 use round_check::Checked;
 use round_lang::NoMemory;
@@ -81,18 +79,6 @@ fn is_fit(program: &Checked, setup: &Setup, correct: NodeSet, bounded: &Bounded)
         && bounded.orders.as_slice().len() <= MAX_ENTRIES
 }
 
-/// Whether each member is a node.
-fn are_nodes(nodes: u32, members: NodeSet) -> bool
-    ensures { IsTrue result ↔ ((i : ℕ) → has_node members.bits i ≡ true → i < nodes) }
-{
-    for node in nodes..64 {
-        if members.contains(node) {
-            return false;
-        }
-    }
-    true
-}
-
 fn run<P: Plan>(
     alloc: Global,
     program: &Checked,
@@ -127,7 +113,7 @@ fn run<P: Plan>(
     Ok(journal)
 }
 
-/// A set of 64 bits has no member past 63.
+/// Nothing at run time: a set of 64 bits has no member past 63.
 fn are_below_64(members: u64)
     ensures { AreNodes 64 members }
 {

@@ -10,13 +10,14 @@
 
 mod fault;
 
-use adversary::{RunFault, write_trace};
+use adversary::RunFault;
 use fault::Fault;
 use lockstep_runs::run_lockstep;
 use policies::{Bounded, Table};
 use round_check::{Checked, check};
 use round_lang::parse;
 use round_meaning::{Inputs, NodeSet, Setup};
+use schedule_text::write_stored_schedule;
 use slot_plans::{Known, PlanKind};
 use std::alloc::Global;
 use std::env;
@@ -111,7 +112,7 @@ fn schedule(alloc: Global, words: &[&str]) -> Result<String, Fault> {
     ) {
         Ok(journal) => {
             let events = journal.book().trace();
-            Ok(write_trace(alloc, &setup, PlanKind::Known(receives), events)?)
+            Ok(write_stored_schedule(alloc, &setup, PlanKind::Known(receives), events)?)
         }
         Err(RunFault::NoMemory) => Err(Fault::NoMemory),
         Err(_) => Ok(String::from_str(alloc, "refused\n")?),

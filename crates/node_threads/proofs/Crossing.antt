@@ -34,12 +34,14 @@ use Rattle.step_book.proofs.mail.Mail.TheSendSync as mail
 use Rattle.step_book.proofs.mark.Mark.TheSendSync as mark
 use Rattle.step_book.proofs.marks.Marks.TheSendSync as marks
 use Rattle.step_book.proofs.round_frames.RoundFrames.TheSendSync as round_frames
+use Rattle.step_book.proofs.spare_places.SparePlaces.TheSendSync as spare_places
 use Rattle.step_book.proofs.waiting.Waiting.TheSendSync as waiting
 use Rattle.slot_plans.specs.declared.plan.Plan as plan
 use Rattle.std.specs.declared.cmp.PartialEq as eq
 use Rattle.step_book.specs.contracts.book.Book as book
 use Rattle.step_book.specs.contracts.book.Book.TheInside as book_inside
 use Rattle.step_book.specs.contracts.buffer.Buffer as buffer
+use Rattle.step_book.specs.contracts.buffer.Buffer.TheInside as buffer_inside
 use Rattle.locked_buffers.specs.contracts.post.Post as post
 use Rattle.locked_buffers.specs.contracts.post.Post.TheInside as post_inside
 use denote.Struct.Field.{row_field, shr_ref_field}
@@ -91,32 +93,28 @@ pub checked_sync : IsSync checked.the_row
 checked_sync = search (program_send, program_sync, leaves, crosses, knot.crosses, sendable) depth 60 fits 20000
 
 pub buffer_send : IsSend buffer.the_row
-buffer_send = search (
-  checked_send,
-  checked_sync,
-  setup.the_send,
-  setup.the_sync,
-  round_frames.the_send,
-  round_frames.the_sync,
-  waiting.the_send,
-  waiting.the_sync,
-  crosses,
-  sendable,
-) depth 60 fits 20000
+buffer_send = view_send buffer_inside.the_row _ _ _ _ (declared_send buffer_inside.the_type (
+  search (waiting.the_send, sendable) depth 30,
+  (
+    search (round_frames.the_send, crosses, sendable) depth 30,
+    (
+      search (spare_places.the_send, sendable) depth 30,
+      (search (crosses, sendable) depth 30, (as_row_send checked.the_field checked_send, (setup.the_send, tt))),
+    ),
+  ),
+))
 
 pub buffer_sync : IsSync buffer.the_row
-buffer_sync = search (
-  checked_send,
-  checked_sync,
-  setup.the_send,
-  setup.the_sync,
-  round_frames.the_send,
-  round_frames.the_sync,
-  waiting.the_send,
-  waiting.the_sync,
-  crosses,
-  sendable,
-) depth 60 fits 20000
+buffer_sync = view_sync buffer_inside.the_row _ _ _ _ (declared_sync buffer_inside.the_type (
+  search (waiting.the_sync, sendable) depth 30,
+  (
+    search (round_frames.the_sync, crosses, sendable) depth 30,
+    (
+      search (spare_places.the_sync, sendable) depth 30,
+      (search (crosses, sendable) depth 30, (as_row_sync checked.the_field checked_sync, (setup.the_sync, tt))),
+    ),
+  ),
+))
 
 pub node_send : IsSend node.the_row
 node_send = search (

@@ -1,10 +1,7 @@
 //! What a node's thread does, over whatever answers its calls.
 ghost use Rattle.std.specs.Option.{ForSome};
-ghost use Rattle.std.specs.Prelude.{◌≡◌, ◌+◌, ◌<◌, ◌≤◌, All, OnOk};
+ghost use Rattle.std.specs.Prelude.{◌≡◌, ◌+◌, ◌<◌, ◌≤◌, OnOk};
 ghost use Rattle.round_meaning.specs.Setups.{max_rounds};
-ghost use Rattle.step_book.specs.Buffers.{IsMail};
-ghost use Rattle.step_book.specs.Taking.{HasTaken};
-ghost use Rattle.step_machine.specs.Nodes.{HasPlaces, algorithm_in};
 ghost use Rattle.locked_buffers.specs.Seats.{round_by};
 ghost use Rattle.node_threads.specs.Bodies.{IsEnded, IsInPlace, IsPlanned, IsTogether};
 ghost use Rattle.node_threads.specs.declared.body.Halt.TheVariants as halt;
@@ -14,7 +11,7 @@ use crate::stops::is_stop;
 use locked_buffers::{Gate, Mail, Point, PostFault, Seat};
 use round_lang::NoMemory;
 use slot_plans::Plan;
-use step_book::{CloseFault, SendFault, Waiting};
+use step_book::{CloseFault, SendFault, take_all};
 use step_machine::{Name, Node};
 
 /// Why a thread can't go on: out of memory, or a call was refused for another cause.
@@ -94,19 +91,6 @@ fn receive_step<P: Plan, M: Mail<P>>(mail: &M, seat: &mut Seat, node: &mut Node)
         }
         Err(PostFault::NoMemory) => Err(Halt::NoMemory),
         Err(_) => Err(Halt::Refused),
-    }
-}
-
-/// The node takes frames that were sent to it, in their order.
-fn take_all(node: &mut Node, frames: Waiting)
-    requires places { HasPlaces node.old.setup.nodes node.old.held }
-    requires mail { All
-        (IsMail (algorithm_in node.old) node.old.setup.nodes node.old.me) frames.items }
-    ensures { HasTaken node.old node.new frames.items }
-{
-    let mut frames = frames.into_frames();
-    while let Some(frame) = frames.next() {
-        let _taken = node.take(frame);
     }
 }
 

@@ -114,7 +114,7 @@ impl Clock {
 
     /// The network waits for its next turn; false once every node ended. Under the free pace its
     /// first turn comes at once, and each other when a node has taken a step or has ended.
-    pub(crate) fn turn<R: Wait>(&self, rt: &R) -> bool {
+    pub(crate) fn begin_turn<R: Wait>(&self, rt: &R) -> bool {
         let count = self.count.lock(rt);
         if self.pace == Pace::Ticks {
             return count.running > 0;
@@ -128,7 +128,7 @@ impl Clock {
 
     /// The network had its turn. In ticks the running nodes take their steps, and it waits until
     /// each has taken one or has ended.
-    pub(crate) fn step<R: Wait>(&self, rt: &R) {
+    pub(crate) fn end_turn<R: Wait>(&self, rt: &R) {
         if self.pace == Pace::Free {
             return;
         }

@@ -33,7 +33,7 @@ pub(crate) struct Job<'a, P: Plan> {
 /// The seat of a thread that ended, and how it did. `None`: a call was refused for another cause
 /// than memory.
 #[derive(Drop)]
-pub(crate) struct Report<P: Plan> {
+pub(crate) struct ThreadEnd<P: Plan> {
     plan: P,
     rounds: u32,
     stop: Option<u32>,
@@ -76,7 +76,7 @@ impl<'a, P: Plan> Job<'a, P> {
     }
 
     /// The node's thread.
-    pub(crate) fn run<R: Wait, G: Gate, B: Beat>(self, rt: &R, gate: &G, beat: &B) -> Report<P> {
+    pub(crate) fn run<R: Wait, G: Gate, B: Beat>(self, rt: &R, gate: &G, beat: &B) -> ThreadEnd<P> {
         let Job {
             post,
             plan,
@@ -88,7 +88,7 @@ impl<'a, P: Plan> Job<'a, P> {
         let mail = PostMail { rt, post, gate };
         let (seat, ended) = run_steps(&mail, gate, beat, plan, rounds, stop, seat, node);
         beat.leave();
-        Report {
+        ThreadEnd {
             plan,
             rounds,
             stop,
@@ -98,13 +98,13 @@ impl<'a, P: Plan> Job<'a, P> {
     }
 }
 
-impl<P: Plan> Report<P> {
-    /// The seat and its end, where the report is of this plan, these rounds and this stop, and no
+impl<P: Plan> ThreadEnd<P> {
+    /// The seat and its end, where they are of this plan, these rounds and this stop, and no
     /// call was refused.
     pub(crate) fn into_parts(self, plan: P, rounds: u32, stop: Option<u32>) -> Option<(Seat, Ended)>
         ensures { IfSome result (λ r. IsEnded (P.start plan) rounds stop r.0 r.1) }
     {
-        let Report {
+        let ThreadEnd {
             plan: own_plan,
             rounds: own_rounds,
             stop: own_stop,

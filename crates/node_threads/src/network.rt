@@ -1,8 +1,7 @@
 //! The network's thread.
-ghost use Rattle.std.specs.Prelude.{◌≡◌, ◌+◌, ◌<◌, ◌≤◌, ◌↔◌, IfOk, IsTrue, OnErr, Option, length};
+ghost use Rattle.std.specs.Prelude.{◌≡◌, ◌+◌, ◌<◌, ◌≤◌, IfOk, OnErr, Option, length};
 ghost use Rattle.locked_buffers.specs.Commits.{told_with};
 ghost use Rattle.round_meaning.specs.Setups.{max_rounds};
-ghost use Rattle.step_book.specs.Names.{IsName};
 ghost use Rattle.node_threads.specs.Choices.{ComesToInOne, IsCopyInOne, halt_of};
 
 use crate::body::Halt;
@@ -15,17 +14,8 @@ use schedule_text::Pace;
 use slot_plans::Plan;
 use std::alloc::Global;
 use std::sync::Wait;
-use step_machine::{Event, InFlight, MAX_COPY, Name};
-
-fn is_name(setup: &Setup, name: Name) -> bool
-    ensures { IsTrue result ↔ IsName setup.now name }
-{
-    name.from < setup.nodes
-        && name.to < setup.nodes
-        && 1 <= name.round
-        && name.round <= setup.rounds
-        && name.copy <= MAX_COPY
-}
+use step_book::is_name;
+use step_machine::{Event, InFlight, Name};
 
 /// What the network's thread works with.
 #[derive(Drop)]
@@ -236,7 +226,7 @@ impl<'a, P: Plan> Network<'a, P> {
         let mut tick: u32 = 0;
         let mut halt = None;
         for _ in rt.forever() {
-            if !clock.turn(rt) {
+            if !clock.begin_turn(rt) {
                 break;
             }
             let now = match clock.pace() {
@@ -247,7 +237,7 @@ impl<'a, P: Plan> Network<'a, P> {
                 halt = Some(fault);
                 break;
             }
-            clock.step(rt);
+            clock.end_turn(rt);
             tick = tick.saturating_add(1);
         }
         clock.close(rt);

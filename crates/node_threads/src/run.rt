@@ -14,7 +14,7 @@ ghost use Rattle.node_threads.specs.declared.ended.Ended.TheVariants as ended;
 use crate::clock::{Clock, ClockBeat};
 use crate::ended::Ended;
 use crate::fault::ThreadFault;
-use crate::job::{Job, Report};
+use crate::job::{Job, ThreadEnd};
 use crate::network::Network;
 use crate::stops::{are_stops, stop_of};
 use adversary::RunFault;
@@ -35,7 +35,7 @@ use step_journal::Journal;
 #[derive(Drop)]
 struct Joined<P: Plan> {
     relay: Relay,
-    reports: Vec<Report<P>>,
+    thread_ends: Vec<ThreadEnd<P>>,
 }
 
 /// The jobs of all seats.
@@ -67,8 +67,8 @@ fn jobs<'a, P: Plan>(
     Ok(jobs)
 }
 
-/// The lesser of a fault, if there is one, and another.
-fn lesser(fault: Option<ThreadFault>, other: ThreadFault) -> Option<ThreadFault> {
+/// The fault that is told where another one comes up: the one that stands first in [`ThreadFault`].
+fn with_fault(fault: Option<ThreadFault>, other: ThreadFault) -> Option<ThreadFault> {
     match fault {
         Some(fault) => Some(fault.or(other)),
         None => Some(other),
@@ -94,18 +94,18 @@ where
     thread::scope(thread::scope_env(), rt, move |scope| {
         let network = scope.spawn(move || network.run(rt, clock, policy));
         let mut handles = Vec::new(alloc);
-        let mut reports = Vec::new(alloc);
+        let mut thread_ends = Vec::new(alloc);
         let mut fault = None;
         for job in jobs {
             match scope.spawn(move || job.run(rt, gate, &ClockBeat { rt, clock })) {
                 Ok(handle) => {
                     if handles.push(handle).is_err() {
-                        fault = lesser(fault, ThreadFault::NoMemory);
+                        fault = with_fault(fault, ThreadFault::NoMemory);
                     }
                 }
                 Err(_) => {
                     clock.leave(rt);
-                    fault = lesser(fault, ThreadFault::NoThread);
+                    fault = with_fault(fault, ThreadFault::NoThread);
                 }
             }
         }
@@ -113,24 +113,24 @@ where
             Ok(network) => {
                 let (relay, halt) = network.join(rt);
                 if let Some(halt) = halt {
-                    fault = lesser(fault, ThreadFault::from(halt));
+                    fault = with_fault(fault, ThreadFault::from(halt));
                 }
                 Some(relay)
             }
             Err(_) => {
                 clock.close(rt);
-                fault = lesser(fault, ThreadFault::NoThread);
+                fault = with_fault(fault, ThreadFault::NoThread);
                 None
             }
         };
         for handle in handles {
-            if reports.push(handle.join(rt)).is_err() {
-                fault = lesser(fault, ThreadFault::NoMemory);
+            if thread_ends.push(handle.join(rt)).is_err() {
+                fault = with_fault(fault, ThreadFault::NoMemory);
             }
         }
         match (fault, relay) {
             (Some(fault), _) => Err(fault),
-            (None, Some(relay)) => Ok(Joined { relay, reports }),
+            (None, Some(relay)) => Ok(Joined { relay, thread_ends }),
             (None, None) => Err(ThreadFault::NoThread),
         }
     })
@@ -142,15 +142,15 @@ fn seats_of<P: Plan>(
     plan: P,
     rounds: u32,
     stops: &[Stop],
-    reports: Vec<Report<P>>,
+    thread_ends: Vec<ThreadEnd<P>>,
 ) -> Result<(Vec<Seat>, Vec<Ended>), ThreadFault>
     ensures { IfOk result (λ o. SeatsEnded (P.start plan) rounds stops.now o.0.items o.1.items) }
 {
     let mut seats = Vec::new(alloc);
     let mut ends = Vec::new(alloc);
-    for report in reports {
+    for thread_end in thread_ends {
         let stop = stop_of(stops, seats.len());
-        let Some((seat, ended)) = report.into_parts(plan, rounds, stop) else {
+        let Some((seat, ended)) = thread_end.into_parts(plan, rounds, stop) else {
             return Err(ThreadFault::Unmatched);
         };
         add_both(&mut seats, &mut ends, seat, ended)?;
@@ -188,8 +188,8 @@ fn journal_of<P: Plan>(
     ensures agrees { IfOk result (λ o. JournalAgrees (P.start o.0.plan) o.0.log
         (mark_in (P.start o.0.plan) o.0.log) (waiting_in (P.start o.0.plan) o.0.log)) }
 {
-    let Joined { relay, reports } = joined;
-    let (seats, ends) = seats_of(alloc, plan, rounds, stops, reports)?;
+    let Joined { relay, thread_ends } = joined;
+    let (seats, ends) = seats_of(alloc, plan, rounds, stops, thread_ends)?;
     match post.into_journal(seats, relay) {
         Ok(journal) => {
             journal.agrees();

@@ -9,7 +9,7 @@ ghost use Rattle.step_book.specs.Agreement.{row};
 ghost use Rattle.step_book.specs.Log.{history, round_of, world_of};
 ghost use Rattle.step_book.specs.History.{state};
 ghost use Rattle.step_book.specs.Names.{IsName};
-ghost use Rattle.step_book.specs.Work.{any_within, is_within};
+ghost use Rattle.step_book.specs.Work.{any_within};
 ghost use Rattle.omission_explainer.specs.Decided.{AreAgreed, AreInputs};
 ghost use Rattle.omission_explainer.specs.InRounds.{IsOfRounds, printed_omits};
 ghost use Rattle.omission_explainer.specs.Lateness.{marks_of};
@@ -26,7 +26,7 @@ use round_meaning::NodeSet;
 use slot_plans::Plan;
 use std::alloc::Global;
 use std::sync::Arc;
-use step_book::{Book, Mark, earliest};
+use step_book::{Book, Mark, earliest, is_within};
 use step_journal::Journal;
 use step_machine::Name;
 
@@ -153,16 +153,6 @@ fn outcome_of<P: Plan>(book: &Book<P>, name: Name, first: u64, end: u64) -> Outc
         Outcome::Heard
     } else {
         Outcome::Omitted
-    }
-}
-
-/// Whether a copy was released while its receiver's step count stood in these steps.
-fn is_within(mark: Mark, first: u64, end: u64) -> bool
-    ensures { result ≡ is_within mark first end }
-{
-    match mark {
-        Mark::Released(count) => first <= count && count < end,
-        Mark::Unsent | Mark::Silent | Mark::Flying | Mark::Lost => false,
     }
 }
 

@@ -17,8 +17,9 @@ use step_book::{Book, Mark};
 use step_journal::Journal;
 use step_machine::{Event, Name};
 
-/// What a run was for a set of correct nodes: whether they stepped in lockstep, whether their
-/// messages kept a bound on the delay, and from which round on messages then arrive.
+/// The judgement of a run for a set of correct nodes: whether they stepped in lockstep, whether
+/// their messages kept the bound on the delay, and the first round, from 1, from which on messages
+/// arrive if both hold; `None` where the plan has no such round.
 #[derive(Clone, Copy, PartialEq, Eq, Debug)]
 pub struct Verdict {
     pub lockstep: bool,

@@ -2,10 +2,11 @@
 use crate::chosen::Chosen;
 use crate::fault::Fault;
 use crate::reading::{comma_numbers, number};
-use adversary::{RunFault, run_policy, write_trace};
+use adversary::{RunFault, run_policy};
 use round_check::{Checked, check};
 use round_lang::parse;
 use round_meaning::{Inputs, NodeSet, Setup};
+use schedule_text::write_stored_schedule;
 use slot_plans::{Known, PlanKind};
 use std::alloc::Global;
 
@@ -53,7 +54,7 @@ fn trace(
     match run_policy(alloc, program, setup, plan, correct, policy, ticks) {
         Ok(journal) => {
             let events = journal.book().trace();
-            Ok(write_trace(alloc, setup, PlanKind::Known(receives), events)?)
+            Ok(write_stored_schedule(alloc, setup, PlanKind::Known(receives), events)?)
         }
         Err(RunFault::NoMemory) => Err(Fault::NoMemory),
         Err(_) => Ok(String::from_str(alloc, "refused\n")?),

@@ -1,7 +1,6 @@
 //! One schedule's events, recorded by a journal and by a post.
-ghost use Rattle.std.specs.Prelude.{◌≡◌, ◌<◌, ◌≤◌, All, IfOk, IsTrue};
+ghost use Rattle.std.specs.Prelude.{◌≡◌, ◌<◌, ◌≤◌, All, IfOk};
 ghost use Rattle.round_meaning.specs.Setups.{IsLawful, IsSetup, max_rounds};
-ghost use Rattle.step_book.specs.Names.{IsName};
 ghost use Rattle.step_book.specs.Buffers.{IsMail};
 ghost use Rattle.step_machine.specs.Nodes.{algorithm_in};
 
@@ -15,9 +14,9 @@ use schedule_text::Schedule;
 use slot_plans::Plan;
 use std::alloc::Global;
 use std::sync::Wait;
-use step_book::{CloseFault, SendFault, Waiting};
+use step_book::{CloseFault, SendFault, Waiting, is_name};
 use step_journal::Journal;
-use step_machine::{Event, MAX_COPY, Name, Node};
+use step_machine::{Event, Name, Node};
 
 /// The nodes of a run before their first step.
 fn all_nodes(alloc: Global, program: &Checked, setup: &Setup) -> Result<Vec<Node>, Fault>
@@ -185,16 +184,6 @@ fn step<P: Plan, C: Recorder>(
         close(recorder, node, me, out)?;
     }
     Ok(())
-}
-
-fn is_name(setup: &Setup, name: Name) -> bool
-    ensures { IsTrue result → IsName setup.now name }
-{
-    name.from < setup.nodes
-        && name.to < setup.nodes
-        && 0 < name.round
-        && name.round <= setup.rounds
-        && name.copy <= MAX_COPY
 }
 
 /// An event of the network.

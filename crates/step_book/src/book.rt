@@ -151,7 +151,8 @@ impl<P: Plan> Book<P> {
         &self.trace
     }
 
-    /// What is recorded agrees with the run in rounds, and the plan and the setup fit.
+    /// Nothing at run time: what is recorded agrees with the run in rounds, and the plan and the
+    /// setup fit.
     pub fn agrees(&self)
         ensures faithful { IsFaithful (P.start self.now.plan) self.now.log }
         ensures sized { P.nodes self.now.plan ≡ self.now.log.setup.nodes }
@@ -160,7 +161,8 @@ impl<P: Plan> Book<P> {
         let _trace = &self.trace;
     }
 
-    /// What the reading calls answer is what stands in the trace and in the run in rounds.
+    /// Nothing at run time: what the reading calls answer is what stands in the trace and in the
+    /// run in rounds.
     pub fn agrees_by_places(&self)
         ensures { JournalAgrees (P.start self.now.plan) self.now.log
             (mark_in (P.start self.now.plan) self.now.log)
@@ -230,8 +232,8 @@ impl<P: Plan> Book<P> {
         self.is_flying(name.original()) && self.mark(name) == Mark::Unsent
     }
 
-    /// The least copy of a message in flight that the network can make; none of what is a copy
-    /// itself.
+    /// The least copy of a message that the network can make. `None`: the name is that of a copy
+    /// itself, copy 0 isn't in flight, or all copies were made.
     pub fn next_copy(&self, name: Name) -> Option<Name>
         requires { IsName self.now.log.setup name }
         ensures some { IfSome result (λ copied. (copied ≡ record name { copy = copied.copy })

@@ -7,6 +7,7 @@ ghost use Rattle.step_book.specs.Buffers.{AreHonest, IsSameRun, flying_at, run_o
 ghost use Rattle.step_book.specs.Tables.{HasPlace, Puts, SameTables};
 
 use crate::round_frames::RoundFrames;
+use crate::spare_places::SparePlaces;
 use crate::waiting::Waiting;
 use round_check::Checked;
 use round_lang::NoMemory;
@@ -24,6 +25,7 @@ pub struct Buffer {
     // What nearly each call changes stands first, as in the book.
     waiting: Waiting,
     flying: Vec<RoundFrames>,
+    spare: SparePlaces,
     alloc: Global,
     program: Checked,
     setup: Setup,
@@ -65,6 +67,7 @@ impl Buffer {
             program: program.copy()?,
             setup: setup.copy()?,
             flying: Vec::new(alloc),
+            spare: SparePlaces::new(alloc),
             waiting: Waiting::new(alloc),
         })
     }
@@ -125,7 +128,7 @@ impl Buffer {
     {
         let nodes = self.setup.nodes as usize;
         add_tables(self.alloc, &mut self.flying, round as usize)?;
-        self.flying[round as usize].reserve(nodes, place)
+        self.flying[round as usize].reserve(self.alloc, &mut self.spare, nodes, place)
     }
 
     /// Makes room for one more frame that waits; the first time, for one of each node.
@@ -162,7 +165,7 @@ impl Buffer {
         ensures run { IsSameRun self.old self.new }
     {
         let alloc = self.alloc;
-        if let Some(frame) = self.flying[round as usize].take(alloc, place) {
+        if let Some(frame) = self.flying[round as usize].take(alloc, &mut self.spare, place) {
             self.waiting.push(frame);
         }
     }
@@ -175,7 +178,7 @@ impl Buffer {
         ensures run { IsSameRun self.old self.new }
     {
         let alloc = self.alloc;
-        let _lost = self.flying[round as usize].take(alloc, place);
+        let _lost = self.flying[round as usize].take(alloc, &mut self.spare, place);
     }
 
     /// Takes the frames that wait.

@@ -3,17 +3,19 @@ ghost use Rattle.std.specs.Prelude.{◌≡◌, ◌<◌, ◌↔◌, [], All, IsTr
 ghost use Rattle.std.specs.Prelude.{length, slice_index_or, vec_len};
 ghost use Rattle.step_book.specs.Tables.{PutsAt, SameTable};
 
+use crate::spare_places::SparePlaces;
 use round_lang::NoMemory;
 use std::alloc::Global;
 use std::marker::Model;
+use std::mem;
 use step_machine::{FramePlace, Sealed, SealedView};
 
 /// The frames of one round in flight to a node, by their places in a table that grows with the
-/// copies. Its memory is given back with its last frame.
+/// copies. With its last frame its places become spare ones.
 #[derive(Drop)]
 pub(crate) struct RoundFrames {
     frames: Vec<FramePlace>,
-    // A hint: before memory is given back, the places themselves are looked at.
+    // A hint: before the places are given away, they are looked at themselves.
     count: u32,
 }
 
@@ -54,16 +56,23 @@ impl RoundFrames {
         }
     }
 
-    /// Makes room for a frame at a place; the first time, for one of each node.
+    /// Makes room for a frame at a place; the first time, for one of each node, by the spare places
+    /// where there are some.
     #[inline(always)]
-    pub(crate) fn reserve(&mut self, nodes: usize, place: usize) -> Result<(), NoMemory>
+    pub(crate) fn reserve(
+        &mut self,
+        alloc: Global,
+        spare: &mut SparePlaces,
+        nodes: usize,
+        place: usize,
+    ) -> Result<(), NoMemory>
         ensures room { OnOk result (place < length self.new) }
         ensures same { SameTable None self.old self.new }
     {
         if place < self.frames.len() {
             return Ok(());
         }
-        grow(&mut self.frames, nodes, place)
+        grow(alloc, &mut self.frames, spare, nodes, place)
     }
 
     /// Puts a frame at a place.
@@ -78,7 +87,12 @@ impl RoundFrames {
 
     /// Takes the frame at a place away.
     #[inline(always)]
-    pub(crate) fn take(&mut self, alloc: Global, place: usize) -> Option<Sealed>
+    pub(crate) fn take(
+        &mut self,
+        alloc: Global,
+        spare: &mut SparePlaces,
+        place: usize,
+    ) -> Option<Sealed>
         requires { place < length self.old }
         ensures taken { result ≡ slice_index_or self.old place None }
         ensures rest { PutsAt None self.old self.new place None }
@@ -86,7 +100,7 @@ impl RoundFrames {
         let frame = self.frames[place].take();
         self.count = self.count.saturating_sub(1);
         if self.count == 0 && are_none(&self.frames) {
-            self.frames = Vec::new(alloc);
+            spare.keep(mem::replace(&mut self.frames, Vec::new(alloc)));
         }
         frame
     }
@@ -95,15 +109,33 @@ impl RoundFrames {
 /// Makes a table longer than a place, and gives it a place for each node at once. It stands apart,
 /// since that is rare.
 #[inline(never)]
-fn grow(frames: &mut Vec<FramePlace>, nodes: usize, place: usize) -> Result<(), NoMemory>
+fn grow(
+    alloc: Global,
+    frames: &mut Vec<FramePlace>,
+    spare: &mut SparePlaces,
+    nodes: usize,
+    place: usize,
+) -> Result<(), NoMemory>
     ensures long { OnOk result (place < vec_len frames.new) }
     ensures same { SameTable None frames.old.items frames.new.items }
 {
-    frames.reserve(nodes)?;
+    begin(alloc, frames, spare);
+    if frames.capacity() < nodes {
+        frames.reserve(nodes)?;
+    }
     while frames.len() <= place || frames.len() < nodes {
         frames.push(FramePlace::free())?;
     }
     Ok(())
+}
+
+/// Gives a table without places the spare ones, if there are any.
+fn begin(alloc: Global, frames: &mut Vec<FramePlace>, spare: &mut SparePlaces)
+    ensures { SameTable None frames.old.items frames.new.items }
+{
+    if frames.is_empty() {
+        *frames = spare.take(alloc);
+    }
 }
 
 /// Whether no place has a frame.

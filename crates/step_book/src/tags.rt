@@ -13,8 +13,9 @@ pub fn earliest(round: u32) -> u32
     round.saturating_sub(ROUNDS_HELD) + 1
 }
 
-/// Whether a message was released while its receiver's step count stood in these steps.
-pub(crate) fn is_within(mark: Mark, first: u64, end: u64) -> bool
+/// Whether a message was released while its receiver's step count stood from `first` on and below
+/// `end`.
+pub fn is_within(mark: Mark, first: u64, end: u64) -> bool
     ensures { result ≡ is_within mark first end }
 {
     match mark {

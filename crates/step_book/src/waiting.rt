@@ -1,13 +1,16 @@
 //! The frames that wait for a node.
-ghost use Rattle.std.specs.Prelude.{◌≡◌, ◌<◌, ◌++◌, ◌∷◌, [], OnOk, option_copied};
+ghost use Rattle.std.specs.Prelude.{◌≡◌, ◌<◌, ◌++◌, ◌∷◌, [], All, OnOk, option_copied};
 ghost use Rattle.std.specs.Prelude.{slice_get};
+ghost use Rattle.step_book.specs.Buffers.{IsMail};
+ghost use Rattle.step_book.specs.Taking.{HasTaken};
+ghost use Rattle.step_machine.specs.Nodes.{HasPlaces, algorithm_in};
 
 use crate::frames::Frames;
 use round_lang::NoMemory;
 use std::alloc::Global;
 use std::marker::Model;
 use std::mem;
-use step_machine::Sealed;
+use step_machine::{Node, Sealed};
 
 /// How many frames there are in a piece: as many as a run has nodes at most.
 const PIECE: usize = 16;
@@ -104,5 +107,19 @@ impl Waiting {
         ensures { self.new.items ≡ self.old.items ++ frame ∷ [] }
     {
         self.last.push_reserved(frame);
+    }
+}
+
+/// The node takes frames that were sent to it, in their order. Takes no memory.
+#[inline(always)]
+pub fn take_all(node: &mut Node, frames: Waiting)
+    requires places { HasPlaces node.old.setup.nodes node.old.held }
+    requires mail { All
+        (IsMail (algorithm_in node.old) node.old.setup.nodes node.old.me) frames.items }
+    ensures { HasTaken node.old node.new frames.items }
+{
+    let mut frames = frames.into_frames();
+    while let Some(frame) = frames.next() {
+        let _taken = node.take(frame);
     }
 }

@@ -4,6 +4,7 @@ ghost use Rattle.step_book.specs.Log.{mark_in};
 ghost use Rattle.step_book.specs.Names.{IsName};
 ghost use Rattle.step_book.specs.Buffers.{flying_at};
 ghost use Rattle.step_journal.specs.Fits.{Fits, place_among};
+ghost use Rattle.step_machine.specs.Sealed.{max_copy};
 ghost use Rattle.step_journal.specs.Fitting.{AreNamed, FitsNode, FliesAs, HoldsAt, IsRecorded};
 
 use slot_plans::Plan;
@@ -134,17 +135,17 @@ fn holds<P: Plan>(book: &Book<P>, buffer: &Buffer, name: Name) -> bool
         (mark_in (P.start book.now.plan) book.now.log name)
         (flying_at buffer.now name.round (place_among book.now.log.setup.nodes name)) }
 {
-    match buffer.flying(name.round, place(book, name)) {
+    match buffer.flying(name.round, place(book.setup().nodes, name)) {
         Some(frame) => book.is_flying(name) && is_named(book, &frame, name),
         None => !book.is_flying(name),
     }
 }
 
-/// The place of a copy of a message among those of its round to its receiver.
-pub fn place<P: Plan>(book: &Book<P>, name: Name) -> usize
-    requires { IsName book.now.log.setup name }
-    ensures { result ≡ place_among book.now.log.setup.nodes name }
+/// The place of a copy of a message among those of its round to its receiver, in a run of so many
+/// nodes.
+pub fn place(nodes: u32, name: Name) -> usize
+    requires { name.copy ≤ max_copy }
+    ensures { result ≡ place_among nodes name }
 {
-    let nodes = book.setup().nodes as usize;
-    name.copy as usize * nodes + name.from as usize
+    name.copy as usize * nodes as usize + name.from as usize
 }

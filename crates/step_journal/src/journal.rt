@@ -127,8 +127,8 @@ impl<P: Plan> Journal<P> {
         &self.book
     }
 
-    /// What is recorded agrees with the run in rounds: the messages, the states, the closed and due
-    /// rounds, what is in flight, and what waits.
+    /// Nothing at run time: what is recorded agrees with the run in rounds, which covers the
+    /// messages, the states, the closed and due rounds, what is in flight, and what waits.
     pub fn agrees(&self)
         ensures { JournalAgrees (P.start self.now.plan) self.now.log
             (mark_in (P.start self.now.plan) self.now.log)
@@ -175,7 +175,7 @@ impl<P: Plan> Journal<P> {
         requires { IsName self.now.log.setup name }
         ensures { result ≡ place_among self.now.log.setup.nodes name }
     {
-        place(&self.book, name)
+        place(self.book.setup().nodes, name)
     }
 
     /// A send step: the message is in flight, or there was silence.

@@ -52,9 +52,9 @@ pub enum Taken {
 /// round before, the room of the next one, which the round's end is written to, and the frames that
 /// it holds of its round and of the three after it. The two states change places as it goes on.
 ///
-/// A copy of the state is shared by all that the node sends in its round. Where that is the same
-/// for all, it's computed once, and the frames to all are kept in one piece of memory, which is
-/// shared by the messages.
+/// A copy of the state is shared by all that the node sends in its round. Where the program sends
+/// the same message to all nodes, it's computed once, and its frames lie in one piece of memory
+/// that all of them share.
 #[derive(Drop)]
 pub struct Node {
     alloc: Global,
@@ -156,16 +156,22 @@ impl Node {
         ensures prepared { IfOk result (IsPrepared (algorithm_in self.old)) }
         ensures same { self.new ≡ self.old }
     {
-        let name = Name {
-            from: self.me,
-            to: dest,
-            round: self.round,
-            copy: 0,
-        };
+        // Each call is given a name of its own, so that the frequent one's stays out of memory.
+        let (from, to, round) = (self.me, dest, self.round);
         if let Some(spoken) = &self.spoken {
-            return spoken.prepared(name);
+            return spoken.prepared(Name {
+                from,
+                to,
+                round,
+                copy: 0,
+            });
         }
-        self.prepare_first(name)
+        self.prepare_first(Name {
+            from,
+            to,
+            round,
+            copy: 0,
+        })
     }
 
     /// What it sends where it hasn't said anything to all in its round. It stands apart, since that

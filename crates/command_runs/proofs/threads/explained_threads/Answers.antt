@@ -40,7 +40,7 @@ returns-clause-explained g c = λ whole.
     let ran = c.in_ok-journal.ensures in
     let said = c.in-Ok.ensures in
     let rows = c.in-Ok.report.rows in
-    let text = string_bytes c.in-Ok-write_trace.trace in
+    let text = string_bytes c.in-Ok-write_stored_schedule.trace in
     let stops = c.as_slice-stops.ensures.value in
     let had = subst (λ es. All (λ e. e ≢ NoMemory) es) c.deref.ensures.value (c.had_memory.ensures.0 whole) in
     let of_program = subst (λ p. All (IsOfRounds (algorithm_of p run.setup) (printed_omits rows)) rows) ran.program said.in_rounds in
@@ -69,8 +69,8 @@ returns-clause-explained g c = λ whole.
         memory = had;
       },
       record {
-        spelled = c.in-Ok-write_trace.ensures.spelled ∙ ap (text_of t.setup t.plan) same;
-        read_back = λ short. subst (λ es. Says text t.setup t.plan es) same (c.in-Ok-write_trace.ensures.read_back inputs short);
+        spelled = c.in-Ok-write_stored_schedule.ensures.spelled ∙ ap (text_of t.setup t.plan) same;
+        read_back = λ short. subst (λ es. Says text t.setup t.plan es) same (c.in-Ok-write_stored_schedule.ensures.read_back inputs short);
       },
     )
 

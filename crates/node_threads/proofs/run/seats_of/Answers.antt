@@ -4,16 +4,16 @@ use Rattle.node_threads.specs.Stops.{stop_of}
 use Rattle.node_threads.proofs.Ending.{ended_push}
 use Rattle.node_threads.proofs.run.seats_of.Goals as goal
 
-pub loop-report-preserved : goal.loop-report-preserved
-loop-report-preserved g c =
+pub loop-thread_end-preserved : goal.loop-thread_end-preserved
+loop-thread_end-preserved g c =
     let start = g.P.Plan.start c.args.plan in
     let stops = c.args.stops.now in
-    let seats = c.loop-report.seats in
-    let ends = c.loop-report.ends in
+    let seats = c.loop-thread_end.seats in
+    let ends = c.loop-thread_end.ends in
     let seat = c.in-Some-into_parts.seat in
     let ended = c.in-Some-into_parts.ended in
     let size : vec_len seats ≡ length seats.items = search rules in
     let stop = c.stop_of-stop.ensures ∙ ap (stop_of stops) (c.len.ensures ∙ size) in
     rw (c.in_ok-add_both.ensures.seats, c.in_ok-add_both.ensures.ends)
-    (ended_push start c.args.rounds stops seats.items ends.items seat ended c.loop-report.invariant
+    (ended_push start c.args.rounds stops seats.items ends.items seat ended c.loop-thread_end.invariant
     (subst (λ (x : Option ℕ). IsEnded start c.args.rounds x seat ended) stop c.in-Some-into_parts.ensures))

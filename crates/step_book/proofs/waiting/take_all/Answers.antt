@@ -1,5 +1,5 @@
 use Rattle.step_book.proofs.Taking.{for_now, next_for, takes_next}
-use Rattle.node_threads.proofs.body.take_all.Goals as goal
+use Rattle.step_book.proofs.waiting.take_all.Goals as goal
 
 pub take-taken-requires-clause-from : goal.take-taken-requires-clause-from
 take-taken-requires-clause-from c =

@@ -1,6 +1,6 @@
 use Rattle.std.proofs.Common.{length}
 use Rattle.step_book.proofs.Taking.{IsTakingAll}
-use Rattle.adversary.proofs.driver.take_all.Given as goal
+use Rattle.step_book.proofs.waiting.take_all.Given as goal
 
 abbrev pub invariant-loop-frame : goal.invariant-loop-frame
 invariant-loop-frame l = IsTakingAll l.initial.node l.node l.fn.frames.items l.frames

@@ -1,7 +1,7 @@
 use Rattle.std.proofs.Common.{◌≡◌, Some, ap, sym, vec_len, ◌∙◌}
 use Rattle.std.specs.Prelude.{option_map, slice_get}
 use Rattle.locked_buffers.proofs.Noted.{noted_all, noted_more}
-use Rattle.locked_buffers.proofs.room.names_of.Goals as goal
+use Rattle.locked_buffers.proofs.names.names_of.Goals as goal
 
 pub loop-frame-preserved : goal.loop-frame-preserved
 loop-frame-preserved c =
