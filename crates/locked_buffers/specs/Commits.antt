@@ -1,6 +1,6 @@
 -- What a buffer holds after a call, and when what stands under the locks lets the call go through.
-use Rattle.std.specs.Prelude.{◌≡◌, ◌≢◌, ℕ, ◌<◌, ◌≤◌, ◌++◌, Bool, true, false, All, [], ◌∷◌, None}
-use Rattle.std.specs.Prelude.{IsSomeAnd, Option, option_map, option_to_list}
+use Rattle.std.specs.Prelude.{◌≡◌, ℕ, ◌<◌, ◌≤◌, ◌++◌, Bool, true, false, All, [], ◌∷◌, None}
+use Rattle.std.specs.Prelude.{IsSome, Option, option_map, option_to_list}
 use Rattle.step_machine.specs.declared.event.Event.{Event}
 use Rattle.step_machine.specs.Sealed.{Frame, Ready, copied_as, max_copy, original}
 use Rattle.step_machine.specs.Nodes.{NodeView}
@@ -57,28 +57,24 @@ pub record TakesAll (old new : BufferView) : Type 0 where
   pub flying : new.flying ≡ old.flying
   pub waiting : new.waiting ≡ []
 
--- whether the frame of this name is there, and no other one is
-abbrev pub HasFrame : Name → Option Frame → Bool → Type 0
-HasFrame n o true = IsSomeAnd o (λ f. f.name ≡ n)
-HasFrame n o false = o ≡ None
+-- whether a frame is there
+abbrev pub HasFrame : Option Frame → Bool → Type 0
+HasFrame o true = IsSome o
+HasFrame o false = o ≡ None
 
--- another frame is there
-abbrev pub HasAnother : Name → Option Frame → Type 0
-HasAnother n o = IsSomeAnd o (λ f. f.name ≢ n)
+-- a frame is there just where the mark says that the copy is in flight
+pub record HoldsFrame (m : Mark) (o : Option Frame) : Type 0 where
+  pub flies : m ≡ Flying → HasFrame o true
+  pub stays : (m ≡ Flying → ⊥) → HasFrame o false
 
--- the frame of this name, and no other one, is there just where the mark says that it's in flight
-pub record HoldsName (n : Name) (m : Mark) (o : Option Frame) : Type 0 where
-  pub flies : m ≡ Flying → HasFrame n o true
-  pub stays : (m ≡ Flying → ⊥) → HasFrame n o false
-
--- the book is of the run, so is the buffer, and it has the frame of this name just where the book
--- says that it's in flight
+-- the book is of the run, so is the buffer, and it has a frame at the place of this name just where
+-- the book says that the copy is in flight
 pub record Agrees {P : Type 0} (start : P → ℕ → ℕ) (r : Run P) (s : BufferView)
     (b : Recorded P) (n : Name)
     : Type 0 where
   pub book : IsBookOfRun r b
   pub buffer : IsOfRun r.program r.setup s
-  pub frame : HoldsName n (mark_in (start b.plan) b.log n)
+  pub frame : HoldsFrame (mark_in (start b.plan) b.log n)
       (flying_at s n.round (place_among b.log.setup.nodes n))
 
 -- they agree, and the book takes the send
@@ -129,15 +125,10 @@ abbrev pub send_fault : RelayFault → SendFault
 send_fault relay.Stranger = send.Stranger
 send_fault relay.NoMemory = send.NoMemory
 
--- the buffer is of the run, and has no other frame at this message's place
-pub record HasItsPlace {P : Type 0} (r : Run P) (s : BufferView) (n : Name) : Type 0 where
-  pub buffer : IsOfRun r.program r.setup s
-  pub own : ¬ HasAnother n (flying_at s n.round (place_among r.setup.nodes n))
-
 -- why a buffer isn't made ready for a call
-abbrev pub IsUnready : {P : Type 0} → Run P → BufferView → Name → RelayFault → Type 0
-IsUnready r s n relay.Stranger = ¬ HasItsPlace r s n
-IsUnready r s n relay.NoMemory = IsOfRun r.program r.setup s
+abbrev pub IsUnready : {P : Type 0} → Run P → BufferView → RelayFault → Type 0
+IsUnready r s relay.Stranger = ¬ IsOfRun r.program r.setup s
+IsUnready r s relay.NoMemory = IsOfRun r.program r.setup s
 
 -- why a send that the seat allows is refused: under the locks it doesn't go, or there is no memory
 abbrev pub SendFails : {P : Type 0} → (P → ℕ → ℕ) → Run P → BufferView → Recorded P → Ready

@@ -44,7 +44,7 @@ pub(crate) fn commit_send<P: Plan>(
     requires of_run { IsOfRun run.now.program run.now.setup buffer.old }
     requires place { HasPlace buffer.old.flying prepared.name.round
         (place_among run.now.setup.nodes prepared.name) }
-    requires frame { HasFrame prepared.name (flying_at buffer.old prepared.name.round
+    requires frame { HasFrame (flying_at buffer.old prepared.name.round
         (place_among run.now.setup.nodes prepared.name)) has_frame }
     ensures recorded { OnOk result (book.new ≡ record book.old {
       log = happened book.old.log

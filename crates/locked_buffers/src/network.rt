@@ -20,7 +20,7 @@ use step_book::{Book, Buffer, room};
 use step_machine::{Event, Name, Sealed};
 
 /// Whether the book is of the run, as the buffer is, and says that this copy is in flight just
-/// where the buffer has its frame.
+/// where the buffer has a frame at its place.
 pub(crate) fn agree<P: Plan>(
     run: &Run<P>,
     buffer: &Buffer,
@@ -30,7 +30,7 @@ pub(crate) fn agree<P: Plan>(
 ) -> bool
     requires name { IsName run.now.setup name }
     requires of_run { IsOfRun run.now.program run.now.setup buffer.now }
-    requires frame { HasFrame name
+    requires frame { HasFrame
         (flying_at buffer.now name.round (place_among run.now.setup.nodes name)) has_frame }
     ensures { IsTrue result ↔ Agrees P.start run.now buffer.now book.now name }
 {
@@ -51,7 +51,7 @@ pub(crate) fn commit_release<P: Plan>(
     requires name { IsName run.now.setup name }
     requires of_run { IsOfRun run.now.program run.now.setup buffer.old }
     requires room { 0 < buffer.old.spare }
-    requires frame { HasFrame name
+    requires frame { HasFrame
         (flying_at buffer.old name.round (place_among run.now.setup.nodes name)) has_frame }
     ensures recorded { OnOk result (book.new ≡ record book.old {
       log = happened book.old.log
@@ -94,7 +94,7 @@ pub(crate) fn commit_drop<P: Plan>(
 ) -> Result<bool, RelayFault>
     requires name { IsName run.now.setup name }
     requires of_run { IsOfRun run.now.program run.now.setup buffer.old }
-    requires frame { HasFrame name
+    requires frame { HasFrame
         (flying_at buffer.old name.round (place_among run.now.setup.nodes name)) has_frame }
     ensures recorded { OnOk result (book.new ≡ record book.old {
       log = happened book.old.log
@@ -159,8 +159,8 @@ pub(crate) fn commit_copy<P: Plan>(
     ensures taken { OnOk result (AgreesTwice P.start run.now buffer.old book.old name) }
     ensures cause { IfErr result (CopyFails P.start run.now buffer.old book.old name) }
 {
-    let has_copy = has_frame(run, buffer, name)?;
-    let has_original = has_frame(run, buffer, name.original())?;
+    let has_copy = has_frame(run, buffer, name);
+    let has_original = has_frame(run, buffer, name.original());
     if !agree(run, buffer, book, name, has_copy)
         || !agree(run, buffer, book, name.original(), has_original)
     {

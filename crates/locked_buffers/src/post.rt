@@ -255,7 +255,7 @@ impl<P: Plan> Post<P> {
         if !self.run.has_buffer(&buffer) {
             return Err(RelayFault::Stranger);
         }
-        let is_there = has_frame(&self.run, &buffer, name)?;
+        let is_there = has_frame(&self.run, &buffer, name);
         let mut book = take(rt, &self.book);
         commit_drop(&self.run, relay, &mut buffer, &mut book, name, is_there)
     }

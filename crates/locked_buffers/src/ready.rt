@@ -6,7 +6,7 @@ ghost use Rattle.step_book.specs.Names.{IsName};
 ghost use Rattle.step_book.specs.Tables.{HasPlace};
 ghost use Rattle.step_journal.specs.Fits.{IsOfRun, place_among};
 ghost use Rattle.step_machine.specs.Sealed.{copied_as, original};
-ghost use Rattle.locked_buffers.specs.Commits.{HasAnother, HasFrame, IsFromNode, IsUnread};
+ghost use Rattle.locked_buffers.specs.Commits.{HasFrame, IsFromNode, IsUnread};
 ghost use Rattle.locked_buffers.specs.Commits.{IsUnready, SameBuffer};
 
 use crate::fault::{PostFault, RelayFault};
@@ -18,8 +18,8 @@ use std::alloc::Global;
 use step_book::Buffer;
 use step_machine::{MAX_COPY, Name, Sealed};
 
-/// Makes room in a buffer of the run for the frame of a message in flight, and says whether it's
-/// there already.
+/// Makes room in a buffer of the run for the frame of a message in flight, and says whether there is
+/// one at its place already.
 pub(crate) fn make_place<P: Plan>(
     run: &Run<P>,
     buffer: &mut Buffer,
@@ -27,23 +27,23 @@ pub(crate) fn make_place<P: Plan>(
 ) -> Result<bool, RelayFault>
     requires { IsName run.now.setup name }
     ensures of_run { OnOk result (IsOfRun run.now.program run.now.setup buffer.new) }
-    ensures frame { IfOk result (HasFrame name
+    ensures frame { IfOk result (HasFrame
         (flying_at buffer.new name.round (place_among run.now.setup.nodes name))) }
     ensures place { OnOk result
         (HasPlace buffer.new.flying name.round (place_among run.now.setup.nodes name)) }
     ensures same { SameBuffer buffer.old buffer.new }
-    ensures cause { IfErr result (IsUnready run.now buffer.old name) }
+    ensures cause { IfErr result (IsUnready run.now buffer.old) }
 {
     if !run.has_buffer(buffer) {
         return Err(RelayFault::Stranger);
     }
-    let is_there = has_frame(run, buffer, name)?;
+    let is_there = has_frame(run, buffer, name);
     buffer.reserve_flying(name.round, run.place(name))?;
     Ok(is_there)
 }
 
-/// Makes room in a buffer of the run for a frame more that waits, and says whether the frame of a
-/// message is in flight.
+/// Makes room in a buffer of the run for a frame more that waits, and says whether there is one in
+/// flight at the place of a message.
 pub(crate) fn make_room<P: Plan>(
     run: &Run<P>,
     buffer: &mut Buffer,
@@ -51,38 +51,28 @@ pub(crate) fn make_room<P: Plan>(
 ) -> Result<bool, RelayFault>
     requires { IsName run.now.setup name }
     ensures of_run { OnOk result (IsOfRun run.now.program run.now.setup buffer.new) }
-    ensures frame { IfOk result (HasFrame name
+    ensures frame { IfOk result (HasFrame
         (flying_at buffer.new name.round (place_among run.now.setup.nodes name))) }
     ensures room { OnOk result (0 < buffer.new.spare) }
     ensures same { SameBuffer buffer.old buffer.new }
-    ensures cause { IfErr result (IsUnready run.now buffer.old name) }
+    ensures cause { IfErr result (IsUnready run.now buffer.old) }
 {
     if !run.has_buffer(buffer) {
         return Err(RelayFault::Stranger);
     }
-    let is_there = has_frame(run, buffer, name)?;
+    let is_there = has_frame(run, buffer, name);
     buffer.reserve_waiting()?;
     Ok(is_there)
 }
 
-/// Whether a buffer has the frame of this name in flight. That another frame lies at its place is
-/// refused.
-pub(crate) fn has_frame<P: Plan>(
-    run: &Run<P>,
-    buffer: &Buffer,
-    name: Name,
-) -> Result<bool, RelayFault>
+/// Whether a buffer has a frame in flight at the place of a message. The frame itself, which lies in
+/// the memory of its sender's thread, isn't looked at: its name is compared when it's handed out.
+pub(crate) fn has_frame<P: Plan>(run: &Run<P>, buffer: &Buffer, name: Name) -> bool
     requires { IsName run.now.setup name }
-    ensures frame { IfOk result (HasFrame name
-        (flying_at buffer.now name.round (place_among run.now.setup.nodes name))) }
-    ensures cause { IfErr result (λ fault. (fault ≡ RelayFault.Stranger) × HasAnother name
-        (flying_at buffer.now name.round (place_among run.now.setup.nodes name))) }
+    ensures { HasFrame
+        (flying_at buffer.now name.round (place_among run.now.setup.nodes name)) result }
 {
-    match buffer.flying(name.round, run.place(name)) {
-        Some(frame) if frame.name() == name => Ok(true),
-        Some(_) => Err(RelayFault::Stranger),
-        None => Ok(false),
-    }
+    buffer.flying(name.round, run.place(name)).is_some()
 }
 
 /// The names of the frames that wait in a buffer of the run, which are from nodes of the run.
