@@ -11,10 +11,9 @@ ghost use Rattle.locked_buffers.specs.Runs.{IsBookOfRun};
 use crate::fault::Unmatched;
 use crate::run::Run;
 use crate::seat::{Relay, Seat};
-use round_lang::Vars;
 use slot_plans::Plan;
 use std::sync::Arc;
-use step_book::{Book, Buffer, Mail, StoredEvent, StoredName};
+use step_book::{Book, Buffer, Mailbox, StoredEvent, StoredName};
 use step_journal::Journal;
 use step_machine::{Event, Name, StoredState};
 
@@ -71,7 +70,7 @@ fn is_account<P: Plan>(book: &Book<P>, node: u32, seat: &Seat) -> bool
 }
 
 /// Whether these are the names that the receives of a node handed out, receive by receive.
-fn are_handed(mail: &Mail, handed: &[Vec<Name>]) -> bool
+fn are_handed(mail: &Mailbox, handed: &[Vec<Name>]) -> bool
     ensures { IsTrue result ↔ (map (λ names. names.items) handed.now ≡ mail.now.handed) }
 {
     if handed.len() != mail.receives() {
@@ -86,14 +85,14 @@ fn are_handed(mail: &Mail, handed: &[Vec<Name>]) -> bool
 }
 
 /// Whether the states have the same values.
-fn are_states(recorded: &[Arc<StoredState>], states: &[Arc<Vars>]) -> bool
+fn are_states(recorded: &[Arc<StoredState>], states: &[Arc<StoredState>]) -> bool
     ensures { IsTrue result ↔ (states_of states.now ≡ states_of recorded.now) }
 {
     if states.len() != recorded.len() {
         return false;
     }
     for (place, state) in states.iter().enumerate() {
-        if !recorded[place].same(state) {
+        if !recorded[place].equals(state) {
             return false;
         }
     }

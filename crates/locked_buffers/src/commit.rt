@@ -22,7 +22,6 @@ use crate::fault::PostFault;
 use crate::network::agree;
 use crate::run::Run;
 use crate::seat::Seat;
-use round_lang::Vars;
 use slot_plans::Plan;
 use std::sync::Arc;
 use step_book::{Book, Buffer, CloseFault, ReceiveFault, Refused, SendFault, room};
@@ -140,19 +139,17 @@ pub(crate) fn commit_receive<P: Plan>(
 }
 
 /// The end of a round that the seat allows, with the state that it ended with, which the seat and
-/// the book note.
+/// the book share.
 pub(crate) fn commit_close<P: Plan>(
     run: &Run<P>,
     seat: &mut Seat,
     book: &mut Book<P>,
     finished: &Finished<'_>,
-    state: Arc<Vars>,
-    stored: Arc<StoredState>,
+    state: Arc<StoredState>,
 ) -> Result<(), CloseFault>
     requires program { finished.now.node.now.program ≡ run.now.program }
     requires setup { finished.now.node.now.setup ≡ run.now.setup }
     requires state { Some (arc_value state) ≡ finished.now.node.now.next }
-    requires stored { Some (arc_value stored) ≡ finished.now.node.now.next }
     ensures recorded { OnOk result (book.new ≡ record book.old {
       log = closed book.old.log
           finished.now.node.now;
@@ -174,8 +171,11 @@ pub(crate) fn commit_close<P: Plan>(
         Some(CloseFault::NoMemory) => return Err(CloseFault::NoMemory),
         Some(_) => return Err(CloseFault::Stranger),
     }
+    let Ok(own) = Arc::try_clone(&state) else {
+        return Err(CloseFault::NoMemory);
+    };
     room(&mut seat.states)?;
-    book.record_close(finished, stored)?;
-    seat.states.push_reserved(state);
+    book.record_close(finished, state)?;
+    seat.states.push_reserved(own);
     Ok(())
 }

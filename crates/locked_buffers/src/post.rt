@@ -216,10 +216,9 @@ impl<P: Plan> Post<P> {
         if !may_close(&self.run, seat, finished.round()) {
             return Err(CloseFault::NotDue);
         }
-        let state = finished.new_state()?;
-        let stored = finished.stored_state()?;
+        let state = finished.stored_state()?;
         let mut book = take(rt, &self.book);
-        commit_close(&self.run, seat, &mut book, finished, state, stored)
+        commit_close(&self.run, seat, &mut book, finished, state)
     }
 
     /// A release: true where a copy went from flight to its buffer.

@@ -4,12 +4,12 @@ ghost use Rattle.round_meaning.specs.Rounds.{algorithm_of};
 ghost use Rattle.locked_buffers.specs.Seats.{round_by};
 
 use round_check::Checked;
-use round_lang::{NoMemory, Vars};
-use round_meaning::{Setup, initial_of};
+use round_lang::NoMemory;
+use round_meaning::{Setup, initial_of, types_are_kept};
 use std::alloc::Global;
 use std::marker::Model;
 use std::sync::Arc;
-use step_machine::{Event, Name};
+use step_machine::{Event, Name, StoredState};
 
 /// What the calls of one node were told: how many of its steps are recorded, the names that each of
 /// its receives handed out, and its states after 0, 1, .. closed rounds.
@@ -18,7 +18,8 @@ pub struct Seat {
     pub(crate) node: u32,
     pub(crate) steps: u64,
     pub(crate) handed: Vec<Vec<Name>>,
-    pub(crate) states: Vec<Arc<Vars>>,
+    /// Each is shared with the book.
+    pub(crate) states: Vec<Arc<StoredState>>,
 }
 
 impl Model for Seat {
@@ -54,9 +55,11 @@ impl Seat {
           states = (algorithm_of program.now setup.now).init node ∷ [];
         }) }
     {
+        types_are_kept(program);
         let state = initial_of(alloc, program, setup, node)?;
+        let stored = StoredState::new(alloc, program.state_shape(), &state)?;
         let mut states = Vec::new(alloc);
-        states.push(Arc::new(alloc, state)?)?;
+        states.push(Arc::new(alloc, stored)?)?;
         Ok(Seat {
             node,
             steps: 0,

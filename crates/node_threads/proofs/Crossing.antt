@@ -30,7 +30,7 @@ use Rattle.step_machine.proofs.spoken.Spoken.TheSendSync as spoken
 use Rattle.step_machine.specs.contracts.node.Node as node
 use Rattle.step_machine.proofs.event.Event.TheSendSync as event
 use Rattle.step_machine.proofs.event.InFlight.TheSendSync as in_flight
-use Rattle.step_book.proofs.mail.Mail.TheSendSync as mail
+use Rattle.step_book.proofs.mailbox.Mailbox.TheSendSync as mail
 use Rattle.step_book.proofs.mark.Mark.TheSendSync as mark
 use Rattle.step_book.proofs.marks.Marks.TheSendSync as marks
 use Rattle.step_book.proofs.round_frames.RoundFrames.TheSendSync as round_frames

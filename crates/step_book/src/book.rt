@@ -25,7 +25,7 @@ ghost use Rattle.step_machine.specs.declared.event.Name.{Name as OneName};
 mod closing;
 
 use crate::fault::{IdleFault, ReceiveFault, SendFault};
-use crate::mail::Mail;
+use crate::mailbox::Mailbox;
 use crate::mark::Mark;
 use crate::marks::Marks;
 use crate::notes::{note_answer, note_receive, note_release, note_send, note_step};
@@ -53,7 +53,7 @@ pub struct Book<P: Plan> {
     steps: Vec<u64>,
     states: Vec<Vec<Arc<StoredState>>>,
     marks: Marks,
-    mails: Vec<Mail>,
+    mails: Vec<Mailbox>,
     program: Checked,
     setup: Setup,
     plan: P,
@@ -266,7 +266,7 @@ impl<P: Plan> Book<P> {
 
     /// The names released to a node: those that each of its receives handed out, and those that
     /// wait.
-    pub fn mail(&self, node: u32) -> &Mail
+    pub fn mail(&self, node: u32) -> &Mailbox
         requires { node < self.now.log.setup.nodes }
         ensures handed { result.now.handed ≡ handed_of
             (world_of (P.start self.now.plan) self.now.log) node (history self.now.log) }

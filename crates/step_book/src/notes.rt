@@ -11,7 +11,7 @@ ghost use Rattle.step_book.specs.Log.{states_of};
 ghost use Rattle.stored_events.specs.Stored.{IsFew, IsFewName};
 
 use crate::growth::room;
-use crate::mail::Mail;
+use crate::mailbox::Mailbox;
 use crate::mark::Mark;
 use crate::marks::Marks;
 use round_lang::NoMemory;
@@ -82,7 +82,7 @@ pub(crate) fn note_send(
 pub(crate) fn note_receive(
     trace: &mut Vec<StoredEvent>,
     steps: &mut Vec<u64>,
-    mail: &mut Mail,
+    mail: &mut Mailbox,
     node: u32,
 ) -> Result<(), NoMemory>
     requires few { node < 16 }
@@ -109,7 +109,7 @@ pub(crate) fn note_receive(
 pub(crate) fn note_release(
     trace: &mut Vec<StoredEvent>,
     answers: &mut Vec<bool>,
-    mail: &mut Mail,
+    mail: &mut Mailbox,
     name: Name,
 ) -> Result<(), NoMemory>
     requires { IsFewName name }

@@ -3,7 +3,7 @@ ghost use Rattle.std.specs.Prelude.{◌≡◌, [], IfOk, replicate};
 ghost use Rattle.step_book.specs.Log.{opened, rows_of};
 ghost use Rattle.step_book.specs.Mailing.{mailed};
 
-use crate::mail::Mail;
+use crate::mailbox::Mailbox;
 use round_check::Checked;
 use round_lang::NoMemory;
 use round_meaning::{Setup, initial_of, types_are_kept};
@@ -32,12 +32,12 @@ pub(crate) fn first_rows(
 }
 
 /// No names for each node.
-pub(crate) fn no_mail(alloc: Global, count: u32) -> Result<Vec<Mail>, NoMemory>
+pub(crate) fn no_mail(alloc: Global, count: u32) -> Result<Vec<Mailbox>, NoMemory>
     ensures { IfOk result (λ mails. mails.items ≡ replicate count (mailed [] [] 0)) }
 {
     let mut mails = Vec::new(alloc);
     for _node in 0..count {
-        mails.push(Mail::new(alloc))?;
+        mails.push(Mailbox::new(alloc))?;
     }
     Ok(mails)
 }

@@ -4,7 +4,7 @@ ghost use Rattle.round_lang.specs.Values.{at, set};
 ghost use Rattle.round_lang.specs.Words.{kind_of};
 
 use crate::state_reader::StateReader;
-use crate::word_bytes::{BYTES, are_words, spelled, words_of};
+use crate::word_bytes::{BYTES, are_words, spell_the_same, spelled, words_of};
 use round_lang::{NoMemory, Shape, ValueSet, Vars};
 use smallvec::SmallVec;
 use std::alloc::Global;
@@ -74,5 +74,13 @@ impl StoredState {
         ensures { IsTrue result ↔ (self.now ≡ state.now) }
     {
         are_words(self.bytes.as_slice(), state.as_words()) && self.shape.is(state.kinds())
+    }
+
+    /// Whether another has the same values. Takes no memory.
+    pub fn equals(&self, other: &StoredState) -> bool
+        ensures { IsTrue result ↔ (self.now ≡ other.now) }
+    {
+        spell_the_same(self.bytes.as_slice(), other.bytes.as_slice())
+            && self.shape.is(other.shape.kinds())
     }
 }

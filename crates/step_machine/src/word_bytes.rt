@@ -145,6 +145,25 @@ pub(crate) fn are_words(bytes: &[u8], words: &[u64]) -> bool
     left.is_empty()
 }
 
+/// Whether both spell the same words.
+pub(crate) fn spell_the_same(one: &[u8], other: &[u8]) -> bool
+    ensures { IsTrue result ↔ (words_in one.now ≡ words_in other.now) }
+{
+    let mut left = one;
+    let mut right = other;
+    while let Some((word, behind)) = split_word(left) {
+        let Some((same, others)) = split_word(right) else {
+            return false;
+        };
+        if word != same {
+            return false;
+        }
+        left = behind;
+        right = others;
+    }
+    split_word(right).is_none()
+}
+
 /// A number of which some bytes are read: what they count, and what 1 counts in the next byte.
 #[derive(Clone, Copy)]
 struct Begun {

@@ -1,7 +1,7 @@
 use Rattle.std.proofs.Common.{ap, arith, length}
 use Rattle.step_book.specs.Mailing.{Mailed}
 use Rattle.step_book.proofs.Mails.{parts_len}
-use Rattle.step_book.proofs.mail.Mail.receives.Goals as goal
+use Rattle.step_book.proofs.mailbox.Mailbox.receives.Goals as goal
 
 pub returns : goal.returns
 returns c =

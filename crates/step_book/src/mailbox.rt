@@ -14,13 +14,13 @@ use stored_events::StoredName;
 /// The names of the messages that were released to a node, in the order of their releases: those
 /// that each of its receives handed out, and then those that wait.
 #[derive(Drop)]
-pub struct Mail {
+pub struct Mailbox {
     names: Vec<StoredName>,
     ends: Vec<usize>,
     taken: usize,
 }
 
-impl Model for Mail {
+impl Model for Mailbox {
     ghost use Rattle.step_book.specs.Mailing.{AreParted, Mailed, mailed};
 
     ghost Value = { Mailed };
@@ -30,12 +30,12 @@ impl Model for Mail {
     ghost invariant = { λ m. AreParted m.names.items m.ends.items m.taken };
 }
 
-impl Mail {
+impl Mailbox {
     /// No names, and no receives; takes no memory.
-    pub(crate) fn new(alloc: Global) -> Mail
+    pub(crate) fn new(alloc: Global) -> Mailbox
         ensures { result ≡ mailed [] [] 0 }
     {
-        Mail {
+        Mailbox {
             names: Vec::new(alloc),
             ends: Vec::new(alloc),
             taken: 0,

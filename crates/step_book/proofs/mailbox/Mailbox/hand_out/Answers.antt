@@ -1,7 +1,7 @@
 use Rattle.std.proofs.Common.{[], ◌∷◌, ◌++◌, ◌∙◌, ap, arith}
 use Rattle.step_book.specs.Mailing.{Mailed}
 use Rattle.step_book.proofs.Mails.{handed_more, mail_handed}
-use Rattle.step_book.proofs.mail.Mail.hand_out.Goals as goal
+use Rattle.step_book.proofs.mailbox.Mailbox.hand_out.Goals as goal
 
 pub invariant_of-self-2 : goal.invariant_of-self-2
 invariant_of-self-2 c = mail_handed c.self.invariant _ _ (let size = c.len-count.ensures in omega arith) (c.push_reserved.ensures.items ∙ ap (λ ns. ns ++ c.len-count.result ∷ []) c.room.ensures.same)

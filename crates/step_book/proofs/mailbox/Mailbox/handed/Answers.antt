@@ -3,7 +3,7 @@ use Rattle.std.proofs.Common.{take}
 use Rattle.std.proofs.lemmas.List.{get_or_default, get_or_past}
 use Rattle.step_book.specs.Mailing.{Mailed, parts}
 use Rattle.step_book.proofs.Mails.{part_at, part_high, part_low, parts_len}
-use Rattle.step_book.proofs.mail.Mail.handed.Goals as goal
+use Rattle.step_book.proofs.mailbox.Mailbox.handed.Goals as goal
 
 pub returns-then-receive-len : goal.returns-then-receive-len
 returns-then-receive-len c =
