@@ -1,9 +1,10 @@
 -- Tables as they grow and as a place of one is written.
-use Rattle.std.proofs.Common.{◌≡◌, ◌≢◌, ℕ, ◌<◌, ◌≤◌, List, [], ◌∷◌, ◌++◌, length, get_or, set, sym}
+use Rattle.std.proofs.Common.{◌≡◌, ◌≢◌, ℕ, ◌-◌, ◌<◌, ◌≤◌, List, [], ◌∷◌, ◌++◌, length, get_or, set, sym}
 use Rattle.std.proofs.Common.{subst, ap, ◌∙◌, arith, refl, ◌⊎◌, inl, inr}
 use Rattle.std.specs.Prelude.{All, Err, Ok, OnOk, Result, Vec}
 use Rattle.std.proofs.lemmas.Bool.{cases_lt, cases_eq}
-use Rattle.std.proofs.lemmas.List.{get_or-set_same, get_or-set_other, get_or_append_left}
+use Rattle.std.proofs.lemmas.List.{get_or-set_same, get_or-set_other}
+use Rattle.std.proofs.lemmas.List.{get_or_append_left, get_or-append_right}
 use Rattle.std.proofs.lemmas.List.{get_or_default, get_or_push, get_or_past, length_push}
 use Rattle.std.proofs.lemmas.List.{length-set, map-set, get_or-map, length-map}
 use Rattle.step_book.specs.Tables.{HasPlace, Puts, PutsAt, SameTable, SameTables, read_at, tables_of}
@@ -14,11 +15,7 @@ push_at d xs k (inr high) (inl same) = get_or_push xs d d k (sym same) ∙ sym (
 push_at d xs k (inr high) (inr apart) =
     get_or_past (xs ++ d ∷ []) k d (let n = length_push xs d in omega arith) ∙ sym (get_or_past xs k d high)
 
--- one place more that reads as the default changes nothing
-pub same_push : {A : Type 0} (d : A) (xs ys zs : List A) → zs ≡ ys ++ d ∷ [] → SameTable d xs ys → SameTable d xs zs
-same_push d xs ys zs e h = λ k. ap (λ z. get_or z k d) e ∙ push_at d ys k (cases_lt _ _) (cases_eq _ _) ∙ h k
-
--- nor does one empty table more
+-- one empty table more changes nothing
 pub same_more : {A : Type 0} (d : A) (xs ys zs : List (List A)) → zs ≡ ys ++ [] ∷ [] → SameTables d xs ys → SameTables d xs zs
 same_more d xs ys zs e h = λ c k. ap (λ z. read_at d z c k) e ∙ ap (λ t. get_or t k d) (push_at [] ys c (cases_lt _ _) (cases_eq _ _)) ∙ h c k
 
@@ -91,6 +88,15 @@ none_at d xs k all (inr high) = get_or_past xs k d high
 
 pub same_gone : {A : Type 0} (d : A) (xs : List A) → All (λ x. x ≡ d) xs → SameTable d xs []
 same_gone d xs all = λ k. get_or_past [] k d (omega arith) ∙ sym (none_at d xs k all (cases_lt _ _))
+
+longer_at : {A : Type 0} (d : A) (xs ys : List A) (k : ℕ) → All (λ y. y ≡ d) ys → (k < length xs) ⊎ (length xs ≤ k) → get_or (xs ++ ys) k d ≡ get_or xs k d
+longer_at d xs ys k all (inl low) = get_or_append_left xs ys d k low
+longer_at d xs ys k all (inr high) =
+    get_or-append_right xs ys (length xs) k d refl high ∙ none_at d ys (k - length xs) all (cases_lt _ _) ∙ sym (get_or_past xs k d high)
+
+-- places more that read as the default change nothing
+pub same_longer : {A : Type 0} (d : A) (xs ys zs more : List A) → zs ≡ ys ++ more → All (λ x. x ≡ d) more → SameTable d xs ys → SameTable d xs zs
+same_longer d xs ys zs more e all h = λ k. ap (λ z. get_or z k d) e ∙ longer_at d ys more k all (cases_lt _ _) ∙ h k
 
 pub puts_at_then : {A : Type 0} (d : A) (xs ys zs : List A) (p : ℕ) (x : A) → PutsAt d xs ys p x → SameTable d ys zs → PutsAt d xs zs p x
 puts_at_then d xs ys zs p x h same = record {

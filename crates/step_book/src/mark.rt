@@ -21,18 +21,22 @@ pub enum Mark {
 const FIRST_RELEASED: u32 = 4;
 
 /// A mark in 4 bytes.
-#[derive(Drop)]
+#[derive(Clone, Copy)]
 pub(crate) struct StoredMark {
     code: u32,
 }
 
 impl Model for StoredMark {
     ghost use Rattle.step_book.specs.declared.mark.Mark.{Mark};
-    ghost use Rattle.step_book.specs.Stored.{mark_by};
+    ghost use Rattle.step_book.specs.Stored.{code_back, code_of, mark_by};
 
     ghost Value = { Mark };
 
     ghost view = { λ s. mark_by s.code };
+
+    ghost inverse = { λ mark. record { code = code_of mark } };
+
+    ghost inverse_ok = { λ s h i. record { code = code_back s.code i } };
 }
 
 impl StoredMark {

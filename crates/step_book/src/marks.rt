@@ -123,8 +123,11 @@ fn grow(marks: &mut Vec<StoredMark>, place: usize) -> Result<(), NoMemory>
     ensures long { OnOk result (place < vec_len marks.new) }
     ensures same { SameTable Unsent marks.old.items marks.new.items }
 {
-    while marks.len() <= place || marks.len() < place.saturating_add(MARKS_AHEAD) {
-        marks.push(StoredMark::new(Mark::Unsent))?;
+    let Some(length) = place.checked_add(MARKS_AHEAD) else {
+        return Err(NoMemory);
+    };
+    if marks.len() < length {
+        marks.resize(length, StoredMark::new(Mark::Unsent))?;
     }
     Ok(())
 }

@@ -120,11 +120,12 @@ fn grow(
     ensures same { SameTable None frames.old.items frames.new.items }
 {
     begin(alloc, frames, spare);
-    if frames.capacity() < nodes {
-        frames.reserve(nodes)?;
-    }
-    while frames.len() <= place || frames.len() < nodes {
-        frames.push(FramePlace::free())?;
+    let Some(least) = place.checked_add(1) else {
+        return Err(NoMemory);
+    };
+    let length = least.max(nodes);
+    if frames.len() < length {
+        frames.resize_with(length, || FramePlace::free())?;
     }
     Ok(())
 }
