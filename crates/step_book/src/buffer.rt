@@ -128,7 +128,7 @@ impl Buffer {
     {
         let nodes = self.setup.nodes as usize;
         add_tables(self.alloc, &mut self.flying, round as usize)?;
-        self.flying[round as usize].reserve(self.alloc, &mut self.spare, nodes, place)
+        self.flying[round as usize].reserve(&mut self.spare, nodes, place)
     }
 
     /// Makes room for one more frame that waits; the first time, for one of each node.

@@ -61,7 +61,6 @@ impl RoundFrames {
     #[inline(always)]
     pub(crate) fn reserve(
         &mut self,
-        alloc: Global,
         spare: &mut SparePlaces,
         nodes: usize,
         place: usize,
@@ -72,7 +71,7 @@ impl RoundFrames {
         if place < self.frames.len() {
             return Ok(());
         }
-        grow(alloc, &mut self.frames, spare, nodes, place)
+        grow(&mut self.frames, spare, nodes, place)
     }
 
     /// Puts a frame at a place.
@@ -110,7 +109,6 @@ impl RoundFrames {
 /// since that is rare.
 #[inline(never)]
 fn grow(
-    alloc: Global,
     frames: &mut Vec<FramePlace>,
     spare: &mut SparePlaces,
     nodes: usize,
@@ -119,7 +117,7 @@ fn grow(
     ensures long { OnOk result (place < vec_len frames.new) }
     ensures same { SameTable None frames.old.items frames.new.items }
 {
-    begin(alloc, frames, spare);
+    begin(frames, spare);
     let Some(least) = place.checked_add(1) else {
         return Err(NoMemory);
     };
@@ -131,11 +129,11 @@ fn grow(
 }
 
 /// Gives a table without places the spare ones, if there are any.
-fn begin(alloc: Global, frames: &mut Vec<FramePlace>, spare: &mut SparePlaces)
+fn begin(frames: &mut Vec<FramePlace>, spare: &mut SparePlaces)
     ensures { SameTable None frames.old.items frames.new.items }
 {
     if frames.is_empty() {
-        *frames = spare.take(alloc);
+        spare.give(frames);
     }
 }
 

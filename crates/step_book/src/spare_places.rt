@@ -1,5 +1,5 @@
 //! Places of a table whose frames are all gone.
-ghost use Rattle.std.specs.Prelude.{◌≡◌, All, None};
+ghost use Rattle.std.specs.Prelude.{◌≡◌, [], All, None};
 
 use std::alloc::Global;
 use std::mem;
@@ -28,11 +28,11 @@ impl SparePlaces {
         *self = SparePlaces { places };
     }
 
-    /// The places that are kept, if there are any.
-    pub(crate) fn take(&mut self, alloc: Global) -> Vec<FramePlace>
-        ensures { All (λ place. place ≡ None) result.items }
+    /// Gives a table without places those that are kept, if there are any.
+    pub(crate) fn give(&mut self, table: &mut Vec<FramePlace>)
+        requires { table.old.items ≡ [] }
+        ensures { All (λ place. place ≡ None) table.new.items }
     {
-        let SparePlaces { places } = mem::replace(self, SparePlaces::new(alloc));
-        places
+        mem::swap(&mut self.places, table);
     }
 }
