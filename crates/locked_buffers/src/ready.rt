@@ -18,8 +18,8 @@ use std::alloc::Global;
 use step_book::Buffer;
 use step_machine::{MAX_COPY, Name, Sealed};
 
-/// Makes room in a buffer of the run for the frame of a message in flight, and says whether there is
-/// one at its place already.
+/// Makes room in a buffer of the run for the frame of a message in flight, and says whether there
+/// is one at its place already.
 pub(crate) fn make_place<P: Plan>(
     run: &Run<P>,
     buffer: &mut Buffer,
@@ -65,8 +65,9 @@ pub(crate) fn make_room<P: Plan>(
     Ok(is_there)
 }
 
-/// Whether a buffer has a frame in flight at the place of a message. The frame itself, which lies in
-/// the memory of its sender's thread, isn't looked at: its name is compared when it's handed out.
+/// Whether a buffer has a frame in flight at the place of a message. The frame itself, which lies
+/// in the memory of its sender's thread, isn't looked at: its name is compared when it's handed
+/// out.
 pub(crate) fn has_frame<P: Plan>(run: &Run<P>, buffer: &Buffer, name: Name) -> bool
     requires { IsName run.now.setup name }
     ensures { HasFrame
