@@ -19,10 +19,10 @@ use Rattle.schedule_text.specs.Writing.{copy_ending, event_line, line_text, name
 pub few_digits : (n : ℕ) → IsSmall n → length (decimal n) ≤ 10
 few_digits n small = length-decimal-le 10 n (omega arith) (omega (arith, small)) (omega (arith, small))
 
--- so many bytes more, where a number follows
-pub number_short : (text new : List ℕ) (n : ℕ) → IsSmall n → new ≡ text ++ decimal n → length new ≤ length text + 10
-number_short text new n small e =
-    omega (arith, ap length e, length-append text (decimal n), few_digits n small)
+-- so many bytes more, where a number and a byte follow
+pub number_short : (text new : List ℕ) (n end : ℕ) → IsSmall n → new ≡ text ++ (decimal n ++ end ∷ []) → length new ≤ length text + 11
+number_short text new n end small e =
+    omega (arith, ap length e, length-append text (decimal n ++ end ∷ []), length-append (decimal n) (end ∷ []), few_digits n small)
 
 ascii_from_test : (bs : List ℕ) → list_all (λ b. leb b 127) bs ≡ true → IsAscii bs
 ascii_from_test [] h = IsAscii-nil

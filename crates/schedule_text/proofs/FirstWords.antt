@@ -6,7 +6,8 @@ use Rattle.std.specs.Int.{from_le_bytes, to_le_bytes}
 use Rattle.std.proofs.lemmas.List.{take_all, take-append-drop, drop_more}
 use Rattle.std.proofs.lemmas.Nat.{le_bytes_4, le_bytes_8}
 
-bytes-take : (n : ℕ) (t : List ℕ) → ((i : ℕ) → get_or t i 0 < 256) → (i : ℕ) → get_or (take n t) i 0 < 256
+-- bytes at the front of others
+pub bytes-take : (n : ℕ) (t : List ℕ) → ((i : ℕ) → get_or t i 0 < 256) → (i : ℕ) → get_or (take n t) i 0 < 256
 bytes-take zero t bytes i = omega arith
 bytes-take (suc n) [] bytes i = omega arith
 bytes-take (suc n) (x ∷ xs) bytes zero = bytes 0

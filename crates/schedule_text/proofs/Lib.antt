@@ -17,6 +17,7 @@ pub mod EventLines
 pub mod Kept
 pub mod Utf8
 pub mod Pieces
+pub mod Rounds
 pub mod Intakes
 pub mod Drained
 pub mod Readers

@@ -4,6 +4,7 @@ pub mod Texts
 pub mod Readings
 pub mod Stages
 pub mod Fronts
+pub mod Rounds
 pub mod Outcome
 pub mod Writing
 pub mod Small

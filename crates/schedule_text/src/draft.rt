@@ -3,8 +3,9 @@ ghost use Rattle.std.specs.Prelude.{◌≡◌, ◌<◌, length};
 ghost use Rattle.schedule_text.specs.Outcome.{whole_header};
 
 use crate::fault::{LineFault, ScheduleFault};
-use crate::front::{first_line, front_event};
+use crate::front::{first_line, front_release, front_step};
 use crate::kind::Kind;
+use crate::last_round::LastRound;
 use crate::line::{event_of, inputs_of, number_after, pace_of, plan_of, stop_of};
 use crate::pace::{Pace, Stop};
 use crate::reading::{Schedule, ThreadSetup};
@@ -12,6 +13,7 @@ use round_lang::NoMemory;
 use round_meaning::{Inputs, Setup};
 use slot_plans::PlanKind;
 use std::alloc::Global;
+use step_machine::Event;
 use stored_events::Events;
 
 /// How far the header and the pace behind it have come: what their lines say so far, but for the
@@ -63,6 +65,7 @@ impl Draft {
         alloc: Global,
         kind: Kind,
         text: &'a [u8],
+        last: &mut LastRound,
     ) -> Result<&'a [u8], LineFault>
         requires { 0 < length text.now }
         ensures { GivesFront kind result (state_of self.old) self.new text.now }
@@ -70,8 +73,12 @@ impl Draft {
         if let Kind::Schedule = kind {
             if let Stage::Whole(..) = self.stage {
                 // Most lines are events, so these are read without a look for the line's end.
-                if let Some((event, rest)) = front_event(text) {
-                    self.events.push(event)?;
+                if let Some((node, rest)) = front_step(text) {
+                    self.events.push(Event::Step(node))?;
+                    return Ok(rest);
+                }
+                if let Some((name, rest)) = front_release(text, last) {
+                    self.events.push(Event::Release(name))?;
                     return Ok(rest);
                 }
             }
@@ -81,6 +88,8 @@ impl Draft {
         Ok(rest)
     }
 
+    // It stands apart, so that the registers are left to the lines that are read without it.
+    #[inline(never)]
     #[tactic(auto, unfolding(crate::specs::Stages::line_step))]
     fn read_line(&mut self, alloc: Global, kind: Kind, line: &[u8]) -> Result<(), LineFault>
         ensures { GivesState result self.new (spec.line_step kind (state_of self.old) line.now) }

@@ -3,69 +3,68 @@ ghost use Rattle.std.specs.Prelude.{◌≡◌, ◌<◌, ◌≤◌, ◌==◌, not
 ghost use Rattle.std.specs.List.{prefix_len};
 ghost use Rattle.std.specs.Str.Lines.{lines, strip_carriage_return};
 ghost use Rattle.schedule_text.specs.Fronts.{IsFrontEvent};
+ghost use Rattle.step_machine.specs.declared.event.Event.TheVariants.{Release, Step};
 
+use crate::last_round::{LastRound, ROUND_DIGITS};
 use crate::number::number_before;
-use step_machine::{Event, Name};
+use step_machine::Name;
 
 /// How many digits the number of a node has at most in a line that is read here.
 const NODE_DIGITS: usize = 2;
-
-/// How many digits the number of a round has at most there.
-const ROUND_DIGITS: usize = 8;
 
 /// How many bytes the longest such line has: `release `, two nodes and a round, and a byte behind
 /// each. In a text that has so many, no byte of the line has to be tested for being there.
 const LONGEST: usize = 8 + 2 * (NODE_DIGITS + 1) + ROUND_DIGITS + 1;
 
-/// The event of a first line that LF ends, and what follows it; `None` where the line is no plain
-/// step or release of a message's copy 0, has a number of many digits or stands near the text's
-/// end.
+/// The node of a first line that is a step and that LF ends, and what follows the line; `None`
+/// where the line is none, has a number of many digits or stands near the text's end.
 #[inline(always)]
-pub fn front_event(text: &[u8]) -> Option<(Event, &[u8])>
-    ensures { IfSome result (λ r. IsFrontEvent text.now r.0 r.1.now) }
+pub fn front_step(text: &[u8]) -> Option<(u32, &[u8])>
+    ensures { IfSome result (λ r. IsFrontEvent text.now (Step r.0) r.1.now) }
 {
     if text.len() < LONGEST {
         return None;
     }
     // A word's bytes are compared as one number, which costs one load and one test.
-    let (word, rest) = text.split_first_chunk::<8>()?;
-    if u64::from_le_bytes(*word) == u64::from_le_bytes(*b"release ") {
-        return front_release(rest);
-    }
     let (word, rest) = text.split_first_chunk::<4>()?;
     if u32::from_le_bytes(*word) == u32::from_le_bytes(*b"step") && rest[0] == b' ' {
-        return front_step(&rest[1..]);
+        return number_before(&rest[1..], NODE_DIGITS, b'\n');
     }
     None
 }
 
-/// The same by what stands behind `step `, in which the longest node and its end have room.
+/// The same for a plain release, of a message's copy 0, by its name.
 #[inline(always)]
-fn front_step(text: &[u8]) -> Option<(Event, &[u8])>
-    requires { 3 ≤ length text.now }
-    ensures { IfSome result (λ r. IsFrontEvent (codes "step " ++ text.now) r.0 r.1.now) }
+pub fn front_release<'a>(text: &'a [u8], last: &mut LastRound) -> Option<(Name, &'a [u8])>
+    ensures { IfSome result (λ r. IsFrontEvent text.now (Release r.0) r.1.now) }
 {
-    let (node, rest) = number_before(text, NODE_DIGITS, b'\n')?;
-    Some((Event::Step(node), rest))
+    if text.len() < LONGEST {
+        return None;
+    }
+    let (word, rest) = text.split_first_chunk::<8>()?;
+    if u64::from_le_bytes(*word) == u64::from_le_bytes(*b"release ") {
+        return front_name(rest, last);
+    }
+    None
 }
 
 /// The same by what stands behind `release `, in which the longest numbers and their ends have
 /// room.
 #[inline(always)]
-fn front_release(text: &[u8]) -> Option<(Event, &[u8])>
+fn front_name<'a>(text: &'a [u8], last: &mut LastRound) -> Option<(Name, &'a [u8])>
     requires { 15 ≤ length text.now }
-    ensures { IfSome result (λ r. IsFrontEvent (codes "release " ++ text.now) r.0 r.1.now) }
+    ensures { IfSome result (λ r. IsFrontEvent (codes "release " ++ text.now) (Release r.0) r.1.now) }
 {
     let (from, behind_from) = number_before(text, NODE_DIGITS, b' ')?;
     let (to, behind_to) = number_before(behind_from, NODE_DIGITS, b' ')?;
-    let (round, rest) = number_before(behind_to, ROUND_DIGITS, b'\n')?;
+    let (round, rest) = last.read(behind_to)?;
     let name = Name {
         from,
         to,
         round,
         copy: 0,
     };
-    Some((Event::Release(name), rest))
+    Some((name, rest))
 }
 
 /// The first line without its end, and what follows it.

@@ -7,6 +7,7 @@ mod fault;
 mod front;
 mod intake;
 mod kind;
+mod last_round;
 mod laws;
 mod line;
 mod line_reader;

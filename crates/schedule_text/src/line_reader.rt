@@ -7,6 +7,7 @@ ghost use Rattle.schedule_text.specs.Texts.{max_text};
 use crate::draft::Draft;
 use crate::fault::ScheduleFault;
 use crate::kind::Kind;
+use crate::last_round::LastRound;
 use std::alloc::Global;
 
 /// What the lines so far say, and the number of the next one.
@@ -37,8 +38,9 @@ impl LineReader {
     {
         let mut number = self.number;
         let mut rest = text;
+        let mut last = LastRound::new();
         while !rest.is_empty() {
-            match self.draft.read_front(alloc, kind, rest) {
+            match self.draft.read_front(alloc, kind, rest, &mut last) {
                 Ok(behind) => rest = behind,
                 Err(fault) => return Err(fault.at(number)),
             }

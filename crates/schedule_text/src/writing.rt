@@ -1,5 +1,5 @@
 //! Writing a schedule's text.
-ghost use Rattle.std.specs.Prelude.{◌≡◌, ◌+◌, ◌<◌, ◌≤◌, ◌∷◌, ◌++◌, length, All, IfOk, OnOk};
+ghost use Rattle.std.specs.Prelude.{◌≡◌, ◌+◌, ◌<◌, ◌≤◌, ◌∷◌, [], ◌++◌, length, All, IfOk, OnOk};
 ghost use Rattle.std.specs.Fmt.{decimal};
 ghost use Rattle.std.specs.List.{flat_map};
 ghost use Rattle.std.specs.Str.{IsUtf8};
@@ -14,7 +14,7 @@ ghost use Rattle.short_text.specs.Short.{room};
 
 use round_lang::NoMemory;
 use round_meaning::Setup;
-use short_text::{ROOM, ShortText, push_number};
+use short_text::{ROOM, ShortText, push_number_and};
 use simdutf8::basic::from_utf8;
 use slot_plans::PlanKind;
 use std::alloc::Global;
@@ -172,28 +172,16 @@ fn write_plan(text: &mut String, plan: PlanKind) -> Result<(), NoMemory>
 }
 
 /// Appends an event's line.
-#[inline]
+#[inline(always)]
 fn push_event(event: Event, lines: &mut ShortText)
     requires { length lines.old + line ≤ room }
     ensures spelled { lines.new ≡ lines.old ++ line_text (event_line event) }
     ensures small { IsSmallEvent event }
 {
-    push_words(event, lines);
-    lines.push(b'\n');
-}
-
-/// Appends an event's line without its end.
-#[inline]
-fn push_words(event: Event, lines: &mut ShortText)
-    requires { length lines.old + line ≤ room }
-    ensures spelled { lines.new ≡ lines.old ++ event_line event }
-    ensures small { IsSmallEvent event }
-    ensures short { length lines.new < length lines.old + line }
-{
     match event {
         Event::Step(node) => {
-            lines.push_all(b"step ");
-            push_number(u64::from(node), lines);
+            lines.push_array(b"step ");
+            push_number_and(u64::from(node), b'\n', lines);
         }
         Event::Release(name) => push_name(b"release ", name, lines),
         Event::Drop(name) => push_name(b"drop ", name, lines),
@@ -201,48 +189,47 @@ fn push_words(event: Event, lines: &mut ShortText)
     }
 }
 
-/// Appends this beginning and a message's name, of which a copy 0 is left out.
-#[inline]
-fn push_name(start: &[u8], name: Name, lines: &mut ShortText)
-    requires start { length start.now ≤ 8 }
-    requires room { length lines.old + line ≤ room }
-    ensures spelled { lines.new ≡ lines.old ++ (name_line start.now name ++ copy_ending name.copy) }
-    ensures small { IsSmallName name }
-    ensures short { length lines.new < length lines.old + line }
-{
-    if name.copy != 0 {
-        return push_whole_name(start, name, lines);
-    }
-    push_message(start, name, lines);
-}
-
-/// Appends this beginning and a message's name.
-fn push_whole_name(start: &[u8], name: Name, lines: &mut ShortText)
+/// Appends the line of this beginning and a message's name, of which a copy 0 is left out.
+#[inline(always)]
+fn push_name<const N: usize>(start: &[u8; N], name: Name, lines: &mut ShortText)
     requires start { length start.now ≤ 8 }
     requires room { length lines.old + line ≤ room }
     ensures spelled { lines.new
-        ≡ lines.old ++ (name_line start.now name ++ 32 ∷ decimal name.copy) }
+        ≡ lines.old ++ line_text (name_line start.now name ++ copy_ending name.copy) }
     ensures small { IsSmallName name }
-    ensures short { length lines.new < length lines.old + line }
 {
-    push_message(start, name, lines);
-    lines.push(b' ');
-    push_number(u64::from(name.copy), lines);
+    if name.copy == 0 {
+        push_message(start, name, b'\n', lines);
+    } else {
+        push_whole_name(start, name, lines);
+    }
 }
 
-/// Appends this beginning, and a message's sender, receiver and round, which are at most 40 bytes.
-#[inline]
-fn push_message(start: &[u8], name: Name, lines: &mut ShortText)
+/// Appends the line of this beginning and a message's name.
+#[inline(never)]
+fn push_whole_name<const N: usize>(start: &[u8; N], name: Name, lines: &mut ShortText)
     requires start { length start.now ≤ 8 }
     requires room { length lines.old + line ≤ room }
-    ensures spelled { lines.new ≡ lines.old ++ name_line start.now name }
+    ensures spelled { lines.new
+        ≡ lines.old ++ line_text (name_line start.now name ++ 32 ∷ decimal name.copy) }
     ensures small { IsSmallName name }
-    ensures short { length lines.new ≤ length lines.old + 40 }
 {
-    lines.push_all(start);
-    push_number(u64::from(name.from), lines);
-    lines.push(b' ');
-    push_number(u64::from(name.to), lines);
-    lines.push(b' ');
-    push_number(u64::from(name.round), lines);
+    push_message(start, name, b' ', lines);
+    push_number_and(u64::from(name.copy), b'\n', lines);
+}
+
+/// Appends this beginning, and a message's sender, receiver and round, which are at most 40 bytes,
+/// and a byte behind them.
+#[inline(always)]
+fn push_message<const N: usize>(start: &[u8; N], name: Name, end: u8, lines: &mut ShortText)
+    requires start { length start.now ≤ 8 }
+    requires room { length lines.old + line ≤ room }
+    ensures spelled { lines.new ≡ lines.old ++ (name_line start.now name ++ end ∷ []) }
+    ensures small { IsSmallName name }
+    ensures short { length lines.new ≤ length lines.old + 41 }
+{
+    lines.push_array(start);
+    push_number_and(u64::from(name.from), b' ', lines);
+    push_number_and(u64::from(name.to), b' ', lines);
+    push_number_and(u64::from(name.round), end, lines);
 }

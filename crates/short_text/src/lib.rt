@@ -5,5 +5,5 @@
 mod number;
 mod text;
 
-pub use number::{push_digits, push_number};
+pub use number::{push_digits, push_number, push_number_and};
 pub use text::{ROOM, ShortText};

@@ -1,16 +1,13 @@
-use Rattle.std.proofs.Common.{◌∙◌, ◌+◌, ◌%◌, ◌++◌, ◌∷◌, [], ap}
+use Rattle.std.proofs.Common.{◌≡◌, ◌%◌, ◌+◌, ◌++◌, ◌∷◌, [], ap, ◌∙◌, arith}
 use Rattle.short_text.proofs.Decimals.{one_digit, two_digits}
 use Rattle.short_text.proofs.number.push_digits.Goals as goal
-use Rattle.short_text.proofs.number.push_digits.Goals.{then-number-ge10, else-number-ge10}
 
-pub returns-clause-text : goal.returns-clause-text
-returns-clause-text c =
+pub returns-then-number-lt10-clause-text : goal.returns-then-number-lt10-clause-text
+returns-then-number-lt10-clause-text c =
     let n = c.args.number in
-    let before = c.args.text.now in
-    elim c.if-number-ge10.branch [
-      | then-number-ge10 w ↦
-          c.push-2.ensures.text ∙ ap (λ v. v ++ (48 + n % 10) ∷ []) w.text-is
-          ∙ ap (λ t. t ++ (48 + n % 10) ∷ []) w.push.ensures.text ∙ two_digits before n w.if-number-ge10.true c.requires.small
-      | else-number-ge10 w ↦
-          c.push-2.ensures.text ∙ ap (λ v. v ++ (48 + n % 10) ∷ []) w.text-is ∙ one_digit before n w.if-number-ge10.false
-    ]
+    let same : n % 10 ≡ n = omega (arith, c.if-number-lt10.true) in
+    c.push.ensures.text ∙ ap (λ d. c.args.text.now ++ (48 + d) ∷ []) same ∙ one_digit c.args.text.now n (omega (arith, c.if-number-lt10.true))
+
+pub returns-else-number-lt10-clause-text : goal.returns-else-number-lt10-clause-text
+returns-else-number-lt10-clause-text c =
+    c.push_two.ensures.text ∙ two_digits c.args.text.now c.args.number (omega (arith, c.if-number-lt10.false)) c.requires.small

@@ -1,0 +1,7 @@
+use Rattle.std.proofs.Common.{◌∙◌, arith}
+use Rattle.short_text.proofs.Decimals.{one_digit}
+use Rattle.short_text.proofs.number.push_number.Goals as goal
+
+pub returns-then-number-lt10-clause-text : goal.returns-then-number-lt10-clause-text
+returns-then-number-lt10-clause-text c =
+    c.push.ensures.text ∙ one_digit c.args.text.now c.args.number (omega (arith, c.if-number-lt10.true))
