@@ -64,10 +64,11 @@ pub fn push_digits(number: u32, text: &mut ShortText)
     ensures text { text.new ≡ text.old ++ decimal number }
     ensures short { length text.new ≤ length text.old + 2 }
 {
-    let ones = b'0' + (number % 10) as u8;
     if number < 10 {
-        text.push(ones);
+        let ones = number as u8;
+        text.push(b'0' + ones);
     } else {
-        text.push_two(b'0' + (number / 10) as u8, ones);
+        let (tens, ones) = ((number / 10) as u8, (number % 10) as u8);
+        text.push_two(b'0' + tens, b'0' + ones);
     }
 }
