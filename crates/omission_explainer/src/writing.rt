@@ -102,11 +102,11 @@ fn push_count(node: u64, count: (u64, u64), text: &mut ShortText)
     ensures { text.new ≡ text.old ++ count_text node count }
 {
     let (steps, rounds) = count;
-    text.push_all(b"node ");
+    text.push_array(b"node ");
     push_number(node, text);
-    text.push_all(b" steps ");
+    text.push_array(b" steps ");
     push_number(steps, text);
-    text.push_all(b" rounds ");
+    text.push_array(b" rounds ");
     push_number(rounds, text);
     text.push(b'\n');
 }
@@ -139,9 +139,9 @@ fn push_head(round: u32, node: u32, text: &mut ShortText)
     ensures { text.new
         ≡ text.old ++ (codes "round " ++ decimal round ++ codes " node " ++ decimal node) }
 {
-    text.push_all(b"round ");
+    text.push_array(b"round ");
     push_number(u64::from(round), text);
-    text.push_all(b" node ");
+    text.push_array(b" node ");
     push_number(u64::from(node), text);
 }
 
@@ -152,7 +152,7 @@ fn push_decision(decision: Option<u32>, text: &mut ShortText)
     ensures { text.new
         ≡ text.old ++ (codes " decision " ++ decision_text decision ++ codes "\n") }
 {
-    text.push_all(b" decision ");
+    text.push_array(b" decision ");
     match decision {
         Some(value) => push_number(u64::from(value), text),
         None => text.push(b'-'),
@@ -161,8 +161,8 @@ fn push_decision(decision: Option<u32>, text: &mut ShortText)
 }
 
 /// A set of nodes after its label: in rising order with commas, or `-`.
-fn write_nodes<W: Write>(
-    label: &[u8],
+fn write_nodes<const N: usize, W: Write>(
+    label: &[u8; N],
     nodes: NodeSet,
     spelt: &mut SpeltSet,
     text: &mut ShortText,
@@ -173,7 +173,7 @@ fn write_nodes<W: Write>(
         (label.now ++ nodes_text nodes.bits)) }
 {
     make_room(text, out)?;
-    text.push_all(label);
+    text.push_array(label);
     push_nodes(nodes, spelt, text);
     Ok(())
 }
@@ -203,7 +203,7 @@ fn write_state<W: Write>(
         (state_text report.now state.now)) }
 {
     make_room(text, out)?;
-    text.push_all(b" state");
+    text.push_array(b" state");
     let mut left = state.reader();
     for place in 0..report.names.as_slice().len() {
         write_variable(report, place, &mut left, spelt, text, out)?;
