@@ -59,7 +59,7 @@ impl Draft {
     }
 
     /// Takes in the first line of a text of this kind and answers what follows it; a draft that has
-    /// refused one is of no use.
+    /// refused one is of no use. The last round is that of the lines before.
     pub fn read_front<'a>(
         &mut self,
         alloc: Global,
@@ -72,7 +72,8 @@ impl Draft {
     {
         if let Kind::Schedule = kind {
             if let Stage::Whole(..) = self.stage {
-                // Most lines are events, so these are read without a look for the line's end.
+                // Most lines are events, so these are read without a look for the line's end. Each
+                // kind is stored at a place of its own, where its bytes need no further test.
                 if let Some((node, rest)) = front_step(text) {
                     self.events.push(Event::Step(node))?;
                     return Ok(rest);

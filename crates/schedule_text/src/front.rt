@@ -53,7 +53,8 @@ pub fn front_release<'a>(text: &'a [u8], last: &mut LastRound) -> Option<(Name, 
 #[inline(always)]
 fn front_name<'a>(text: &'a [u8], last: &mut LastRound) -> Option<(Name, &'a [u8])>
     requires { 15 ≤ length text.now }
-    ensures { IfSome result (λ r. IsFrontEvent (codes "release " ++ text.now) (Release r.0) r.1.now) }
+    ensures { IfSome result
+        (λ r. IsFrontEvent (codes "release " ++ text.now) (Release r.0) r.1.now) }
 {
     let (from, behind_from) = number_before(text, NODE_DIGITS, b' ')?;
     let (to, behind_to) = number_before(behind_from, NODE_DIGITS, b' ')?;

@@ -16,7 +16,8 @@ const KEPT: usize = 7;
 /// the same round, so its digits aren't read again.
 #[derive(Drop)]
 pub struct LastRound {
-    // The bytes as one number, in which those under the mask count. None is 1 under 0.
+    // The bytes as one number, in which those under the mask count. Before the first round this is
+    // 1 under the mask 0, as no bytes are.
     word: u64,
     mask: u64,
     round: u32,
