@@ -52,14 +52,6 @@ impl<'a> Finished<'a> {
         node.held[0].frames()
     }
 
-    /// The state after the round, as a copy to be shared.
-    pub fn new_state(&self) -> Result<Arc<Vars>, NoMemory>
-        ensures { IfOk result (λ s. Some (arc_value s) ≡ self.now.node.now.next) }
-    {
-        let node = self.node;
-        Ok(Arc::new(node.alloc, node.next.copy(node.alloc)?)?)
-    }
-
     /// The state after the round in few bytes, to be shared. Its kinds are shared with the program.
     pub fn stored_state(&self) -> Result<Arc<StoredState>, NoMemory>
         ensures { IfOk result (λ s. Some (arc_value s) ≡ self.now.node.now.next) }
