@@ -67,6 +67,7 @@ impl<P: Plan> Run<P> {
     }
 
     /// Whether a book is of the run.
+    #[inline(always)]
     pub(crate) fn has_book(&self, book: &Book<P>) -> bool
         ensures { IsTrue result ↔ IsBookOfRun self.now book.now }
     {
@@ -76,6 +77,7 @@ impl<P: Plan> Run<P> {
     }
 
     /// Whether a buffer is of the run.
+    #[inline(always)]
     pub(crate) fn has_buffer(&self, buffer: &Buffer) -> bool
         ensures { IsTrue result ↔ IsOfRun self.now.program self.now.setup buffer.now }
     {
