@@ -1,8 +1,8 @@
 -- What a buffer holds after a call, and when what stands under the locks lets the call go through.
-use Rattle.std.specs.Prelude.{◌≡◌, ℕ, ◌<◌, ◌≤◌, ◌++◌, Bool, true, false, All, [], ◌∷◌, None}
+use Rattle.std.specs.Prelude.{◌≡◌, ℕ, ⊤, ◌++◌, Bool, true, false, All, List, [], ◌∷◌, None}
 use Rattle.std.specs.Prelude.{IsSome, Option, option_map, option_to_list}
 use Rattle.step_machine.specs.declared.event.Event.{Event}
-use Rattle.step_machine.specs.Sealed.{Frame, Ready, copied_as, max_copy, original}
+use Rattle.step_machine.specs.Sealed.{Frame, Ready, copied_as, original}
 use Rattle.step_machine.specs.Nodes.{NodeView}
 use Rattle.step_machine.specs.declared.event.Name.{Name}
 use Rattle.step_book.specs.declared.mark.Mark.{Mark}
@@ -10,6 +10,7 @@ use Rattle.step_book.specs.declared.mark.Mark.TheVariants.{Flying}
 use Rattle.step_book.specs.Causes.{IsDueIn, EndsAsRecorded, IsReceiveFit, IsSendFit}
 use Rattle.step_book.specs.Log.{Recorded, mark_in, waiting_in}
 use Rattle.step_book.specs.Buffers.{IsSameRun, BufferView, flying_at, names_in}
+use Rattle.step_book.specs.Names.{IsName}
 use Rattle.step_book.specs.Tables.{Puts, SameTables}
 use Rattle.step_journal.specs.Fits.{IsOfRun, place_among}
 use Rattle.step_book.specs.declared.fault.CloseFault.{CloseFault}
@@ -81,11 +82,6 @@ pub record Agrees {P : Type 0} (start : P → ℕ → ℕ) (r : Run P) (s : Buff
 abbrev pub TakesSend : {P : Type 0} → (P → ℕ → ℕ) → Run P → BufferView → Recorded P → Ready → Type 0
 TakesSend start r s b p = Agrees start r s b p.name × IsSendFit (start b.plan) b.log p
 
--- the name is that of a copy of a message from one of so many nodes
-pub record IsFromNode (nodes : ℕ) (n : Name) : Type 0 where
-  pub from : n.from < nodes
-  pub copy : n.copy ≤ max_copy
-
 -- both are of the run, the frames that wait have the names that the book has for the node, and it
 -- takes the receive
 pub record TakesReceive {P : Type 0} (start : P → ℕ → ℕ) (r : Run P) (s : BufferView)
@@ -108,10 +104,17 @@ abbrev pub AgreesTwice : {P : Type 0} → (P → ℕ → ℕ) → Run P → Buff
     → Type 0
 AgreesTwice start r s b n = Agrees start r s b n × Agrees start r s b (original n)
 
--- the buffer is of the run, and what waits in it is from nodes of the run
+-- the buffer is of the run, and what waits in it has names of messages of the run
 pub record IsReadable {P : Type 0} (r : Run P) (s : BufferView) : Type 0 where
   pub buffer : IsOfRun r.program r.setup s
-  pub senders : All (IsFromNode r.setup.nodes) (names_in s.waiting)
+  pub known : All (IsName r.setup) (names_in s.waiting)
+
+-- why the names of frames aren't noted: not all are of messages of the run, or there is no memory
+abbrev pub IsUnnamed : {P : Type 0} → Run P → List Frame → PostFault → Type 0
+IsUnnamed r frames post.NotClosed = ⊥
+IsUnnamed r frames post.NotItsSlot = ⊥
+IsUnnamed r frames post.Stranger = ¬ All (IsName r.setup) (names_in frames)
+IsUnnamed r frames post.NoMemory = ⊤
 
 -- why a buffer isn't read for a receive
 abbrev pub IsUnread : {P : Type 0} → Run P → BufferView → PostFault → Type 0

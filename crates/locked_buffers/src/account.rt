@@ -15,7 +15,7 @@ use slot_plans::Plan;
 use std::sync::Arc;
 use step_book::{Book, Buffer, Mailbox, StoredEvent, StoredName};
 use step_journal::Journal;
-use step_machine::{Event, Name, StoredState};
+use step_machine::{Event, StoredState};
 
 /// The journal of a book and its buffers, where the book is of the run, the buffers are of it too
 /// and hold the frames that the book names, and the seats and the relay were told what it has
@@ -69,15 +69,15 @@ fn is_account<P: Plan>(book: &Book<P>, node: u32, seat: &Seat) -> bool
         && are_states(book.states(node), &seat.states)
 }
 
-/// Whether these are the names that the receives of a node handed out, receive by receive.
-fn are_handed(mail: &Mailbox, handed: &[Vec<Name>]) -> bool
-    ensures { IsTrue result ↔ (map (λ names. names.items) handed.now ≡ mail.now.handed) }
+/// Whether the receives of a node handed out the names that it was told, receive by receive.
+fn are_handed(mail: &Mailbox, told: &Mailbox) -> bool
+    ensures { IsTrue result ↔ (told.now.handed ≡ mail.now.handed) }
 {
-    if handed.len() != mail.receives() {
+    if told.receives() != mail.receives() {
         return false;
     }
-    for (receive, names) in handed.iter().enumerate() {
-        if !are_same_names(names, mail.handed(receive)) {
+    for receive in 0..told.receives() {
+        if !are_same_names(told.handed(receive), mail.handed(receive)) {
             return false;
         }
     }
@@ -107,14 +107,14 @@ fn is_told<P: Plan>(book: &Book<P>, relay: &Relay) -> bool
 }
 
 /// Whether these are the network's events of a trace.
-fn are_events(trace: &[StoredEvent], events: &[Event]) -> bool
+fn are_events(trace: &[StoredEvent], events: &[StoredEvent]) -> bool
     ensures { IsTrue result ↔ (events.now ≡ network_events trace.now) }
 {
     let mut told = 0;
     for stored in trace {
         let event = stored.event();
         if is_of_network(event) {
-            if told >= events.len() || events[told] != event {
+            if told >= events.len() || events[told].event() != event {
                 return false;
             }
             told += 1;
@@ -134,7 +134,7 @@ fn is_of_network(event: Event) -> bool
 }
 
 /// Whether both are the same names, in the same order.
-pub(crate) fn are_same_names(left: &[Name], right: &[StoredName]) -> bool
+pub(crate) fn are_same_names(left: &[StoredName], right: &[StoredName]) -> bool
     ensures { IsTrue result ↔ (left.now ≡ right.now) }
 {
     if left.len() != right.len() {
@@ -149,10 +149,10 @@ pub(crate) fn are_same_names(left: &[Name], right: &[StoredName]) -> bool
 }
 
 /// Whether both are the same name.
-fn is_same_name(left: &Name, right: &StoredName) -> bool
+fn is_same_name(left: &StoredName, right: &StoredName) -> bool
     ensures { IsTrue result ↔ (left.now ≡ right.now) }
 {
-    *left == right.name()
+    left.name() == right.name()
 }
 
 /// Whether both are the same answers, in the same order.

@@ -1,9 +1,10 @@
 //! What is recorded under the locks. Each call records the whole of it or nothing: all room is made
-//! before the book is called, and from then on nothing can fail. The buffer was made ready before
-//! the book's lock was taken.
+//! before the book is called, and from then on nothing can fail. The names that a receive hands out
+//! are noted before, and taken back where the book refuses. The buffer was made ready before the
+//! book's lock was taken.
 ghost use Rattle.std.specs.Arc.{arc_value};
-ghost use Rattle.std.specs.Prelude.{◌≡◌, ◌+◌, ◌^◌, ◌<◌, ◌∷◌, ◌++◌, [], All, IfErr, IfOk, OnErr};
-ghost use Rattle.std.specs.Prelude.{OnOk, Some};
+ghost use Rattle.std.specs.Prelude.{◌≡◌, ◌≢◌, ◌↔◌, ◌+◌, ◌^◌, ◌<◌, ◌∷◌, ◌++◌, [], All, IfErr};
+ghost use Rattle.std.specs.Prelude.{IfOk, OnErr, OnOk, Some};
 ghost use Rattle.step_book.specs.Log.{closed, end_state, happened};
 ghost use Rattle.step_book.specs.Names.{IsName};
 ghost use Rattle.step_book.specs.Buffers.{IsMail, flying_at, names_in};
@@ -11,7 +12,7 @@ ghost use Rattle.step_book.specs.Tables.{HasPlace};
 ghost use Rattle.step_journal.specs.Fits.{IsOfRun, place_among};
 ghost use Rattle.step_machine.specs.Sealed.{IsPrepared, frame_of};
 ghost use Rattle.step_machine.specs.declared.event.Event.TheVariants as event;
-ghost use Rattle.locked_buffers.specs.Commits.{CloseFails, HasFrame, IsFromNode, PutsFrame};
+ghost use Rattle.locked_buffers.specs.Commits.{CloseFails, HasFrame, PutsFrame};
 ghost use Rattle.locked_buffers.specs.Commits.{ReceiveFails};
 ghost use Rattle.locked_buffers.specs.Commits.{SendFails, TakesAll, TakesClose, TakesReceive};
 ghost use Rattle.locked_buffers.specs.Commits.{TakesSend};
@@ -24,9 +25,9 @@ use crate::run::Run;
 use crate::seat::Seat;
 use slot_plans::Plan;
 use std::sync::Arc;
-use step_book::{Book, Buffer, CloseFault, ReceiveFault, Refused, SendFault, room};
+use step_book::{Book, Buffer, CloseFault, Mailbox, ReceiveFault, Refused, SendFault, room};
 use step_journal::Took;
-use step_machine::{Finished, Name, Prepared, StoredState};
+use step_machine::{Finished, Prepared, StoredState};
 
 /// A send that the seat allows.
 pub(crate) fn commit_send<P: Plan>(
@@ -89,53 +90,61 @@ pub(crate) fn commit_send<P: Plan>(
     Ok(())
 }
 
-/// A receive that the seat allows: the frames that wait, whose names the seat notes.
+/// A receive that the seat allows: the frames that wait, whose names wait in the seat's mail, which
+/// hands them out.
 pub(crate) fn commit_receive<P: Plan>(
     run: &Run<P>,
-    seat: &mut Seat,
+    node: u32,
+    mail: &mut Mailbox,
     buffer: &mut Buffer,
     book: &mut Book<P>,
-    names: Vec<Name>,
 ) -> Result<Took, PostFault>
-    requires node { seat.old.node < run.now.setup.nodes }
-    requires small { seat.old.steps < 2 ^ 33 }
+    requires node { node < run.now.setup.nodes }
     requires of_run { IsOfRun run.now.program run.now.setup buffer.old }
-    requires names { names.items ≡ names_in buffer.old.waiting }
-    requires senders { All (IsFromNode run.now.setup.nodes) names.items }
+    requires names { mail.old.waiting ≡ names_in buffer.old.waiting }
+    requires known { All (IsName run.now.setup) mail.old.waiting }
     ensures recorded { OnOk result (book.new ≡ record book.old {
       log = happened book.old.log
-          (event.Step seat.old.node);
+          (event.Step node);
     }) }
     ensures kept { OnErr result (book.new ≡ book.old) }
-    ensures seat { IfOk result (λ took. seat.new ≡ record seat.old {
-      steps = seat.old.steps + 1;
-      handed = seat.old.handed ++ names_in took.frames.items ∷ [];
-    }) }
-    ensures unseated { OnErr result (seat.new ≡ seat.old) }
+    ensures noted { IfOk result (λ took. mail.new.handed
+        ≡ mail.old.handed ++ names_in took.frames.items ∷ []) }
+    ensures unnoted { OnErr result (mail.new.handed ≡ mail.old.handed) }
     ensures frames { IfOk result (λ took. took.frames.items ≡ buffer.old.waiting) }
     ensures left { OnOk result (TakesAll buffer.old buffer.new) }
     ensures unchanged { OnErr result (buffer.new ≡ buffer.old) }
-    ensures taken { OnOk result (TakesReceive P.start run.now buffer.old book.old seat.old.node) }
-    ensures cause { IfErr result (ReceiveFails P.start run.now buffer.old book.old seat.old.node) }
+    ensures taken { OnOk result (TakesReceive P.start run.now buffer.old book.old node) }
+    ensures cause { IfErr result (ReceiveFails P.start run.now buffer.old book.old node) }
     ensures mail { IfOk result (λ took. All (IsMail (algorithm_by run.now) run.now.setup.nodes
-        seat.old.node) took.frames.items) }
+        node) took.frames.items) }
 {
-    let node = seat.node;
-    if !run.has_book(book) || !are_same_names(&names, book.waiting(node)) {
+    if !run.has_book(book) || !are_same_names(mail.waiting(), book.waiting(node)) {
         return Err(PostFault::Stranger);
     }
     book.agrees();
     buffer.honest();
-    room(&mut seat.handed)?;
+    mail.hand_out()?;
     match book.receive(node) {
         Ok(()) => {}
-        Err(ReceiveFault::NoMemory) => return Err(PostFault::NoMemory),
-        Err(_) => return Err(PostFault::Stranger),
+        Err(fault) => {
+            mail.take_back();
+            return Err(fault_of_receive(fault));
+        }
     }
-    seat.steps += 1;
-    seat.handed.push_reserved(names);
     let frames = buffer.take();
     Ok(Took { frames })
+}
+
+/// The fault of a receive that the book refuses, though the seat allows it.
+fn fault_of_receive(fault: ReceiveFault) -> PostFault
+    ensures memory { (result ≡ PostFault.NoMemory) ↔ (fault ≡ ReceiveFault.NoMemory) }
+    ensures other { fault ≢ ReceiveFault.NoMemory → result ≡ PostFault.Stranger }
+{
+    match fault {
+        ReceiveFault::NoMemory => PostFault::NoMemory,
+        _ => PostFault::Stranger,
+    }
 }
 
 /// The end of a round that the seat allows, with the state that it ended with, which the seat and

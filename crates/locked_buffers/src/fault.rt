@@ -9,8 +9,8 @@ use std::fmt;
 use step_book::SendFault;
 use thiserror::Error;
 
-/// Why a receive is refused. `Stranger`: what stands under the locks is of another run, or refuses
-/// for another cause than memory.
+/// Why a receive is refused. `Stranger`: what stands under the locks is of another run, the buffer
+/// holds other frames than the book says, or the book refuses for another cause than memory.
 #[derive(Clone, Copy, PartialEq, Eq, Debug, Error)]
 pub enum PostFault {
     #[error("the node's next step isn't a receive")]

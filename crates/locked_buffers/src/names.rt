@@ -1,19 +1,33 @@
 //! The names of frames.
-ghost use Rattle.std.specs.Prelude.{◌≡◌, IfOk};
+ghost use Rattle.std.specs.Prelude.{◌≡◌, [], All, IfErr, OnOk};
 ghost use Rattle.step_book.specs.Buffers.{names_in};
+ghost use Rattle.step_book.specs.Names.{IsName};
+ghost use Rattle.locked_buffers.specs.Commits.{IsUnnamed};
 
-use round_lang::NoMemory;
-use std::alloc::Global;
-use step_book::Waiting;
-use step_machine::Name;
+use crate::fault::PostFault;
+use crate::run::Run;
+use slot_plans::Plan;
+use step_book::{Mailbox, Waiting, is_name};
 
-/// The names of frames, to be kept.
-pub(crate) fn names_of(alloc: Global, frames: &Waiting) -> Result<Vec<Name>, NoMemory>
-    ensures { IfOk result (λ names. names.items ≡ names_in frames.now.items) }
+/// Has the names of frames wait in a mail where none waits, if all are of messages of the run.
+pub(crate) fn add_names_of<P: Plan>(
+    run: &Run<P>,
+    frames: &Waiting,
+    mail: &mut Mailbox,
+) -> Result<(), PostFault>
+    requires { mail.old.waiting ≡ [] }
+    ensures names { OnOk result (mail.new.waiting ≡ names_in frames.now.items) }
+    ensures known { OnOk result (All (IsName run.now.setup) mail.new.waiting) }
+    ensures handed { mail.new.handed ≡ mail.old.handed }
+    ensures cause { IfErr result (IsUnnamed run.now frames.now.items) }
 {
-    let mut names = Vec::new(alloc);
-    while let Some(frame) = frames.at(names.len()) {
-        names.push(frame.name())?;
+    run.sound();
+    while let Some(frame) = frames.at(mail.waiting().len()) {
+        let name = frame.name();
+        if !is_name(&run.setup, name) {
+            return Err(PostFault::Stranger);
+        }
+        mail.push(name)?;
     }
-    Ok(names)
+    Ok(())
 }

@@ -16,7 +16,7 @@ use crate::ready::has_frame;
 use crate::run::Run;
 use crate::seat::Relay;
 use slot_plans::Plan;
-use step_book::{Book, Buffer, room};
+use step_book::{Book, Buffer, StoredEvent, room};
 use step_machine::{Event, Name, Sealed};
 
 /// Whether the book is of the run, as the buffer is, and says that this copy is in flight just
@@ -72,13 +72,16 @@ pub(crate) fn commit_release<P: Plan>(
     if !agree(run, buffer, book, name, has_frame) {
         return Err(RelayFault::Stranger);
     }
+    run.sound();
     room(&mut relay.events)?;
     room(&mut relay.answers)?;
     let moved = book.release(name)?;
     if moved {
         buffer.let_go(name.round, run.place(name));
     }
-    relay.events.push_reserved(Event::Release(name));
+    relay
+        .events
+        .push_reserved(StoredEvent::new(Event::Release(name)));
     relay.answers.push_reserved(moved);
     Ok(moved)
 }
@@ -114,6 +117,7 @@ pub(crate) fn commit_drop<P: Plan>(
     if !agree(run, buffer, book, name, has_frame) {
         return Err(RelayFault::Stranger);
     }
+    run.sound();
     room(&mut relay.events)?;
     room(&mut relay.answers)?;
     let place = run.place(name);
@@ -121,7 +125,9 @@ pub(crate) fn commit_drop<P: Plan>(
     if lost {
         buffer.remove(name.round, place);
     }
-    relay.events.push_reserved(Event::Drop(name));
+    relay
+        .events
+        .push_reserved(StoredEvent::new(Event::Drop(name)));
     relay.answers.push_reserved(lost);
     Ok(lost)
 }
@@ -166,6 +172,7 @@ pub(crate) fn commit_copy<P: Plan>(
     {
         return Err(RelayFault::Stranger);
     }
+    run.sound();
     room(&mut relay.events)?;
     room(&mut relay.answers)?;
     buffer.honest();
@@ -175,7 +182,9 @@ pub(crate) fn commit_copy<P: Plan>(
             buffer.put(name.round, run.place(name), frame);
         }
     }
-    relay.events.push_reserved(Event::Copy(name));
+    relay
+        .events
+        .push_reserved(StoredEvent::new(Event::Copy(name)));
     relay.answers.push_reserved(made);
     Ok(made)
 }

@@ -21,7 +21,7 @@ use crate::fault::{PostFault, RelayFault, Unmatched};
 use crate::gate::{Gate, Point};
 use crate::locking::take;
 use crate::network::{commit_copy, commit_drop, commit_release};
-use crate::ready::{copy_of, has_frame, make_place, make_room, names_in};
+use crate::ready::{copy_of, has_frame, make_place, make_room, note_names};
 use crate::refusals::{may_close, refuses_receive, refuses_send};
 use crate::run::Run;
 use crate::seat::{Relay, Seat};
@@ -187,9 +187,11 @@ impl<P: Plan> Post<P> {
         }
         let node = seat.node();
         let mut buffer = take(rt, &self.buffers[node as usize]);
-        let names = names_in(self.alloc, &self.run, &buffer)?;
+        note_names(&self.run, &buffer, &mut seat.handed)?;
         let mut book = take(rt, &self.book);
-        commit_receive(&self.run, seat, &mut buffer, &mut book, names)
+        let took = commit_receive(&self.run, node, &mut seat.handed, &mut buffer, &mut book)?;
+        seat.steps += 1;
+        Ok(took)
     }
 
     /// Closes the node's due round, which it finished.
@@ -325,9 +327,9 @@ impl<P: Plan> Post<P> {
     }
 
     /// The journal of the run, where the seats and the relay were told what is recorded of it, and
-    /// the buffers hold the frames that are in flight or wait. Takes no memory. What stands under
-    /// the locks is of this run by how the calls above write it, which the comparison here finds
-    /// again: no contract can say so of a lock.
+    /// the buffers hold the frames that are in flight or wait. Takes no memory. The calls above
+    /// write only what is of this run, but no contract can say that of what stands under a lock; so
+    /// it's compared again here.
     pub fn into_journal(self, seats: Vec<Seat>, relay: Relay) -> Result<Journal<P>, Unmatched>
         ensures run { IfOk result (IsBookOfRun self) }
         ensures agree { IfOk result (λ journal. AccountsAgree (P.start journal.plan) journal

@@ -1,22 +1,22 @@
 //! What a call does while it holds a buffer's lock and doesn't yet hold the book's, which all
-//! threads want: whether the buffer is of the run, and room and copies of frames.
-ghost use Rattle.std.specs.Prelude.{◌≡◌, ◌<◌, ◌↔◌, All, IfErr, IfOk, IsTrue, OnOk, option_map};
+//! threads want: whether the buffer is of the run, room and copies of frames, and the names of
+//! those that wait.
+ghost use Rattle.std.specs.Prelude.{◌≡◌, ◌<◌, All, IfErr, IfOk, OnOk, option_map};
 ghost use Rattle.step_book.specs.Buffers.{flying_at, names_in};
 ghost use Rattle.step_book.specs.Names.{IsName};
 ghost use Rattle.step_book.specs.Tables.{HasPlace};
 ghost use Rattle.step_journal.specs.Fits.{IsOfRun, place_among};
 ghost use Rattle.step_machine.specs.Sealed.{copied_as, original};
-ghost use Rattle.locked_buffers.specs.Commits.{HasFrame, IsFromNode, IsUnread};
-ghost use Rattle.locked_buffers.specs.Commits.{IsUnready, SameBuffer};
+ghost use Rattle.locked_buffers.specs.Commits.{HasFrame, IsUnread, IsUnready, SameBuffer};
 
 use crate::fault::{PostFault, RelayFault};
-use crate::names::names_of;
+use crate::names::add_names_of;
 use crate::run::Run;
 use round_lang::NoMemory;
 use slot_plans::Plan;
 use std::alloc::Global;
-use step_book::Buffer;
-use step_machine::{MAX_COPY, Name, Sealed};
+use step_book::{Buffer, Mailbox};
+use step_machine::{Name, Sealed};
 
 /// Makes room in a buffer of the run for the frame of a message in flight, and says whether there
 /// is one at its place already.
@@ -76,35 +76,24 @@ pub(crate) fn has_frame<P: Plan>(run: &Run<P>, buffer: &Buffer, name: Name) -> b
     buffer.flying(name.round, run.place(name)).is_some()
 }
 
-/// The names of the frames that wait in a buffer of the run, which are from nodes of the run.
-pub(crate) fn names_in<P: Plan>(
-    alloc: Global,
+/// Has the names of the frames that wait in a buffer of the run, which are of messages of the run,
+/// wait in a mail.
+pub(crate) fn note_names<P: Plan>(
     run: &Run<P>,
     buffer: &Buffer,
-) -> Result<Vec<Name>, PostFault>
+    mail: &mut Mailbox,
+) -> Result<(), PostFault>
     ensures of_run { OnOk result (IsOfRun run.now.program run.now.setup buffer.now) }
-    ensures names { IfOk result (λ names. names.items ≡ names_in buffer.now.waiting) }
-    ensures senders { IfOk result (λ names. All (IsFromNode run.now.setup.nodes) names.items) }
+    ensures names { OnOk result (mail.new.waiting ≡ names_in buffer.now.waiting) }
+    ensures known { OnOk result (All (IsName run.now.setup) mail.new.waiting) }
+    ensures handed { mail.new.handed ≡ mail.old.handed }
     ensures cause { IfErr result (IsUnread run.now buffer.now) }
 {
     if !run.has_buffer(buffer) {
         return Err(PostFault::Stranger);
     }
-    let names = names_of(alloc, buffer.waiting())?;
-    if !names
-        .iter()
-        .all(|name| is_from_node(run.setup.nodes, *name))
-    {
-        return Err(PostFault::Stranger);
-    }
-    Ok(names)
-}
-
-/// Whether a name is that of a copy of a message from one of so many nodes.
-fn is_from_node(nodes: u32, name: Name) -> bool
-    ensures { IsTrue result ↔ IsFromNode nodes name }
-{
-    name.from < nodes && name.copy <= MAX_COPY
+    mail.forget();
+    add_names_of(run, buffer.waiting(), mail)
 }
 
 /// The frame in flight as copy 0 of a message, as the copy of this name.

@@ -9,7 +9,8 @@ use round_meaning::{Setup, initial_of, types_are_kept};
 use std::alloc::Global;
 use std::marker::Model;
 use std::sync::Arc;
-use step_machine::{Event, Name, StoredState};
+use step_book::{Mailbox, StoredEvent};
+use step_machine::StoredState;
 
 /// What the calls of one node were told: how many of its steps are recorded, the names that each of
 /// its receives handed out, and its states after 0, 1, .. closed rounds.
@@ -17,13 +18,14 @@ use step_machine::{Event, Name, StoredState};
 pub struct Seat {
     pub(crate) node: u32,
     pub(crate) steps: u64,
-    pub(crate) handed: Vec<Vec<Name>>,
+    /// What waits in it is of no receive that was recorded.
+    pub(crate) handed: Mailbox,
     /// Each is shared with the book.
     pub(crate) states: Vec<Arc<StoredState>>,
 }
 
 impl Model for Seat {
-    ghost use Rattle.std.specs.Prelude.{◌<◌, length, map};
+    ghost use Rattle.std.specs.Prelude.{◌<◌, length};
     ghost use Rattle.step_book.specs.Log.{states_of};
     ghost use Rattle.locked_buffers.specs.Seats.{Account};
 
@@ -32,7 +34,7 @@ impl Model for Seat {
     ghost view = { λ s. record {
       node = s.node;
       steps = s.steps;
-      handed = map (λ names. names.items) s.handed.items;
+      handed = s.handed.handed;
       states = states_of s.states.items;
     } };
 
@@ -63,7 +65,7 @@ impl Seat {
         Ok(Seat {
             node,
             steps: 0,
-            handed: Vec::new(alloc),
+            handed: Mailbox::new(alloc),
             states,
         })
     }
@@ -93,7 +95,7 @@ impl Seat {
 /// What the network's calls were told: its events, and the answer to each.
 #[derive(Drop)]
 pub struct Relay {
-    pub(crate) events: Vec<Event>,
+    pub(crate) events: Vec<StoredEvent>,
     pub(crate) answers: Vec<bool>,
 }
 
@@ -117,7 +119,7 @@ impl Relay {
     }
 
     /// The network's events, in their order.
-    pub fn events(&self) -> &[Event]
+    pub fn events(&self) -> &[StoredEvent]
         ensures { result.now ≡ self.now.events }
     {
         &self.events

@@ -1,5 +1,6 @@
 -- How the threads ended, carried from the seats to the record.
 use Rattle.std.proofs.Common.{◌≡◌, ◌≢◌, ℕ, ◌+◌, ◌<◌, ◌≤◌, ◌⊎◌, inl, inr, List, [], ◌∷◌, ◌++◌, All, length, get_or, Option, Some, refl, sym, subst, ap, ◌∙◌, arith}
+use Rattle.std.specs.Option.{ForSome}
 use Rattle.std.proofs.lemmas.Bool.{cases_lt}
 use Rattle.std.proofs.lemmas.List.{get_or_append_left, get_or_push, length_push}
 use Rattle.std.proofs.lemmas.List.Elements.{All-get_or}
@@ -120,3 +121,10 @@ same_states start v w mark also waiting waits a b program setup trace i r node c
     b.stated i r there again
     ∙ ap (λ p. after p w.setup w.trace) program ∙ ap (λ s. after v.program s w.trace) setup ∙ ap (λ t. after v.program v.setup t) trace
     ∙ sym (a.stated i r node closed)
+
+-- how a thread ended, by the plan, the rounds and the stop that it was given
+pub ended_by : {P : Type 0} (start : P → ℕ → ℕ) (own plan : P) (own_last last : ℕ) (own_stop stop : Option ℕ) (a : Account) (o : Option Ended) (e : Ended)
+    → ForSome o (IsEnded (start own) own_last own_stop a) → o ≡ Some e → own ≡ plan → own_last ≡ last → own_stop ≡ stop → IsEnded (start plan) last stop a e
+ended_by start own plan own_last last own_stop stop a o e ended is same_plan same_last same_stop =
+    subst (λ p. IsEnded (start p) last stop a e) same_plan
+    (subst (λ r. IsEnded (start own) r stop a e) same_last (subst (λ s. IsEnded (start own) own_last s a e) same_stop (ended e is)))

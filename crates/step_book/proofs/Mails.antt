@@ -1,8 +1,9 @@
 -- The parts of names, as a name comes and as what waits is handed out.
-use Rattle.std.proofs.Common.{◌≡◌, ℕ, zero, suc, ◌-◌, ◌<◌, ◌≤◌, List, [], ◌∷◌, ◌++◌, drop, length}
-use Rattle.std.proofs.Common.{get_or, take, sym, refl, ap, ◌∙◌, arith}
+use Rattle.std.proofs.Common.{◌≡◌, ℕ, zero, suc, ◌+◌, ◌-◌, ◌<◌, ◌≤◌, List, [], ◌∷◌, ◌++◌, drop, length}
+use Rattle.std.proofs.Common.{get_or, take, subst, sym, refl, ap, ◌∙◌, arith}
 use Rattle.std.proofs.Math.Seq.{drop-length, take-length}
-use Rattle.std.proofs.lemmas.List.{drop-append-le, take-append-le, length-drop}
+use Rattle.std.proofs.lemmas.List.{drop-append-le, drop-drop, length-drop, length-take-le}
+use Rattle.std.proofs.lemmas.List.{take-append-drop, take-append-le}
 use Rattle.step_machine.specs.declared.event.Name.{Name}
 use Rattle.step_book.specs.Mailing.{AreParted, Rise, last_end, parts}
 
@@ -58,6 +59,42 @@ part_within from [] k l h = omega arith
 part_within from (end ∷ ends) zero l h = rise_last end ends h.1
 part_within from (end ∷ ends) (suc k) l h = part_within end ends k (omega arith) h.1
 
+-- the first ends give the first parts
+parts_take : (from : ℕ) (ends : List ℕ) (names : List Name) (k : ℕ) → parts from (take k ends) names ≡ take k (parts from ends names)
+parts_take from ends names zero = refl
+parts_take from [] names (suc k) = refl
+parts_take from (end ∷ ends) names (suc k) = ap (λ (x : List (List Name)). take (end - from) (drop from names) ∷ x) (parts_take end ends names k)
+
+rise_take : (from : ℕ) (ends : List ℕ) (k : ℕ) → Rise from ends → Rise from (take k ends)
+rise_take from ends zero h = tt
+rise_take from [] (suc k) h = tt
+rise_take from (end ∷ ends) (suc k) h = (h.0, rise_take end ends k h.1)
+
+last_take : (from : ℕ) (ends : List ℕ) (k : ℕ) → Rise from ends → last_end from (take k ends) ≤ last_end from ends
+last_take from ends zero h = rise_last from ends h
+last_take from [] (suc k) h = omega arith
+last_take from (end ∷ ends) (suc k) h = last_take end ends k h.1
+
+last_is : (from : ℕ) (ends : List ℕ) → last_end from ends ≡ get_or (from ∷ ends) (length ends) 0
+last_is from [] = refl
+last_is from (end ∷ ends) = last_is end ends
+
+-- what lies behind the last end but one is the last part and the rest
+last_part : (from end : ℕ) (ends : List ℕ) (names : List Name) → Rise from (end ∷ ends)
+    → drop (last_end from (take (length ends) (end ∷ ends))) names ≡ get_or (parts from (end ∷ ends) names) (length ends) [] ++ drop (last_end from (end ∷ ends)) names
+last_part from end [] names rise =
+    let low = rise.0 in
+    let whole : from + (end - from) ≡ end = omega arith in
+    sym (take-append-drop (end - from) (drop from names)) ∙ ap (λ ns. take (end - from) (drop from names) ++ ns) (drop-drop (end - from) from names ∙ ap (λ k. drop k names) whole)
+last_part from end (e ∷ ends) names rise = last_part end e ends names rise.1
+
+-- names before those that wait give the same parts without the rest
+parts_cut : (from : ℕ) (ends : List ℕ) (names : List Name) (taken : ℕ) → Rise from ends → last_end from ends ≤ taken → taken ≤ length names
+    → parts from ends (take taken names) ≡ parts from ends names
+parts_cut from ends names taken rise l within =
+    let size = length-take-le taken names within in
+    sym (parts_grow from ends (take taken names) (drop taken names) rise (omega arith)) ∙ ap (parts from ends) (take-append-drop taken names)
+
 module _ {names : List Name} {ends : List ℕ} {taken : ℕ} (h : AreParted names ends taken) where
   -- a name more that waits
   pub mail_grown : (next : List Name) (name : Name) → next ≡ names ++ name ∷ [] → AreParted next ends taken
@@ -100,3 +137,31 @@ module _ {names : List Name} {ends : List ℕ} {taken : ℕ} (h : AreParted name
 
   pub part_high : (k : ℕ) → k < length ends → get_or ends k 0 ≤ length names
   part_high k l = let a = part_within 0 ends k l h.rise in let b = h.last in let c = h.within in omega arith
+
+  -- a receive is undone
+  pub mail_back : (next : List ℕ) (k : ℕ) (last : ℕ) → next ≡ take k ends → last ≡ get_or (0 ∷ next) (length next) 0 → AreParted names next last
+  mail_back next k last e is =
+      let whole = last_take 0 ends k h.rise in
+      let end = h.last in
+      let within = h.within in
+      let here : last_end 0 next ≡ last_end 0 (take k ends) = ap (last_end 0) e in
+      let there : last_end 0 next ≡ last = last_is 0 next ∙ sym is in
+      record { rise = subst (Rise 0) (sym e) (rise_take 0 ends k h.rise); last = there; within = omega (arith, whole, end, within, here, there) }
+
+  pub handed_back : (next : List ℕ) (k : ℕ) → next ≡ take k ends → parts 0 next names ≡ take k (parts 0 ends names)
+  handed_back next k e = ap (λ x. parts 0 x names) e ∙ parts_take 0 ends names k
+
+  -- what waits is forgotten
+  pub handed_cut : (next : List Name) → next ≡ take taken names → parts 0 ends next ≡ parts 0 ends names
+  handed_cut next e = ap (parts 0 ends) e ∙ parts_cut 0 ends names taken h.rise (let last = h.last in omega arith) h.within
+
+  -- where what waits begins then
+  pub back_is : (next : List ℕ) (k : ℕ) (last : ℕ) → next ≡ take k ends → last ≡ get_or (0 ∷ next) (length next) 0 → last ≡ last_end 0 (take k ends)
+  back_is next k last e is = is ∙ sym (last_is 0 next) ∙ ap (last_end 0) e
+
+  pub waiting_back : (k : ℕ) → k ≡ length ends - 1 → drop (last_end 0 (take k ends)) names ≡ get_or (parts 0 ends names) k [] ++ drop taken names
+  waiting_back k e = behind ends k e h.rise ∙ ap (λ l. get_or (parts 0 ends names) k [] ++ drop l names) h.last
+    where
+      behind : (es : List ℕ) (k : ℕ) → k ≡ length es - 1 → Rise 0 es → drop (last_end 0 (take k es)) names ≡ get_or (parts 0 es names) k [] ++ drop (last_end 0 es) names
+      behind [] k e rise = let none : k ≡ 0 = omega (arith, e) in rw none refl
+      behind (end ∷ es) k e rise = let size : k ≡ length es = omega (arith, e) in rw size (last_part 0 end es names rise)

@@ -65,7 +65,7 @@ impl From<NoMemory> for ReceiveFault {
 pub enum CloseFault {
     #[error("no round of the node is due to be closed")]
     NotDue = 1,
-    #[error("the round's end is of another run or another state")]
+    #[error("the round's end is of another run, another state or other messages")]
     Stranger = 2,
     #[error("out of memory")]
     NoMemory = 3,

@@ -32,7 +32,7 @@ impl Model for Mailbox {
 
 impl Mailbox {
     /// No names, and no receives; takes no memory.
-    pub(crate) fn new(alloc: Global) -> Mailbox
+    pub fn new(alloc: Global) -> Mailbox
         ensures { result ≡ mailed [] [] 0 }
     {
         Mailbox {
@@ -69,7 +69,7 @@ impl Mailbox {
 
     /// A name more that waits.
     #[inline(always)]
-    pub(crate) fn push(&mut self, name: Name) -> Result<(), NoMemory>
+    pub fn push(&mut self, name: Name) -> Result<(), NoMemory>
         requires { IsFewName name }
         ensures handed { OnOk result (self.new.handed ≡ self.old.handed) }
         ensures waiting { OnOk result (self.new.waiting ≡ self.old.waiting ++ name ∷ []) }
@@ -82,7 +82,7 @@ impl Mailbox {
 
     /// A receive: what waits is handed out.
     #[inline(always)]
-    pub(crate) fn hand_out(&mut self) -> Result<(), NoMemory>
+    pub fn hand_out(&mut self) -> Result<(), NoMemory>
         ensures handed { OnOk result (self.new.handed ≡ self.old.handed ++ self.old.waiting ∷ []) }
         ensures waiting { OnOk result (self.new.waiting ≡ []) }
         ensures err { OnErr result (self.new ≡ self.old) }
@@ -93,11 +93,30 @@ impl Mailbox {
         self.taken = count;
         Ok(())
     }
+
+    /// Undoes the last receive, if there was one: what it handed out waits again, before what waits
+    /// now.
+    pub fn take_back(&mut self)
+        ensures handed { self.new.handed ≡ take (length self.old.handed - 1) self.old.handed }
+        ensures waiting { self.new.waiting
+            ≡ slice_index_or self.old.handed (length self.old.handed - 1) [] ++ self.old.waiting }
+    {
+        let _end = self.ends.pop();
+        self.taken = start_of(&self.ends, self.ends.len());
+    }
+
+    /// Forgets the names that wait.
+    pub fn forget(&mut self)
+        ensures handed { self.new.handed ≡ self.old.handed }
+        ensures waiting { self.new.waiting ≡ [] }
+    {
+        self.names.truncate(self.taken);
+    }
 }
 
-/// Where the names of a receive begin.
+/// Where the names of a receive begin, or those that wait.
 fn start_of(ends: &[usize], receive: usize) -> usize
-    requires { receive < length ends.now }
+    requires { receive ≤ length ends.now }
     ensures { result ≡ slice_index (0 ∷ ends.now) receive }
 {
     match receive.checked_sub(1) {

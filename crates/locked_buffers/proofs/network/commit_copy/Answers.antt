@@ -3,6 +3,7 @@ use Rattle.step_machine.specs.Sealed.{original}
 use Rattle.step_book.specs.Buffers.{IsSameRun}
 use Rattle.step_journal.specs.Fits.{place_among}
 use Rattle.locked_buffers.proofs.Copies.{spelt_made}
+use Rattle.locked_buffers.proofs.Noted.{few_name}
 use Rattle.locked_buffers.proofs.network.commit_copy.Goals as goal
 
 pub put-requires-clause-honest : goal.put-requires-clause-honest
@@ -10,3 +11,6 @@ put-requires-clause-honest g c =
     let same : IsSameRun c.args.buffer.now c.args.buffer.now = record { program = refl; setup = refl } in
     spelt_made c.args.buffer.now c.args.buffer.now c.args.name.copy c.args.name.round (place_among c.args.run.now.setup.nodes (original c.args.name)) c.args.frame c.in-Some.frame
     c.honest.ensures c.requires.copied c.in-Some.is same
+
+pub new-requires : goal.new-requires
+new-requires g c = few_name c.args.run.now.setup c.args.name c.sound.ensures.lawful.sized c.requires.name

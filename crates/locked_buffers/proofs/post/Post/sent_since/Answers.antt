@@ -1,4 +1,4 @@
-use Rattle.std.proofs.Common.{ℕ, ◌<◌, ◌≤◌, ◌⊎◌, inl, inr, ◌≡◌, ◌∙◌, ◌++◌, List, Vec, ap, append-nil, arith, drop, length, sym}
+use Rattle.std.proofs.Common.{ℕ, ◌<◌, ◌⊎◌, inl, inr, ◌≡◌, ◌∙◌, ◌++◌, List, ap, append-nil, arith, drop, length, sym}
 use Rattle.std.proofs.Math.ListN.{drop_of_length-le}
 use Rattle.std.proofs.lemmas.List.{take_rest}
 use Rattle.step_book.specs.Log.{Recorded}
