@@ -170,8 +170,8 @@ fn step<P: Plan, M: Mail<P>, G: Gate>(
     Ok(())
 }
 
-/// A node's thread from where its seat stands, up to its end: after the last round, at its stop,
-/// without memory, or, where there is no answer, at a refusal for another cause.
+/// A node's thread, from where its seat stands up to its end: after the last round, at its stop, or
+/// where it has no memory. `None`: a call was refused for another cause than memory.
 pub fn run_steps<P: Plan, M: Mail<P>, G: Gate, B: Beat>(
     mail: &M,
     gate: &G,

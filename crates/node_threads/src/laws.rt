@@ -6,9 +6,9 @@ ghost use Rattle.step_book.specs.Log.{round_of};
 use slot_plans::Plan;
 use step_journal::Journal;
 
-/// Nothing at run time: two journals of one run with the same events, one of them made by threads
-/// and the other by running its events as a schedule, have the same state after each round that is
-/// closed in both.
+/// Nothing at run time: two journals of one run with the same events have the same state after each
+/// round that is closed in both. So the journal of a run by threads has the states of the one that
+/// its trace gives when it's run as a schedule.
 pub fn run_again<P: Plan>(journal: &Journal<P>, again: &Journal<P>)
     requires plan { again.now.plan ≡ journal.now.plan }
     requires program { again.now.log.program ≡ journal.now.log.program }

@@ -239,8 +239,10 @@ where
 /// network, and how the thread of each node ended.
 ///
 /// The network asks its policy at the beginning, and then in each tick, or under the free pace
-/// whenever an event was recorded or a node ended, until the policy chooses nothing. `now` is the
-/// tick, or under the free pace the number of recorded events, as far as the network knows them.
+/// whenever a node took a step or ended, until the policy chooses nothing or something that comes
+/// to no event. `now` is the tick, or under the free pace the number of recorded events, as far as
+/// the network knows them.
+///
 /// `stops` names for a node the number of steps after which its thread ends; the last entry for a
 /// node counts. A gate sees the threads pass their points.
 ///

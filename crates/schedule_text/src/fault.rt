@@ -7,8 +7,8 @@ use thiserror::Error;
 /// Why a text is no schedule; lines count from 1.
 #[derive(Clone, Copy, PartialEq, Eq, Debug, Error)]
 pub enum ScheduleFault {
-    /// The line may not stand where it does; at the end of a text that stops within the header it
-    /// is the number of its last line and one more.
+    /// The line has no form that may stand where it does. Where a text ends within its header, or a
+    /// thread setup before its pace, it is the number of the last line and one more.
     #[error("line {0} has no form that may stand there")]
     BadLine(u64),
     /// The line would do, but a number of it is above 4,294,967,295.

@@ -5,7 +5,7 @@
 pub enum Pace {
     /// The threads go on as the system lets them.
     Free,
-    /// Every running node takes one step a tick, the network first.
+    /// In each tick the network acts first, and then every running node takes one step.
     Ticks,
 }
 

@@ -58,7 +58,7 @@ fn write_events(text: &mut String, events: &[Event]) -> Result<(), NoMemory>
     push_lines(&lines, text)
 }
 
-/// The same for events in few bytes.
+/// The text of a schedule, as [`write_schedule`] writes it, of events that are stored in few bytes.
 #[tactic(auto, unfolding(crate::specs::Writing::text_of))]
 pub fn write_stored_schedule(
     alloc: Global,

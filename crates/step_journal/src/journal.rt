@@ -475,7 +475,7 @@ impl<P: Plan> Journal<P> {
         Ok(())
     }
 
-    /// Records a step after the last round that isn't refused.
+    /// Records an idle step, one after the last round, which the caller has shown to fit.
     pub fn record_idle_step(&mut self, node: u32) -> Result<(), NoMemory>
         requires node { node < self.old.log.setup.nodes }
         requires past { self.old.log.setup.rounds < round_of self.old.log node }
