@@ -19,7 +19,7 @@ use crate::account::joined;
 use crate::commit::{commit_close, commit_receive, commit_send};
 use crate::fault::{PostFault, RelayFault, Unmatched};
 use crate::gate::{Gate, Point};
-use crate::locking::take;
+use crate::locking::{Turn, take_book, take_buffer, try_book};
 use crate::network::{commit_copy, commit_drop, commit_release};
 use crate::ready::{copy_of, has_frame, make_place, make_room, note_names};
 use crate::refusals::{may_close, refuses_receive, refuses_send};
@@ -151,19 +151,28 @@ impl<P: Plan> Post<P> {
         if let Some(fault) = refuses_send(&self.run, seat, name) {
             return Err(Refused { fault, prepared });
         }
-        let mut buffer = take(rt, &self.buffers[name.to as usize]);
-        gate.pass(Point::Send(name));
-        let has_frame = match make_place(&self.run, &mut buffer, name) {
-            Ok(has_frame) => has_frame,
-            Err(fault) => {
-                return Err(Refused {
-                    fault: SendFault::from(fault),
-                    prepared,
-                });
+        let mut turn = Turn::new();
+        for _ in rt.forever() {
+            let mut buffer = take_buffer(rt, &self.buffers[name.to as usize]);
+            if !turn.gave_way() {
+                gate.pass(Point::Send(name));
             }
-        };
-        let mut book = take(rt, &self.book);
-        commit_send(&self.run, seat, &mut buffer, &mut book, prepared, has_frame)
+            let has_frame = match make_place(&self.run, &mut buffer, name) {
+                Ok(has_frame) => has_frame,
+                Err(fault) => {
+                    return Err(Refused {
+                        fault: SendFault::from(fault),
+                        prepared,
+                    });
+                }
+            };
+            if let Some(mut book) = try_book(&self.book) {
+                return commit_send(&self.run, seat, &mut buffer, &mut book, prepared, has_frame);
+            }
+            drop(buffer);
+            turn.give_way(rt);
+        }
+        unreachable!()
     }
 
     /// A receive step: every frame that was released to the node and not yet taken.
@@ -186,12 +195,25 @@ impl<P: Plan> Post<P> {
             return Err(fault);
         }
         let node = seat.node();
-        let mut buffer = take(rt, &self.buffers[node as usize]);
-        note_names(&self.run, &buffer, &mut seat.handed)?;
-        let mut book = take(rt, &self.book);
-        let took = commit_receive(&self.run, node, &mut seat.handed, &mut buffer, &mut book)?;
-        seat.steps += 1;
-        Ok(took)
+        let mut turn = Turn::new();
+        for _ in rt.forever() {
+            let mut buffer = take_buffer(rt, &self.buffers[node as usize]);
+            note_names(&self.run, &buffer, &mut seat.handed)?;
+            if let Some(mut book) = try_book(&self.book) {
+                let took = commit_receive(
+                    &self.run,
+                    node,
+                    &mut seat.handed,
+                    &mut buffer,
+                    &mut book,
+                )?;
+                seat.steps += 1;
+                return Ok(took);
+            }
+            drop(buffer);
+            turn.give_way(rt);
+        }
+        unreachable!()
     }
 
     /// Closes the node's due round, which it finished.
@@ -219,7 +241,7 @@ impl<P: Plan> Post<P> {
             return Err(CloseFault::NotDue);
         }
         let state = finished.stored_state()?;
-        let mut book = take(rt, &self.book);
+        let mut book = take_book(rt, &self.book);
         commit_close(&self.run, seat, &mut book, finished, state)
     }
 
@@ -235,10 +257,17 @@ impl<P: Plan> Post<P> {
             moved) }
         ensures err { OnErr result (relay.new ≡ relay.old) }
     {
-        let mut buffer = take(rt, &self.buffers[name.to as usize]);
-        let has_frame = make_room(&self.run, &mut buffer, name)?;
-        let mut book = take(rt, &self.book);
-        commit_release(&self.run, relay, &mut buffer, &mut book, name, has_frame)
+        let mut turn = Turn::new();
+        for _ in rt.forever() {
+            let mut buffer = take_buffer(rt, &self.buffers[name.to as usize]);
+            let has_frame = make_room(&self.run, &mut buffer, name)?;
+            if let Some(mut book) = try_book(&self.book) {
+                return commit_release(&self.run, relay, &mut buffer, &mut book, name, has_frame);
+            }
+            drop(buffer);
+            turn.give_way(rt);
+        }
+        unreachable!()
     }
 
     /// A drop: true where a copy was in flight; its frame is gone.
@@ -252,13 +281,20 @@ impl<P: Plan> Post<P> {
         ensures ok { IfOk result (λ lost. relay.new ≡ told_with relay.old (event.Drop name) lost) }
         ensures err { OnErr result (relay.new ≡ relay.old) }
     {
-        let mut buffer = take(rt, &self.buffers[name.to as usize]);
-        if !self.run.has_buffer(&buffer) {
-            return Err(RelayFault::Stranger);
+        let mut turn = Turn::new();
+        for _ in rt.forever() {
+            let mut buffer = take_buffer(rt, &self.buffers[name.to as usize]);
+            if !self.run.has_buffer(&buffer) {
+                return Err(RelayFault::Stranger);
+            }
+            let is_there = has_frame(&self.run, &buffer, name);
+            if let Some(mut book) = try_book(&self.book) {
+                return commit_drop(&self.run, relay, &mut buffer, &mut book, name, is_there);
+            }
+            drop(buffer);
+            turn.give_way(rt);
         }
-        let is_there = has_frame(&self.run, &buffer, name);
-        let mut book = take(rt, &self.book);
-        commit_drop(&self.run, relay, &mut buffer, &mut book, name, is_there)
+        unreachable!()
     }
 
     /// A copy: true where copy 0 was in flight and this one, 1 to 3, was never made; its frame is
@@ -274,11 +310,18 @@ impl<P: Plan> Post<P> {
         ensures ok { IfOk result (λ made. relay.new ≡ told_with relay.old (event.Copy name) made) }
         ensures err { OnErr result (relay.new ≡ relay.old) }
     {
-        let mut buffer = take(rt, &self.buffers[name.to as usize]);
-        let _is_there = make_place(&self.run, &mut buffer, name)?;
-        let frame = copy_of(&self.run, &buffer, name)?;
-        let mut book = take(rt, &self.book);
-        commit_copy(&self.run, relay, &mut buffer, &mut book, name, frame)
+        let mut turn = Turn::new();
+        for _ in rt.forever() {
+            let mut buffer = take_buffer(rt, &self.buffers[name.to as usize]);
+            let _is_there = make_place(&self.run, &mut buffer, name)?;
+            let frame = copy_of(&self.run, &buffer, name)?;
+            if let Some(mut book) = try_book(&self.book) {
+                return commit_copy(&self.run, relay, &mut buffer, &mut book, name, frame);
+            }
+            drop(buffer);
+            turn.give_way(rt);
+        }
+        unreachable!()
     }
 
     /// The copies in flight, in the order of their messages' serials and then of the copy numbers,
@@ -286,7 +329,7 @@ impl<P: Plan> Post<P> {
     pub fn flight<R: Wait>(&self, rt: &R) -> Result<(Vec<InFlight>, usize), NoMemory>
         ensures { IfOk result (λ o. IsFlightOfOne P.start o.0.items o.1) }
     {
-        let book = take(rt, &self.book);
+        let book = take_book(rt, &self.book);
         let flight = book.flight(self.alloc)?;
         Ok((flight, book.trace().len()))
     }
@@ -304,7 +347,7 @@ impl<P: Plan> Post<P> {
             count) }
         ensures err { OnErr result (sent.new.items ≡ sent.old.items) }
     {
-        let book = take(rt, &self.book);
+        let book = take_book(rt, &self.book);
         if let Some(rest) = book.messages().get(known..) {
             add_names(sent, rest)?;
         }
@@ -319,7 +362,7 @@ impl<P: Plan> Post<P> {
         ensures ok { IfOk result (IsNextCopyInOne P.start name) }
         ensures known { IfOk result (λ copied. IfSome copied (IsName self.now.setup)) }
     {
-        let book = take(rt, &self.book);
+        let book = take_book(rt, &self.book);
         if !self.run.setup.same(book.setup()) {
             return Err(RelayFault::Stranger);
         }
