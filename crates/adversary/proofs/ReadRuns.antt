@@ -114,10 +114,10 @@ unknown_next s trace events i e f n within is strange known counted cause =
     (subst (λ m. IsFaultOf e m f) at cause)
 
 -- a cause in the first part of the events
-pub begins_cause : (s : Setup) (n : ℕ) (few whole events : List Event) (f : RunFault) → events ≡ few ++ whole → ((f ≡ fault.NoMemory) ⊎ IsUnknownPast s n few f)
+pub begins_cause : (s : Setup) (n : ℕ) (stored whole events : List Event) (f : RunFault) → events ≡ stored ++ whole → ((f ≡ fault.NoMemory) ⊎ IsUnknownPast s n stored f)
     → (f ≡ fault.NoMemory) ⊎ IsUnknownPast s n events f
-begins_cause s n few whole events f all (inl none) = inl none
-begins_cause s n few whole events f all (inr past) = inr (subst (λ es. IsUnknownPast s n es f) (sym all) (unknown_begins s n few whole f past))
+begins_cause s n stored whole events f all (inl none) = inl none
+begins_cause s n stored whole events f all (inr past) = inr (subst (λ es. IsUnknownPast s n es f) (sym all) (unknown_begins s n stored whole f past))
 
 -- one event more of a piece
 take_next : (events : List Event) (i : ℕ) (e : Event) → i < length events → e ≡ get_or events i e → take (i + 1) events ≡ take i events ++ e ∷ []

@@ -6,11 +6,10 @@ use Rattle.std.proofs.lemmas.Bool.{cases_lt}
 use Rattle.std.proofs.lemmas.List.{get_or_append_left, get_or-append-add, get_or-append_right, get_or_default, length-append}
 use Rattle.round_meaning.specs.declared.setup.Setup.{Setup}
 use Rattle.round_meaning.specs.Setups.{IsSetup}
-use Rattle.step_book.specs.Names.{IsName}
+use Rattle.step_book.proofs.Names.{storable_name}
 use Rattle.step_machine.specs.declared.event.Event.{Event}
 use Rattle.step_machine.specs.declared.event.Event.TheVariants.{Step, Release, Drop, Copy}
-use Rattle.step_machine.specs.declared.event.Name.{Name}
-use Rattle.stored_events.specs.Stored.{AreLate, IsFew, IsFewName}
+use Rattle.stored_events.specs.Stored.{AreLate, IsStorable}
 use Rattle.adversary.specs.Driving.{IsFaultOf, IsFirstAt, IsKnown, IsOfMessage, IsStep, IsUnknownAt, IsUnknownPast}
 use Rattle.adversary.specs.declared.fault.RunFault.{RunFault}
 use Rattle.adversary.specs.declared.fault.RunFault.TheVariants as fault
@@ -35,38 +34,30 @@ unknown_is s events k (Copy n) f within is strange before cause =
     subst (IsUnknownAt s events) (sym cause)
     ((within, stands (λ e. ¬ IsKnown s e) events k (Copy n) within is strange, before), stands IsOfMessage events k (Copy n) within is tt)
 
--- the numbers of a known event are few
-few_name : (s : Setup) → IsSetup s → (n : Name) → IsName s n → IsFewName n
-few_name s h n a = record {
-  from = let few = h.few_nodes in let from = a.from in omega arith;
-  to = let few = h.few_nodes in let to = a.to in omega arith;
-  round = let few = h.few_rounds in let last = a.last in omega arith;
-  copy = let copy = a.copy in omega arith;
-}
-
-few_event : (s : Setup) → IsSetup s → (e : Event) → IsKnown s e → IsFew e
-few_event s h (Step i) known = let few = h.few_nodes in omega (arith, known)
-few_event s h (Release n) known = few_name s h n known
-few_event s h (Drop n) known = few_name s h n known
-few_event s h (Copy n) known = few_name s h n known.0
+-- the numbers of a known event are small enough to be stored
+storable_event : (s : Setup) → IsSetup s → (e : Event) → IsKnown s e → IsStorable e
+storable_event s h (Step i) known = let few = h.few_nodes in omega (arith, known)
+storable_event s h (Release n) known = storable_name s h n known
+storable_event s h (Drop n) known = storable_name s h n known
+storable_event s h (Copy n) known = storable_name s h n known.0
 
 -- the first unknown event of the first part is that of the whole
-first_left : (s : Setup) (few whole : List Event) (k : ℕ) → IsFirstAt s few k → IsFirstAt s (few ++ whole) k
-first_left s few whole k h = (
-  omega (arith, h.0, length-append few whole),
-  λ d known. h.1 d (subst (IsKnown s) (get_or_append_left few whole d k h.0) known),
-  λ j d l. subst (IsKnown s) (sym (get_or_append_left few whole d j (omega (arith, l, h.0)))) (h.2 j d l),
+first_left : (s : Setup) (stored whole : List Event) (k : ℕ) → IsFirstAt s stored k → IsFirstAt s (stored ++ whole) k
+first_left s stored whole k h = (
+  omega (arith, h.0, length-append stored whole),
+  λ d known. h.1 d (subst (IsKnown s) (get_or_append_left stored whole d k h.0) known),
+  λ j d l. subst (IsKnown s) (sym (get_or_append_left stored whole d j (omega (arith, l, h.0)))) (h.2 j d l),
 )
 
-pub unknown_left : (s : Setup) (few whole : List Event) (f : RunFault) → IsUnknownAt s few f → IsUnknownAt s (few ++ whole) f
-unknown_left s few whole (fault.UnknownNode k) h =
-    (first_left s few whole k h.0, λ d. subst IsStep (sym (get_or_append_left few whole d k h.0.0)) (h.1 d))
-unknown_left s few whole (fault.UnknownMessage k) h =
-    (first_left s few whole k h.0, λ d. subst IsOfMessage (sym (get_or_append_left few whole d k h.0.0)) (h.1 d))
-unknown_left s few whole fault.BadSetup h = absurd h
-unknown_left s few whole fault.NoMemory h = absurd h
-unknown_left s few whole fault.NoThread h = absurd h
-unknown_left s few whole fault.Unmatched h = absurd h
+pub unknown_left : (s : Setup) (stored whole : List Event) (f : RunFault) → IsUnknownAt s stored f → IsUnknownAt s (stored ++ whole) f
+unknown_left s stored whole (fault.UnknownNode k) h =
+    (first_left s stored whole k h.0, λ d. subst IsStep (sym (get_or_append_left stored whole d k h.0.0)) (h.1 d))
+unknown_left s stored whole (fault.UnknownMessage k) h =
+    (first_left s stored whole k h.0, λ d. subst IsOfMessage (sym (get_or_append_left stored whole d k h.0.0)) (h.1 d))
+unknown_left s stored whole fault.BadSetup h = absurd h
+unknown_left s stored whole fault.NoMemory h = absurd h
+unknown_left s stored whole fault.NoThread h = absurd h
+unknown_left s stored whole fault.Unmatched h = absurd h
 
 -- where all before it are known, the first unknown event of what follows is that of the whole
 known_past : (s : Setup) (before events : List Event) (k : ℕ) → All (IsKnown s) before → ((j : ℕ) (d : Event) → j < k → IsKnown s (get_or events j d))
@@ -85,21 +76,21 @@ unknown_past s n events k e f within is strange first cause before sized known =
     (is ∙ sym (get_or-append-add before events k e)) strange (known_past s before events k known first) at
 
 -- so it is where others follow
-pub unknown_begins : (s : Setup) (n : ℕ) (few whole : List Event) (f : RunFault) → IsUnknownPast s n few f → IsUnknownPast s n (few ++ whole) f
-unknown_begins s n few whole f h before sized known =
-    subst (λ es. IsUnknownAt s es f) (append_assoc before few whole) (unknown_left s (before ++ few) whole f (h before sized known))
+pub unknown_begins : (s : Setup) (n : ℕ) (stored whole : List Event) (f : RunFault) → IsUnknownPast s n stored f → IsUnknownPast s n (stored ++ whole) f
+unknown_begins s n stored whole f h before sized known =
+    subst (λ es. IsUnknownAt s es f) (append_assoc before stored whole) (unknown_left s (before ++ stored) whole f (h before sized known))
 
 -- an event whose numbers are too large is unknown
-pub unknown_late : (s : Setup) (n m : ℕ) (few whole : List Event) (e : Event) (f : RunFault) → IsSetup s → AreLate whole → 0 < length whole → e ≡ get_or whole 0 e
-    → m ≡ n + length few → All (IsKnown s) few → IsFaultOf e m f → IsUnknownPast s n (few ++ whole) f
-unknown_late s n m few [] e f h late some is counted known cause = absurd (omega (arith, some))
-unknown_late s n m few (x ∷ es) e f h late some is counted known cause =
-    let at : IsFaultOf e (n + length few) f = subst (λ k. IsFaultOf e k f) counted cause in
-    unknown_past s n (few ++ x ∷ es) (length few) e f (omega (arith, length-append few (x ∷ es)))
-    (is ∙ sym (get_or-append_seam few x es e)) (λ known. late (subst IsFew is (few_event s h e known)))
-    (λ j d l. subst (IsKnown s) (sym (get_or_append_left few (x ∷ es) d j l)) (known j d l)) at
+pub unknown_late : (s : Setup) (n m : ℕ) (stored whole : List Event) (e : Event) (f : RunFault) → IsSetup s → AreLate whole → 0 < length whole → e ≡ get_or whole 0 e
+    → m ≡ n + length stored → All (IsKnown s) stored → IsFaultOf e m f → IsUnknownPast s n (stored ++ whole) f
+unknown_late s n m stored [] e f h late some is counted known cause = absurd (omega (arith, some))
+unknown_late s n m stored (x ∷ es) e f h late some is counted known cause =
+    let at : IsFaultOf e (n + length stored) f = subst (λ k. IsFaultOf e k f) counted cause in
+    unknown_past s n (stored ++ x ∷ es) (length stored) e f (omega (arith, length-append stored (x ∷ es)))
+    (is ∙ sym (get_or-append_seam stored x es e)) (λ known. late (subst IsStorable is (storable_event s h e known)))
+    (λ j d l. subst (IsKnown s) (sym (get_or_append_left stored (x ∷ es) d j l)) (known j d l)) at
 
 -- and there is none at all
-pub known_whole : (s : Setup) (few whole : List Event) → length whole ≡ 0 → All (IsKnown s) few → All (IsKnown s) (few ++ whole)
-known_whole s few [] none known = λ k d l. subst (IsKnown s) (sym (get_or_append_left few [] d k (omega (arith, l, length-append few [])))) (known k d (omega (arith, l, length-append few [])))
-known_whole s few (e ∷ es) none known = absurd (omega (arith, none))
+pub known_whole : (s : Setup) (stored whole : List Event) → length whole ≡ 0 → All (IsKnown s) stored → All (IsKnown s) (stored ++ whole)
+known_whole s stored [] none known = λ k d l. subst (IsKnown s) (sym (get_or_append_left stored [] d k (omega (arith, l, length-append stored [])))) (known k d (omega (arith, l, length-append stored [])))
+known_whole s stored (e ∷ es) none known = absurd (omega (arith, none))

@@ -78,7 +78,7 @@ pub record AreNodesOf (start : ℕ → ℕ) (v : Log) (nodes : List NodeView) : 
   pub each : (i : ℕ) (d : NodeView) → i < v.setup.nodes
       → IsNodeOf start v i (slice_index_or nodes i d)
 
--- they are, and no due round is open
+-- the nodes are those of the run, each where its log says, and no due round is open
 pub record IsDriven (start : ℕ → ℕ) (v : Log) (nodes : List NodeView) : Type 0 where
   pub matching : AreNodesOf start v nodes
   pub settled : AreSettled start v

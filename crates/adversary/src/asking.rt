@@ -53,10 +53,7 @@ pub fn run_policy<P: Plan, Q: Policy>(
     if !setup.is_lawful(program) || !are_nodes(setup.nodes, correct) {
         return Err(RunFault::BadSetup);
     }
-    match run(alloc, program, setup, plan, correct, policy, ticks) {
-        Ok(journal) => Ok(journal),
-        Err(NoMemory) => Err(RunFault::NoMemory),
-    }
+    Ok(run(alloc, program, setup, plan, correct, policy, ticks)?)
 }
 
 /// Whether each member is below the number of nodes.

@@ -9,7 +9,7 @@ use thiserror::Error;
 pub enum RunFault {
     /// The setup isn't lawful for the program, a correct node or a stop is of no node of the setup,
     /// or a bound or a table is outside its limits.
-    #[error("the setup isn't lawful for the program")]
+    #[error("the setup, a node, a bound or a table isn't within its limits")]
     BadSetup,
     /// The first event that names what the setup doesn't have is a step of no node.
     #[error("event {0} is a step of no node")]

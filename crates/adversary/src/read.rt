@@ -65,8 +65,8 @@ fn run_on<P: Plan>(driver: Driver<P>, events: &Events) -> Result<Driver<P>, RunF
     ensures cause { IfErr result (λ fault. (fault ≡ RunFault.NoMemory)
         ⊎ IsUnknownPast driver.log.setup (length driver.log.trace) events.now fault) }
 {
-    let (few, whole) = events.parts();
-    let next = driver.act_known(few)?;
+    let (stored, whole) = events.parts();
+    let next = driver.act_known(stored)?;
     match whole.first() {
         Some(event) => Err(unknown_at(*event, next.journal().book().trace().len())),
         None => Ok(next),

@@ -42,10 +42,7 @@ pub fn run_schedule<P: Plan>(
     if let Some(fault) = first_unknown(setup, events) {
         return Err(fault);
     }
-    match run(alloc, program, setup, plan, events) {
-        Ok(journal) => Ok(journal),
-        Err(NoMemory) => Err(RunFault::NoMemory),
-    }
+    Ok(run(alloc, program, setup, plan, events)?)
 }
 
 /// The first event that names a node or a message which the run hasn't.

@@ -1,11 +1,11 @@
 -- Algorithm 1 keeps agreement and validity for the nodes and faults that it was made for.
-use Rattle.std.proofs.Common.{◌≡◌, ℕ, ◌+◌, ◌*◌, ◌<◌, ◌≤◌, Bool, sym, subst}
+use Rattle.std.proofs.Common.{ℕ, ◌+◌, ◌*◌, ◌<◌, ◌≤◌, sym, subst}
 use Rattle.round_lang.specs.Limits.{max_values}
 use Rattle.round_meaning.specs.declared.setup.Setup.{Setup}
-use Rattle.round_meaning.specs.Agreement.{HasMajority, IsInput}
+use Rattle.round_meaning.specs.Agreement.{HasMajority}
 use Rattle.round_meaning.specs.Algorithm1.{dls1}
 use Rattle.round_meaning.proofs.Consensus.{decisions_agree, decisions_are_inputs}
-use Rattle.algorithm_library.specs.Agreeing.{Decides, IsFor, KeepsAgreement, KeepsValidity}
+use Rattle.algorithm_library.specs.Agreeing.{IsFor, KeepsAgreement, KeepsValidity}
 
 -- a setup that it was made for has fewer than half of its nodes faulty
 has_majority : (k n t : ℕ) (s : Setup) → k ≤ max_values → 2 * t + 1 ≤ n → IsFor (dls1 k) n t s → HasMajority k s

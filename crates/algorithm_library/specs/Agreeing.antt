@@ -24,7 +24,7 @@ KeepsAgreement p nodes faults =
     (s : Setup) (omits : ℕ → ℕ → ℕ → Bool) → IsFor p nodes faults s → (i j r q v u : ℕ)
     → i < nodes → j < nodes → Decides p s omits r i v → Decides p s omits q j u → v ≡ u
 
--- and each decision is some node's input
+-- each decision of a run is some node's input, whatever is omitted
 abbrev pub KeepsValidity : ProgramTree → (nodes faults : ℕ) → Type 0
 KeepsValidity p nodes faults =
     (s : Setup) (omits : ℕ → ℕ → ℕ → Bool) → IsFor p nodes faults s → (i r v : ℕ) → i < nodes

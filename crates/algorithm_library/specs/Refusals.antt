@@ -8,7 +8,7 @@ pub record IsCount (values : ℕ) : Type 0 where
   pub some : 1 ≤ values
   pub few : values ≤ max_values
 
--- and so are the nodes and faults within their limits
+-- K is 1 to 64, and the nodes and faults are within their limits
 pub record IsWithin (nodes faults values : ℕ) : Type 0 where
   pub count : IsCount values
   pub some_node : 1 ≤ nodes

@@ -10,7 +10,6 @@ ghost use Rattle.round_meaning.specs.Setups.{IsLawful, max_nodes};
 use adversary::{ReadFault, RunFault, refused_after, run_read};
 use omission_explainer::{Report, Verdict, explain, judge};
 use round_check::Checked;
-use round_lang::NoMemory;
 use round_meaning::{MAX_NODES, NodeSet, Setup};
 use schedule_text::{ScheduleReader, TextSource};
 use slot_plans::Plan;
@@ -46,10 +45,8 @@ pub fn explained_run<P: Plan, S: TextSource + Drop>(
 {
     let journal = run_read(alloc, program, setup, plan, reader)?;
     journal.agrees();
-    match explain(alloc, &journal) {
-        Ok(report) => Ok((report, journal)),
-        Err(NoMemory) => Err(ReadFault::Run(RunFault::NoMemory)),
-    }
+    let report = explain(alloc, &journal)?;
+    Ok((report, journal))
 }
 
 /// What a run is judged for: the nodes that are taken as correct, the bound on the delay in steps,

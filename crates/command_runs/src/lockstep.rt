@@ -17,7 +17,6 @@ use command_words::Source;
 use lockstep_runs::run_lockstep;
 use policies::Bounded;
 use round_check::Checked;
-use round_lang::NoMemory;
 use round_meaning::Setup;
 use schedule_text::{begin_utf8, write_stored_schedule};
 use simdutf8::compat::from_utf8;
@@ -166,10 +165,8 @@ pub fn lockstep_text<P: Plan>(
     let ticks = ticks_of(plan, setup, pacing.ticks);
     let journal = run_lockstep(alloc, program, setup, plan, correct, pacing.bounded, ticks)?;
     journal.agrees();
-    match write_stored_schedule(alloc, setup, kind, journal.book().trace()) {
-        Ok(text) => Ok(text),
-        Err(NoMemory) => Err(RunFault::NoMemory),
-    }
+    let text = write_stored_schedule(alloc, setup, kind, journal.book().trace())?;
+    Ok(text)
 }
 
 /// How many ticks there are.

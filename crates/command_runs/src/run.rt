@@ -328,7 +328,7 @@ fn write_answer<O: Write>(answer: &Answer, out: &mut O) -> io::Result<()>
     }
 }
 
-/// That all was written, to the last byte that the writer still holds.
+/// Whether all was written, with what the writer still held; `Write` where it wasn't.
 fn written<O: Write>(done: io::Result<()>, out: &mut O) -> Result<(), Refusal>
     ensures done { OnOk result (IsOk done) }
     ensures refused { IfErr result (λ r. r ≡ Refusal.Write) }

@@ -23,7 +23,6 @@ use node_threads::{Ended, run_threads};
 use omission_explainer::{Report, explain};
 use policies::Prompt;
 use round_check::Checked;
-use round_lang::NoMemory;
 use schedule_text::{begin_utf8, write_stored_schedule};
 use simdutf8::compat::from_utf8;
 use slot_plans::{Growing, Known, Plan, PlanKind};
@@ -177,20 +176,14 @@ pub fn explained_threads<R: Threads + Wait + Sync, P: Plan + Send + Sync>(
     ensures validity { IfOk result (λ answer. RunsAlgorithm1 program.now setup.now.setup
         → AreInputs setup.now.setup answer.0.report.rows) }
 {
-    let numbers = &setup.setup;
+    let header = &setup.setup;
     let stops = setup.stops.as_slice();
     let (journal, ends) = run_threads(
-        rt, alloc, program, numbers, plan, setup.pace, stops, Prompt, &OpenGate,
+        rt, alloc, program, header, plan, setup.pace, stops, Prompt, &OpenGate,
     )?;
     journal.agrees();
-    let report = match explain(alloc, &journal) {
-        Ok(report) => report,
-        Err(NoMemory) => return Err(RunFault::NoMemory),
-    };
-    let trace = match write_stored_schedule(alloc, numbers, setup.plan, journal.book().trace()) {
-        Ok(trace) => trace,
-        Err(NoMemory) => return Err(RunFault::NoMemory),
-    };
+    let report = explain(alloc, &journal)?;
+    let trace = write_stored_schedule(alloc, header, setup.plan, journal.book().trace())?;
     let run = ThreadRun {
         report,
         trace,

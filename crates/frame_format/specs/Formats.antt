@@ -14,7 +14,7 @@ pub record Format : Type 0 where
   pub period : ℕ
   pub blocks : List (List Kind)
 
--- that of a program among n nodes
+-- the format of a program among n nodes
 abbrev pub format_of : ProgramTree → ℕ → Format
 format_of p n = record { nodes = n; values = p.values; period = p.period; blocks = message_kinds p }
 
@@ -43,7 +43,7 @@ pub record IsBlock (kinds : List Kind) : Type 0 where
   pub few : length kinds ≤ 8
   pub small : size kinds ≤ 2048
 
--- such fields, and how many bytes they take
+-- the fields are few and small, and take so many bytes
 pub record IsMeasured (kinds : List Kind) (bytes : ℕ) : Type 0 where
   pub block : IsBlock kinds
   pub bytes_are : bytes ≡ size kinds

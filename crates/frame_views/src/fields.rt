@@ -2,12 +2,12 @@
 ghost use Rattle.std.specs.Prelude.{◌≡◌, ◌≤◌, length, IfSome, slice_index};
 ghost use Rattle.round_lang.specs.Values.{at, flag, num, row, set};
 ghost use Rattle.frame_format.specs.Formats.{size, width, IsBlock};
-ghost use Rattle.frame_format.specs.Reading.{fields_at, frame_at, IsFrame};
+ghost use Rattle.frame_format.specs.Reading.{fields_at};
 ghost use Rattle.frame_views.specs.Views.{spot_value};
 
 use crate::row::{RowView, from_place};
 use byteorder::{BigEndian, ByteOrder};
-use frame_format::{Layout, fields_in, round_of, size_of};
+use frame_format::size_of;
 use round_lang::{Kind, ValueSet};
 use std::marker::Model;
 
@@ -39,14 +39,6 @@ impl<'k, 'a> FieldsView<'k, 'a> {
         ensures { result ≡ fields_at kinds.now bytes.now }
     {
         FieldsView { kinds, bytes }
-    }
-
-    /// The fields of a frame of bytes that have no fault, which are not looked through again.
-    pub fn of_frame(layout: &'k Layout, bytes: &'a [u8]) -> FieldsView<'k, 'a>
-        requires { IsFrame layout.now bytes.now }
-        ensures { result ≡ (frame_at layout.now bytes.now).message }
-    {
-        FieldsView::over(layout.kinds(round_of(bytes)), fields_in(bytes))
     }
 
     /// The kind of a field, and the bytes from its first one on.

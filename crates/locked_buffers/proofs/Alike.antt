@@ -27,15 +27,6 @@ unlike_at f xs ys k x d same l is tells off =
 pub read_through : {X Y : Type 0} (f : X → Y) (xs : List X) (k : ℕ) (x : X) (d : Y) → k < length xs → x ≡ get_or xs k x → f x ≡ get_or (map f xs) k d
 read_through f xs k x d l is = ap f is ∙ sym (get_or-map f xs k x d l)
 
--- to the end
-pub alike_all : {X Y : Type 0} (f : X → Y) (xs : List X) (ys : List Y) (k : ℕ) → length xs ≤ k → AreAlike f xs ys k → map f xs ≡ ys
-alike_all f xs ys k l h =
-    sym (take_all k (map f xs) (let s = length-map xs f in omega arith)) ∙ h.1 ∙ take_all k ys (let s = h.0 in omega arith)
-
--- lists of other lengths
-pub unlike_sized : {X Y : Type 0} (f : X → Y) (xs : List X) (ys : List Y) → (length xs ≡ length ys → ⊥) → map f xs ≡ ys → ⊥
-unlike_sized f xs ys apart h = apart (sym (length-map xs f) ∙ ap length h)
-
 -- two lists, the same as far as a place and there, are the same one further
 pub same_more : {Y : Type 0} (xs ys : List Y) (k : ℕ) (d y : Y) → k < length xs → length xs ≡ length ys
     → y ≡ get_or ys k y → get_or xs k d ≡ y → take k xs ≡ take k ys → take (k + 1) xs ≡ take (k + 1) ys

@@ -4,7 +4,6 @@ use Rattle.std.specs.Prelude.{All, slice_get}
 use Rattle.std.proofs.lemmas.List.{get_or-map, length-append, length-map, map_more, take_all}
 use Rattle.std.proofs.lemmas.List.Elements.{All-nil, All-push}
 use Rattle.std.proofs.lemmas.Option.{get_or_from_slice_get, slice_get_within}
-use Rattle.round_meaning.specs.Setups.{IsSetup}
 use Rattle.round_meaning.specs.declared.setup.Setup.{Setup}
 use Rattle.step_machine.specs.declared.event.Name.{Name}
 use Rattle.step_machine.specs.Sealed.{Frame}
@@ -12,16 +11,6 @@ use Rattle.step_book.specs.Buffers.{names_in}
 use Rattle.step_book.specs.Mailing.{Mailed}
 use Rattle.step_book.specs.Names.{IsName}
 use Rattle.step_book.proofs.Pieces.{past_all}
-use Rattle.stored_events.specs.Stored.{IsFewName}
-
--- the numbers of a name of the run are few
-pub few_name : (s : Setup) (n : Name) → IsSetup s → IsName s n → IsFewName n
-few_name s n sized a = record {
-  from = let few = sized.few_nodes in let from = a.from in omega arith;
-  to = let few = sized.few_nodes in let to = a.to in omega arith;
-  round = let few = sized.few_rounds in let last = a.last in omega arith;
-  copy = let copy = a.copy in omega arith;
-}
 
 -- what waits are the names of the first frames, which are of messages of the run
 pub record AreNoted (s : Setup) (frames : List Frame) (before now : Mailed) : Type 0 where

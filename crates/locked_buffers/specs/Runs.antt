@@ -16,7 +16,7 @@ pub record Run (P : Type 0) : Type 0 where
   pub program : ProgramTree
   pub setup : Setup
 
--- what its nodes compute
+-- what the nodes of a run compute
 abbrev pub algorithm_by : {P : Type 0} → Run P → Algorithm
 algorithm_by r = algorithm_of r.program r.setup
 
@@ -54,6 +54,7 @@ IsNextCopy start one n (Some m) =
     (m ≡ record n { copy = m.copy }) × IsLeastCopy (start one.plan) one.log n m.copy
 IsNextCopy start one n None = HasNoCopy (start one.plan) one.log n
 
--- it is so after the events of some record
+-- after the events of some record, this is the least copy of the message that can be made, or there
+-- is none
 abbrev pub IsNextCopyInOne : {P : Type 0} → (P → ℕ → ℕ) → Name → Option Name → Type 0
 IsNextCopyInOne {P} start n o = (one : Recorded P) × IsNextCopy start one n o

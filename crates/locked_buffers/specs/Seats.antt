@@ -65,7 +65,7 @@ SendBlame start rounds a n send.NotItsSlot = (¬ IsDueBy start rounds a) × (¬ 
 SendBlame start rounds a n send.Stranger = MaySend start rounds a n
 SendBlame start rounds a n send.NoMemory = MaySend start rounds a n
 
--- why a receive is
+-- why a receive is refused, by the node's own counts
 abbrev pub ReceiveBlame : (ℕ → ℕ) → ℕ → ℕ → Account → PostFault → Type 0
 ReceiveBlame start nodes rounds a post.NotClosed = IsDueBy start rounds a
 ReceiveBlame start nodes rounds a post.NotItsSlot =
@@ -73,7 +73,7 @@ ReceiveBlame start nodes rounds a post.NotItsSlot =
 ReceiveBlame start nodes rounds a post.Stranger = MayReceive start nodes rounds a
 ReceiveBlame start nodes rounds a post.NoMemory = MayReceive start nodes rounds a
 
--- why a close is
+-- why a close is refused, by the node's own counts
 abbrev pub CloseBlame : (ℕ → ℕ) → ℕ → Account → ℕ → CloseFault → Type 0
 CloseBlame start rounds a r close.NotDue = ¬ MayClose start rounds a r
 CloseBlame start rounds a r close.Stranger = MayClose start rounds a r

@@ -66,6 +66,9 @@ pub struct Unmatched;
 
 impl fmt::Display for Unmatched {
     fn fmt<W: fmt::Write>(&self, f: &mut fmt::Formatter<W>) -> fmt::Result {
-        write!(f, "the seats and the relay aren't of the recorded run")
+        write!(
+            f,
+            "the seats, the relay or what is under the locks isn't of the run"
+        )
     }
 }

@@ -62,10 +62,7 @@ pub fn run_lockstep<P: Plan>(
     if !is_fit(program, setup, correct, bounded) {
         return Err(RunFault::BadSetup);
     }
-    match run(alloc, program, setup, plan, correct, bounded, ticks) {
-        Ok(journal) => Ok(journal),
-        Err(NoMemory) => Err(RunFault::NoMemory),
-    }
+    Ok(run(alloc, program, setup, plan, correct, bounded, ticks)?)
 }
 
 fn is_fit(program: &Checked, setup: &Setup, correct: NodeSet, bounded: &Bounded) -> bool

@@ -25,7 +25,6 @@ use Rattle.step_code.proofs.room.Room.TheSendSync as room
 use Rattle.step_machine.proofs.event.Name.TheSendSync as name
 use Rattle.step_machine.proofs.held.Held.TheSendSync as held
 use Rattle.step_machine.proofs.origin.Origin.TheSendSync as origin
-use Rattle.step_machine.proofs.sealed.Sealed.TheSendSync as sealed
 use Rattle.step_machine.proofs.spoken.Spoken.TheSendSync as spoken
 use Rattle.step_machine.specs.contracts.node.Node as node
 use Rattle.step_machine.proofs.event.Event.TheSendSync as event

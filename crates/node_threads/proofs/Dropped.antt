@@ -1,5 +1,5 @@
 -- Lists whose first elements are left out.
-use Rattle.std.proofs.Common.{◌≡◌, ℕ, zero, suc, ◌+◌, ◌<◌, ◌≤◌, List, [], ◌∷◌, ◌++◌, drop, take, length, ap, sym, ◌∙◌, refl, arith, subst}
+use Rattle.std.proofs.Common.{◌≡◌, ℕ, zero, suc, ◌+◌, ◌≤◌, List, [], ◌∷◌, ◌++◌, drop, take, length, ap, sym, ◌∙◌, refl, arith}
 use Rattle.std.proofs.lemmas.List.{drop-append-le, drop-take, length-take-le}
 use Rattle.std.proofs.Math.Seq.{drop-nil}
 use Rattle.std.specs.List.{insert, remove}

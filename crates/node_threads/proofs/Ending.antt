@@ -6,7 +6,7 @@ use Rattle.std.proofs.lemmas.List.{get_or_append_left, get_or_push, length_push}
 use Rattle.std.proofs.lemmas.List.Elements.{All-get_or}
 use Rattle.adversary.specs.Driving.{ClosedAreDue}
 use Rattle.locked_buffers.specs.Accounts.{AccountsAgree, IsAccountOf}
-use Rattle.locked_buffers.specs.Seats.{Account, IsDueBy, Told, round_by}
+use Rattle.locked_buffers.specs.Seats.{Account, Told, round_by}
 use Rattle.round_meaning.specs.Agreement.{HasDecided, RunsAlgorithm1}
 use Rattle.round_meaning.specs.Algorithm1.{dls1}
 use Rattle.round_meaning.specs.Rounds.{algorithm_of, rounds}
@@ -16,10 +16,10 @@ use Rattle.round_lang.specs.Syntax.{ProgramTree}
 use Rattle.round_lang.specs.declared.value.Value.{Value}
 use Rattle.round_meaning.specs.declared.setup.Setup.{Setup}
 use Rattle.schedule_text.specs.declared.pace.Stop.{Stop}
-use Rattle.step_book.specs.Agreed.{IsDueRound, JournalAgrees, state_in}
+use Rattle.step_book.specs.Agreed.{JournalAgrees, state_in}
 use Rattle.step_book.specs.Agreement.{row}
 use Rattle.step_book.specs.History.{omits_of}
-use Rattle.step_book.specs.Log.{IsDue, Log, Recorded, count_of, history, round_of, world_of}
+use Rattle.step_book.specs.Log.{Log, Recorded, count_of, history, round_of, world_of}
 use Rattle.step_book.specs.declared.mark.Mark.{Mark}
 use Rattle.step_machine.specs.declared.event.Event.{Event}
 use Rattle.step_machine.specs.declared.event.Name.{Name}

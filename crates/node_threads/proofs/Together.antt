@@ -1,6 +1,6 @@
 -- A seat and its node, step by step.
 use Rattle.std.specs.Prelude.{replicate}
-use Rattle.std.proofs.Common.{◌≡◌, ℕ, suc, None, refl, ◌+◌, ◌<◌, ◌≤◌, List, [], ◌∷◌, ◌++◌, length, ap, subst, sym}
+use Rattle.std.proofs.Common.{◌≡◌, ℕ, suc, None, refl, ◌+◌, ◌<◌, List, [], ◌∷◌, ◌++◌, length, ap, subst, sym}
 use Rattle.std.proofs.Common.{◌∙◌, arith, length-append}
 use Rattle.round_lang.specs.declared.value.Value.{Value}
 use Rattle.round_lang.specs.Syntax.{ProgramTree}

@@ -1,17 +1,20 @@
 //! What a node's thread does, over whatever answers its calls.
 ghost use Rattle.std.specs.Option.{ForSome};
-ghost use Rattle.std.specs.Prelude.{◌≡◌, ◌+◌, ◌<◌, ◌≤◌, OnOk};
+ghost use Rattle.std.specs.Prelude.{◌≡◌, ◌↔◌, ◌+◌, ◌<◌, ◌≤◌, OnOk};
 ghost use Rattle.round_meaning.specs.Setups.{max_rounds};
 ghost use Rattle.locked_buffers.specs.Seats.{round_by};
 ghost use Rattle.node_threads.specs.Bodies.{IsEnded, IsInPlace, IsPlanned, IsTogether};
 ghost use Rattle.node_threads.specs.declared.body.Halt.TheVariants as halt;
+ghost use Rattle.locked_buffers.specs.declared.fault.PostFault.TheVariants as post;
+ghost use Rattle.step_book.specs.declared.fault.CloseFault.TheVariants as close;
+ghost use Rattle.step_book.specs.declared.fault.SendFault.TheVariants as send;
 
 use crate::ended::Ended;
 use crate::stops::is_stop;
 use locked_buffers::{Gate, Mail, Point, PostFault, Seat};
 use round_lang::NoMemory;
 use slot_plans::Plan;
-use step_book::{CloseFault, SendFault, take_all};
+use step_book::{CloseFault, Refused, SendFault, take_all};
 use step_machine::{Name, Node};
 
 /// Why a thread can't go on: out of memory, or a call was refused for another cause.
@@ -26,6 +29,39 @@ impl From<NoMemory> for Halt {
 
     fn from(_error: NoMemory) -> Halt {
         Halt::NoMemory
+    }
+}
+
+impl From<Refused> for Halt {
+    ghost from_gives = { λ refused e. (e ≡ halt.NoMemory) ↔ (refused.fault ≡ send.NoMemory) };
+
+    fn from(refused: Refused) -> Halt {
+        match refused.fault {
+            SendFault::NoMemory => Halt::NoMemory,
+            _ => Halt::Refused,
+        }
+    }
+}
+
+impl From<PostFault> for Halt {
+    ghost from_gives = { λ fault e. (e ≡ halt.NoMemory) ↔ (fault ≡ post.NoMemory) };
+
+    fn from(fault: PostFault) -> Halt {
+        match fault {
+            PostFault::NoMemory => Halt::NoMemory,
+            _ => Halt::Refused,
+        }
+    }
+}
+
+impl From<CloseFault> for Halt {
+    ghost from_gives = { λ fault e. (e ≡ halt.NoMemory) ↔ (fault ≡ close.NoMemory) };
+
+    fn from(fault: CloseFault) -> Halt {
+        match fault {
+            CloseFault::NoMemory => Halt::NoMemory,
+            _ => Halt::Refused,
+        }
     }
 }
 
@@ -62,19 +98,9 @@ fn send_step<P: Plan, M: Mail<P>, G: Gate>(
     };
     gate.pass(Point::Prepare(name));
     let prepared = node.prepare(dest)?;
-    match mail.send(seat, prepared) {
-        Ok(()) => {}
-        Err(refused) => return Err(halt_of_send(refused.fault)),
-    }
+    mail.send(seat, prepared)?;
     gate.pass(Point::Sent(name));
     Ok(())
-}
-
-fn halt_of_send(fault: SendFault) -> Halt {
-    match fault {
-        SendFault::NoMemory => Halt::NoMemory,
-        _ => Halt::Refused,
-    }
 }
 
 /// A receive step: the node takes what was handed out.
@@ -84,14 +110,9 @@ fn receive_step<P: Plan, M: Mail<P>>(mail: &M, seat: &mut Seat, node: &mut Node)
     ensures states { OnOk result (seat.new.states ≡ seat.old.states) }
     ensures together { OnOk result (IsTogether (M.run mail.now) seat.new node.new) }
 {
-    match mail.receive(seat) {
-        Ok(took) => {
-            take_all(node, took.frames);
-            Ok(())
-        }
-        Err(PostFault::NoMemory) => Err(Halt::NoMemory),
-        Err(_) => Err(Halt::Refused),
-    }
+    let took = mail.receive(seat)?;
+    take_all(node, took.frames);
+    Ok(())
 }
 
 /// The end of the due round.
@@ -111,11 +132,7 @@ fn close_round<P: Plan, M: Mail<P>, G: Gate>(
     let round = node.round();
     gate.pass(Point::Finish { node: me, round });
     let finished = node.finish();
-    match mail.close(seat, &finished) {
-        Ok(()) => {}
-        Err(CloseFault::NoMemory) => return Err(Halt::NoMemory),
-        Err(_) => return Err(Halt::Refused),
-    }
+    mail.close(seat, &finished)?;
     node.settle();
     gate.pass(Point::Closed { node: me, round });
     Ok(())

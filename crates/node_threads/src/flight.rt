@@ -7,10 +7,10 @@ use std::alloc::Global;
 use std::marker::Model;
 use step_machine::InFlight;
 
-/// So many entries that are gone are kept at least.
+/// How many entries must be gone before their room is given back.
 const FEWEST: usize = 64;
 
-/// A list of copies in flight, whose first is let go at once, whatever its length.
+/// A list of copies in flight, whose first entry is removed in constant time.
 #[derive(Drop)]
 pub(crate) struct Flight {
     entries: Vec<InFlight>,

@@ -2,15 +2,16 @@
 use Rattle.std.proofs.Common.{◌≡◌, ℕ, ◌+◌, ◌<◌, ◌≤◌, true, false, List, [], ◌∷◌, ◌++◌, length}
 use Rattle.std.proofs.Common.{get_or, take, drop, reverse, sym, subst, refl, ap, ◌∙◌, arith, ◌⊎◌}
 use Rattle.std.proofs.Common.{inl, inr}
-use Rattle.std.proofs.lemmas.Bool.{cases_Bool, cases_lt, eqb-true}
+use Rattle.std.proofs.lemmas.Bool.{cases_Bool, cases_lt}
 use Rattle.std.proofs.lemmas.List.{length-reverse, length-take-le, reverse-append, take-append-drop}
 use Rattle.std.proofs.lemmas.List.{take_more}
 use Rattle.step_machine.specs.declared.event.Event.{Event}
-use Rattle.step_machine.specs.declared.event.Event.TheVariants.{Step, Release, Drop, Copy}
+use Rattle.step_machine.specs.declared.event.Event.TheVariants.{Step}
 use Rattle.step_book.specs.Trace.{is_step, steps}
 use Rattle.step_book.proofs.Events.{pushed}
 use Rattle.step_book.proofs.Moments.{At, Newest, Older}
 use Rattle.step_book.proofs.Places.{steps_at, steps_other, steps_grow}
+use Rattle.step_book.proofs.Placed.{step_event}
 
 -- the steps up to an event are steps of the history
 steps_to : (i : ℕ) (e : Event) (m t : List Event) → At m e t → steps i (e ∷ m) ≤ steps i t
@@ -27,12 +28,6 @@ pub record StepAt (i x : ℕ) (t : List Event) : Type 0 where
   pub stands : At moment (Step i) t
   pub number : steps i moment ≡ x
 
-is_own : (i : ℕ) (e : Event) → is_step i e ≡ true → e ≡ Step i
-is_own i (Step k) h = ap Step (eqb-true k i h)
-is_own i (Release n) h = cc
-is_own i (Drop n) h = cc
-is_own i (Copy n) h = cc
-
 later_step : (i x : ℕ) (e : Event) (t : List Event) → StepAt i x t → StepAt i x (e ∷ t)
 later_step i x e t a = record { moment = a.moment; stands = Older e t a.stands; number = a.number }
 
@@ -41,7 +36,7 @@ newest_step i x e t own n = subst (λ z. StepAt i x (z ∷ t)) (sym own) (record
 
 step_at_by : (i x : ℕ) (e : Event) (t : List Event) → x < steps i (e ∷ t) → (x < steps i t → StepAt i x t) → (is_step i e ≡ true) ⊎ (is_step i e ≡ false) → (x < steps i t) ⊎ (steps i t ≤ x) → StepAt i x (e ∷ t)
 step_at_by i x e t l past c (inl old) = later_step i x e t (past old)
-step_at_by i x e t l past (inl own) (inr new) = newest_step i x e t (is_own i e own) (let n = steps_at i e t own in omega arith)
+step_at_by i x e t l past (inl own) (inr new) = newest_step i x e t (step_event i e own) (let n = steps_at i e t own in omega arith)
 step_at_by i x e t l past (inr other) (inr new) = absurd (let n = steps_other i e t other in omega arith)
 
 pub step_at : (i x : ℕ) (t : List Event) → x < steps i t → StepAt i x t

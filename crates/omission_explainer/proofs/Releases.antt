@@ -2,51 +2,26 @@
 use Rattle.std.proofs.Common.{◌≡◌, ℕ, zero, suc, ◌<◌, ◌≤◌, Bool, true, false, if◌then◌else◌, List}
 use Rattle.std.proofs.Common.{Option, Some, None, min, sym, refl, ap, ◌∙◌, arith, ◌⊎◌, inl, inr}
 use Rattle.std.specs.Prelude.{option_map, reverse}
-use Rattle.std.specs.List.{slice_get}
 use Rattle.std.specs.Option.{unwrap_or}
-use Rattle.std.proofs.lemmas.Bool.{cases_lt, cases_order}
+use Rattle.std.proofs.lemmas.Bool.{cases_lt}
 use Rattle.std.proofs.lemmas.Option.{same_Some}
 use Rattle.round_lang.specs.declared.value.Value.{Value}
 use Rattle.step_machine.specs.declared.event.Event.{Event}
-use Rattle.step_machine.specs.declared.event.Event.TheVariants.{Release, Drop}
 use Rattle.step_machine.specs.declared.event.Name.{Name}
 use Rattle.step_machine.specs.Sealed.{original}
 use Rattle.step_book.specs.declared.mark.Mark.{Mark}
 use Rattle.step_book.specs.Fates.{Fate, Unmade, Moving, Waiting, Taken, Lost, fate}
 use Rattle.step_book.specs.History.{counted, marked, message}
-use Rattle.step_book.specs.Places.{Copied, IsCopyAt, IsDropAt, IsFirstAfter, IsLeftAt, IsMadeAt}
-use Rattle.step_book.specs.Places.{IsReleaseAt, IsSlotAt, Sent, steps_before}
+use Rattle.step_book.specs.Places.{Copied, IsLeftAt, IsMadeAt}
+use Rattle.step_book.specs.Places.{IsSlotAt, Sent, steps_before}
 use Rattle.step_book.specs.Trace.{steps}
 use Rattle.step_book.specs.World.{World, lies_near}
 use Rattle.step_book.proofs.Fates.{LetIn, let_in, let_near}
 use Rattle.step_book.proofs.Kept.{mark_is}
-use Rattle.step_book.proofs.Placed.{Placed, made_found, placed, slot_one}
+use Rattle.step_book.proofs.Placed.{Placed, first_one, made_found, made_one, placed, release_drop, slot_one}
 use Rattle.omission_explainer.specs.Lateness.{copy_open_until, is_spoken, least_copy, marks_of}
 use Rattle.omission_explainer.specs.Lateness.{open_until}
 use Rattle.omission_explainer.specs.Verdict.{IsLetInAt}
-
--- ---- one place
-
-one_place : (p q : ℕ) → (p < q → ⊥) → (q < p → ⊥) → p ≡ q
-one_place p q a b = by (cases_order p q)
-  where
-    by : (p ≡ q) ⊎ ((p < q) ⊎ (q < p)) → p ≡ q
-    by (inl same) = same
-    by (inr (inl low)) = absurd (a low)
-    by (inr (inr high)) = absurd (b high)
-
--- the first place of a kind is one
-first_one : (Is : ℕ → Type 0) (a b c d : ℕ) → a ≡ c → IsFirstAfter Is a b → IsFirstAfter Is c d → b ≡ d
-first_one Is a b c d e f g =
-    one_place b d (λ l. g.none b (let m = f.later in omega arith) l f.there) (λ l. f.none d (let m = g.later in omega arith) l g.there)
-
--- a copy is made at one place
-made_one : (w : World) (t : List Event) (n : Name) (p q : ℕ) → IsMadeAt w (reverse t) n p → IsMadeAt w (reverse t) n q → p ≡ q
-made_one w t n p q (Sent a h) (Sent b g) = slot_one w t n p q h g
-made_one w t n p q (Sent a h) (Copied b g) = absurd (omega arith)
-made_one w t n p q (Copied a h) (Sent b g) = absurd (omega arith)
-made_one w t n p q (Copied a h) (Copied b g) =
-    first_one (IsCopyAt (reverse t) n) h.slot p g.slot q (slot_one w t n h.slot g.slot h.sent g.sent) h.first g.first
 
 -- ---- the step count of its receiver when a copy was let in
 
@@ -57,12 +32,6 @@ let_in_of Moving = None
 let_in_of (Waiting x) = Some x
 let_in_of (Taken x c) = Some x
 let_in_of Lost = None
-
-release_drop : (trace : List Event) (n : Name) (p q : ℕ) → p ≡ q → IsReleaseAt trace n p → IsDropAt trace n q → ⊥
-release_drop trace n p q e h k =
-    let both : ◌≡◌ {A = Option Event} (Some (Release n)) (Some (Drop n)) = sym h ∙ ap (slice_get trace) e ∙ k in
-    let same = same_Some (Release n) (Drop n) both in
-    cc
 
 module _ (w : World) (t : List Event) (n : Name) where
   found_by : (b : ℕ) (f : Fate) → IsLetInAt w (reverse t) n b → fate w t n ≡ f → Placed w (reverse t) n f → let_in_of f ≡ Some (steps_before (reverse t) n.to b)

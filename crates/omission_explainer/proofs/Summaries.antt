@@ -8,14 +8,14 @@ use Rattle.std.proofs.lemmas.List.{take_all, take_more}
 use Rattle.std.proofs.lemmas.List.Sums.{fold-append}
 use Rattle.std.proofs.lemmas.List.Elements.{All-head, All-tail}
 use Rattle.round_lang.specs.Syntax.{ProgramTree}
-use Rattle.round_meaning.specs.Agreement.{HasDecided}
+use Rattle.round_meaning.specs.Agreement.{HasDecided, RunsAlgorithm1}
 use Rattle.round_meaning.specs.Algorithm1.{dls1}
 use Rattle.round_meaning.specs.Rounds.{algorithm_of, rounds}
 use Rattle.round_meaning.specs.Turn.{decision}
 use Rattle.round_meaning.specs.declared.setup.Setup.{Setup}
 use Rattle.round_meaning.proofs.Consensus.{decisions_agree, decisions_are_inputs}
 use Rattle.omission_explainer.specs.Decided.{AreOfRun, IsDecided, IsNeverSplit, IsOfRun, IsSummary}
-use Rattle.omission_explainer.specs.Decided.{RunsAgree, summary_of, with_decision}
+use Rattle.omission_explainer.specs.Decided.{AreAgreed, AreInputs, summary_of, with_decision}
 use Rattle.omission_explainer.specs.Rows.{ClosedRound}
 use Rattle.omission_explainer.specs.declared.summary.Decided.{Decided}
 use Rattle.omission_explainer.specs.declared.summary.Decided.TheVariants as d
@@ -118,7 +118,9 @@ found p s omits e (row ∷ rows) all v (inl x) =
     )
 found p s omits e (row ∷ rows) all v (inr x) = found p s omits e rows (All-tail (IsOfRun p s omits) row rows all) v x
 
-pub runs_agree : (rows : List ClosedRound) → RunsAgree rows
+-- rows of a run of Algorithm 1 agree, and their decisions are inputs
+pub runs_agree : (rows : List ClosedRound) (p : ProgramTree) (s : Setup) (omits : ℕ → ℕ → ℕ → Bool) → RunsAlgorithm1 p s
+    → AreOfRun p s omits rows → AreAgreed rows × AreInputs s rows
 runs_agree rows p s omits runs all = (
   λ v u x y.
       let a = found p s omits runs.0 rows all v x in

@@ -53,12 +53,6 @@ AreAgreed rows = (v u : ℕ) → IsDecided rows v → IsDecided rows u → v ≡
 abbrev pub AreInputs : Setup → List ClosedRound → Type 0
 AreInputs s rows = (v : ℕ) → IsDecided rows v → IsInput s v
 
--- rows of a run of Algorithm 1 agree, and their decisions are inputs
-abbrev pub RunsAgree : List ClosedRound → Type 0
-RunsAgree rows =
-    (p : ProgramTree) (s : Setup) (omits : ℕ → ℕ → ℕ → Bool) → RunsAlgorithm1 p s
-    → AreOfRun p s omits rows → AreAgreed rows × AreInputs s rows
-
 -- the summary of such rows isn't Split
 abbrev pub IsNeverSplit : List ClosedRound → Decided → Type 0
 IsNeverSplit rows all =

@@ -70,7 +70,7 @@ place row = (row.round, row.node)
 abbrev pub count_in : Log → ℕ → ℕ × ℕ
 count_in v i = (count_of v i, round_of v i - 1)
 
--- so of each node
+-- of each node, how many steps it took, and how many of its rounds are closed
 abbrev pub counts_in : Log → List (ℕ × ℕ)
 counts_in v = map (count_in v) (range_with_len 0 v.setup.nodes)
 

@@ -16,7 +16,7 @@ pub record Tells (written : Option (List ℕ)) (kept : List ℕ) (written_now : 
   pub wrote : Appends written written_now gone
   pub joined : gone ++ kept_now ≡ kept ++ bytes
 
--- A text is that of a set's members, of two digits and a comma each at most.
+-- The text lists a set's members, separated by commas, in at most 192 bytes.
 pub record Spells (text : List ℕ) (set : ℕ) : Type 0 where
   pub is : text ≡ numbers_text (members set)
   pub short : length text ≤ 192

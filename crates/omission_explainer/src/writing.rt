@@ -45,7 +45,8 @@ pub fn write_report<W: Write>(report: &Report, out: &mut W) -> io::Result<()>
     out.write_all(text.as_slice())
 }
 
-/// The sets that were written last. Those of nodes and those of values don't take turns.
+/// The sets that were written last: one of nodes and one of values, so that neither takes the
+/// other's place.
 #[derive(Drop)]
 struct SpeltSets {
     nodes: SpeltSet,

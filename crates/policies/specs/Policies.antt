@@ -49,11 +49,11 @@ pub record HoardChooses (count : ℕ) (flight : List InFlight)
 abbrev pub table_delay : Bounded → InFlight → ℕ
 table_delay b m = max (round_entry b.delays m.serial 1) 1
 
--- its delay: within the bound where it was sent at `gst` or later
+-- the delay of a message: within the bound where it was sent at `gst` or later
 abbrev pub delay_of : Bounded → InFlight → ℕ
 delay_of b m = if ltb m.sent_at b.gst then table_delay b m else min (table_delay b m) b.delta
 
--- the tick from which on it's released
+-- the tick from which on the message is released
 abbrev pub due_at : Bounded → InFlight → ℕ
 due_at b m = m.sent_at + delay_of b m
 

@@ -23,13 +23,6 @@ impl Table {
         Table { entries }
     }
 
-    pub fn into_vec(self) -> Vec<u32>
-        ensures { result.items ≡ self }
-    {
-        let Table { entries } = self;
-        entries
-    }
-
     pub fn as_slice(&self) -> &[u32]
         ensures { result.now ≡ self.now }
     {

@@ -7,11 +7,11 @@ use Rattle.round_lang.specs.Syntax.{BlockTree, ProgramTree}
 use Rattle.round_lang.specs.Words.{kind_for}
 use Rattle.round_check.specs.Types.{kind_type}
 
--- those of a state, a kind for each variable
+-- the kinds of a state's values, one for each variable
 abbrev pub state_kinds : ProgramTree → List Kind
 state_kinds p = map (λ (v : Variable). kind_for p.values (kind_type v.kind)) p.variables
 
--- those of a block's messages, a kind for each field
+-- the kinds of the values of a block's messages, one for each field
 abbrev pub block_kinds : ℕ → BlockTree → List Kind
 block_kinds k b = map (λ (f : Field). kind_for k f.ty) b.fields
 

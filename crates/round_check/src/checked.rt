@@ -82,7 +82,7 @@ impl Checked {
         self.shaped.messages.get(block)
     }
 
-    /// The same program; the text of it is shared.
+    /// The same program; its tree and its shapes are shared.
     pub fn copy(&self) -> Result<Checked, NoMemory>
         ensures { IfOk result (λ checked. checked ≡ self.now) }
     {

@@ -1,6 +1,7 @@
 -- Reading a block is its rule.
 use Rattle.std.proofs.Common.{◌≡◌, ℕ, suc, ◌<◌, ◌≤◌, true, false, List, [], ◌∷◌, length, Some, refl}
 use Rattle.std.proofs.Common.{sym, ap, ◌∙◌, subst, arith}
+use Rattle.std.proofs.lemmas.Option.{same_Some}
 use Rattle.round_lang.specs.declared.token.Mark.TheVariants as m
 use Rattle.round_lang.specs.declared.block.Field.{Field}
 use Rattle.round_lang.specs.declared.block.Assignment.{Assignment}
@@ -14,7 +15,7 @@ use Rattle.round_lang.specs.Source as g
 use Rattle.round_lang.specs.Reading.{◌>>=◌, after, number_at, begins_with, begins_name, formula}
 use Rattle.round_lang.specs.Parts.{any_assignment, fields, sent, assignments, head, sending}
 use Rattle.round_lang.specs.Parts.{on_message, ending, block, any_block}
-use Rattle.round_lang.proofs.Steps.{some_then, some_is, after_is, number_is}
+use Rattle.round_lang.proofs.Steps.{some_then, after_is, number_is}
 use Rattle.round_lang.proofs.Sound.{formula_good}
 use Rattle.round_lang.proofs.Ends.{ends_at_comma, ends_at_close, ends_at_colon}
 use Rattle.round_lang.proofs.Complete.{formula_found, number_found}
@@ -82,7 +83,7 @@ head_good ws n fs rest e =
     let p = number_is 0 max_number ws v.0.0 v.0.1 v.1 in
     let good = fields_good c.0 l.0.0 l.0.1 l.1 in
     let reads' : Listed IsField l.0.0 c.0 (mark m.Close ∷ r.0) = subst (λ (v : List Lexeme). Listed IsField l.0.0 c.0 v) (after_is m.Close l.0.1 r.0 r.1) good.0 in
-    subst (λ (v : ℕ × List Field × List Lexeme). HeadGood ws v.0 v.1 v.2) (some_is (v.0.0, l.0.0, r.0) (n, fs, rest) r.2) (record {
+    subst (λ (v : ℕ × List Field × List Lexeme). HeadGood ws v.0 v.1 v.2) (same_Some (v.0.0, l.0.0, r.0) (n, fs, rest) r.2) (record {
       digits = p.digits;
       value = p.value;
       small = p.most;
@@ -113,7 +114,7 @@ sending_good ws t ts rest e =
     let colon = after_is m.Colon v.0.1 c.0 c.1 ∙ ap (λ (u : List Lexeme). mark m.Colon ∷ u) (after_is m.Open c.0 o.0 o.1) in
     let condition' : IsExpr v.0.0 b.0 (mark m.Colon ∷ mark m.Open ∷ o.0) = subst (λ (u : List Lexeme). IsExpr v.0.0 b.0 u) colon (formula_good b.0 v.0.0 v.0.1 v.1) in
     let reads' : Listed IsExpr l.0.0 o.0 (mark m.Close ∷ r.0) = subst (λ (u : List Lexeme). Listed IsExpr l.0.0 o.0 u) (after_is m.Close l.0.1 r.0 r.1) (sent_good o.0 l.0.0 l.0.1 l.1) in
-    subst (λ (v : Tree × List Tree × List Lexeme). SendingGood ws v.0 v.1 v.2) (some_is (v.0.0, l.0.0, r.0) (t, ts, rest) r.2) (record {
+    subst (λ (v : Tree × List Tree × List Lexeme). SendingGood ws v.0 v.1 v.2) (same_Some (v.0.0, l.0.0, r.0) (t, ts, rest) r.2) (record {
       front = b.0;
       middle = o.0;
       is = after_is m.Send ws a.0 a.1 ∙ ap (λ (u : List Lexeme). mark m.Send ∷ u) (after_is m.When a.0 b.0 b.1);
@@ -156,7 +157,7 @@ block_good ws b rest e =
     let ons' : Many IsAssign o.0.0 og.0 (mark m.End ∷ mark m.Colon ∷ ng.0) = subst (λ (u : List Lexeme). Many IsAssign o.0.0 og.0 u) ng.1 og.2 in
     let b2 : BlockTree = made_of h.0.0 h.0.1 s.0.0 s.0.1 o.0.0 n.0.0 in
     let made : IsBlock b2 (mark m.At ∷ number hg.digits ∷ mark m.Colon ∷ mark m.Message ∷ mark m.Open ∷ hg.front) n.0.1 = g.block hg.value hg.small fields' hg.few sg.condition sent' ons' ng.2 in
-    subst (λ (v : BlockTree × List Lexeme). IsBlock v.0 (mark m.At ∷ ws) v.1) (some_is (b2, n.0.1) (b, rest) n.2)
+    subst (λ (v : BlockTree × List Lexeme). IsBlock v.0 (mark m.At ∷ ws) v.1) (same_Some (b2, n.0.1) (b, rest) n.2)
     (subst (λ (u : List Lexeme). IsBlock b2 (mark m.At ∷ u) n.0.1) (sym hg.is) made)
 
 -- ---- and back

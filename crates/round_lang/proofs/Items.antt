@@ -2,6 +2,7 @@
 use Rattle.std.proofs.Common.{◌≡◌, ℕ, ◌+◌, ◌<◌, ◌≤◌, true, false, cond, ltb, List, ◌∷◌, length}
 use Rattle.std.proofs.Common.{Some, None, refl, sym, ap, ◌∙◌, subst, arith, lt-ltb}
 use Rattle.std.proofs.lemmas.Bool.{ltb-true}
+use Rattle.std.proofs.lemmas.Option.{same_Some}
 use Rattle.round_lang.specs.declared.expr.Ty.{Ty}
 use Rattle.round_lang.specs.declared.expr.BinaryOperator.TheVariants as binary
 use Rattle.round_lang.specs.declared.token.Mark.TheVariants as m
@@ -21,7 +22,7 @@ use Rattle.round_lang.specs.Reading.{begins_name, formula}
 use Rattle.round_lang.specs.Parts.{counted_name, field, assignment, any_assignment, any_formula}
 use Rattle.round_lang.specs.Parts.{state, input, decide, begins_declaration, declaration}
 use Rattle.round_lang.specs.Parts.{variable_count}
-use Rattle.round_lang.proofs.Steps.{some_then, guard_some, some_is, after_is, after_equal_is}
+use Rattle.round_lang.proofs.Steps.{some_then, guard_some, after_is, after_equal_is}
 use Rattle.round_lang.proofs.Steps.{name_is, type_is}
 use Rattle.round_lang.proofs.Sound.{formula_good}
 use Rattle.round_lang.proofs.Ends.{Ends, ends_at_semicolon, ends_at_state, ends_at_input}
@@ -55,7 +56,7 @@ unfolding counted_name
 counted_is count most ws x rest e =
     let o = some_then (name_at ws) (λ x. cond (ltb count most) (Some x) None) (x, rest) e in
     let p = guard_some (ltb count most) (Some o.0) (x, rest) o.2 in
-    let same = some_is o.0 (x, rest) p.1 in
+    let same = same_Some o.0 (x, rest) p.1 in
     let named = name_is ws x rest (o.1 ∙ ap (λ (v : List ℕ × List Lexeme). Some v) same) in
     record { is = named.0; short = named.1; few = ltb-true count most p.0 }
 
@@ -79,7 +80,7 @@ field_good count ws f rest e =
     let ws-is : ws ≡ name x.0.0 ∷ mark m.Colon ∷ kind ty.0.0 ∷ ty.0.1 =
     named.is ∙ ap (λ (v : List Lexeme). name x.0.0 ∷ v) (after_is m.Colon x.0.1 o.0 o.1 ∙ ap (λ (v : List Lexeme). mark m.Colon ∷ v) (type_is o.0 ty.0.0 ty.0.1 ty.1)) in
     let made : IsField (record { name = x.0.0; ty = ty.0.0 }) ws ty.0.1 = subst (λ (v : List Lexeme). IsField (record { name = x.0.0; ty = ty.0.0 }) v ty.0.1) (sym ws-is) (g.field named.short) in
-    (subst (λ (v : Field × List Lexeme). IsField v.0 ws v.1) (some_is (record { name = x.0.0; ty = ty.0.0 }, ty.0.1) (f, rest) ty.2) made, named.few)
+    (subst (λ (v : Field × List Lexeme). IsField v.0 ws v.1) (same_Some (record { name = x.0.0; ty = ty.0.0 }, ty.0.1) (f, rest) ty.2) made, named.few)
 
 field_found : (count : ℕ) {f : Field} {ws rest : List Lexeme} → IsField f ws rest → count < max_fields → field count ws ≡ Some (f, rest)
 unfolding field type_at after same_mark
@@ -113,7 +114,7 @@ assignment_good ws a rest e =
     let ws-is : ws ≡ name x.0.0 ∷ mark m.Assign ∷ o.0 = named.0 ∙ ap (λ (v : List Lexeme). name x.0.0 ∷ v) (after_is m.Assign x.0.1 o.0 o.1) in
     let r : IsExpr t.0.0 o.0 (mark m.Semicolon ∷ c.0) = subst (λ (v : List Lexeme). IsExpr t.0.0 o.0 v) (after_is m.Semicolon t.0.1 c.0 c.1) (formula_good o.0 t.0.0 t.0.1 t.1) in
     let made : IsAssign (record { target = x.0.0; formula = t.0.0 }) ws c.0 = subst (λ (v : List Lexeme). IsAssign (record { target = x.0.0; formula = t.0.0 }) v c.0) (sym ws-is) (g.assign named.1 r) in
-    subst (λ (v : Assignment × List Lexeme). IsAssign v.0 ws v.1) (some_is (record { target = x.0.0; formula = t.0.0 }, c.0) (a, rest) c.2) made
+    subst (λ (v : Assignment × List Lexeme). IsAssign v.0 ws v.1) (same_Some (record { target = x.0.0; formula = t.0.0 }, c.0) (a, rest) c.2) made
 
 assignment_found : {a : Assignment} {ws rest : List Lexeme} → IsAssign a ws rest → assignment ws ≡ Some (a, rest)
 unfolding assignment after same_mark
@@ -158,7 +159,7 @@ state_good count ws a rest e =
     named.is ∙ ap (λ (v : List Lexeme). name x.0.0 ∷ v) (after_is m.Colon x.0.1 o.0 o.1 ∙ ap (λ (v : List Lexeme). mark m.Colon ∷ v) (type_is o.0 ty.0.0 ty.0.1 ty.1 ∙ ap (λ (v : List Lexeme). kind ty.0.0 ∷ v) (after_equal_is ty.0.1 q.0 q.1))) in
     let made : IsDecl made-of (mark m.State ∷ ws) t.0.1 = subst (λ (v : List Lexeme). IsDecl made-of (mark m.State ∷ v) t.0.1) (sym ws-is) (g.state named.short (formula_good q.0 t.0.0 t.0.1 t.1)) in
     let few : 1 + count ≤ max_variables = omega (arith, named.few) in
-    subst (λ (v : Declaration × List Lexeme). DeclGood count v.0 (mark m.State ∷ ws) v.1) (some_is (made-of, t.0.1) (a, rest) t.2) (made, λ le. few)
+    subst (λ (v : Declaration × List Lexeme). DeclGood count v.0 (mark m.State ∷ ws) v.1) (same_Some (made-of, t.0.1) (a, rest) t.2) (made, λ le. few)
 
 input_good : (count : ℕ) (ws : List Lexeme) (a : Declaration) (rest : List Lexeme) → input count ws ≡ Some (a, rest) → DeclGood count a (mark m.Input ∷ ws) rest
 unfolding input
@@ -168,7 +169,7 @@ input_good count ws a rest e =
     let made-of : Declaration = d.Variable (record { name = x.0.0; kind = Input }) in
     let made : IsDecl made-of (mark m.Input ∷ ws) x.0.1 = subst (λ (v : List Lexeme). IsDecl made-of (mark m.Input ∷ v) x.0.1) (sym named.is) (g.input named.short) in
     let few : 1 + count ≤ max_variables = omega (arith, named.few) in
-    subst (λ (v : Declaration × List Lexeme). DeclGood count v.0 (mark m.Input ∷ ws) v.1) (some_is (made-of, x.0.1) (a, rest) x.2) (made, λ le. few)
+    subst (λ (v : Declaration × List Lexeme). DeclGood count v.0 (mark m.Input ∷ ws) v.1) (same_Some (made-of, x.0.1) (a, rest) x.2) (made, λ le. few)
 
 decide_good : (count : ℕ) (ws : List Lexeme) (a : Declaration) (rest : List Lexeme) → decide ws ≡ Some (a, rest) → DeclGood count a (mark m.Decide ∷ ws) rest
 unfolding decide
@@ -176,7 +177,7 @@ decide_good count ws a rest e =
     let x = some_then (name_at ws) (λ x. Some (d.Decide x.0, x.1)) (a, rest) e in
     let named = name_is ws x.0.0 x.0.1 x.1 in
     let made : IsDecl (d.Decide x.0.0) (mark m.Decide ∷ ws) x.0.1 = subst (λ (v : List Lexeme). IsDecl (d.Decide x.0.0) (mark m.Decide ∷ v) x.0.1) (sym named.0) (g.decide named.1) in
-    subst (λ (v : Declaration × List Lexeme). DeclGood count v.0 (mark m.Decide ∷ ws) v.1) (some_is (d.Decide x.0.0, x.0.1) (a, rest) x.2) (made, λ le. omega (arith, le))
+    subst (λ (v : Declaration × List Lexeme). DeclGood count v.0 (mark m.Decide ∷ ws) v.1) (same_Some (d.Decide x.0.0, x.0.1) (a, rest) x.2) (made, λ le. omega (arith, le))
 
 declaration_good : (count : ℕ) (ws : List Lexeme) (a : Declaration) (rest : List Lexeme) → declaration count ws ≡ Some (a, rest) → DeclGood count a ws rest
 unfolding declaration

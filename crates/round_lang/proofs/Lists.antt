@@ -1,6 +1,7 @@
 -- Items behind a mark, and lists of items with commas between them.
 use Rattle.std.proofs.Common.{◌≡◌, ℕ, suc, ◌+◌, ◌<◌, ◌≤◌, Bool, true, false, cond, List, [], ◌∷◌}
 use Rattle.std.proofs.Common.{length, Option, Some, None, refl, sym, ap, ◌∙◌, subst, arith}
+use Rattle.std.proofs.lemmas.Option.{same_Some}
 use Rattle.round_lang.specs.declared.token.Mark.{Mark}
 use Rattle.round_lang.specs.declared.token.Mark.TheVariants as m
 use Rattle.round_lang.specs.Lexemes.{Lexeme, mark, same_mark}
@@ -8,7 +9,7 @@ use Rattle.round_lang.specs.Source.{Many, After, Listed}
 use Rattle.round_lang.specs.Source as g
 use Rattle.round_lang.specs.Reading.{◌>>=◌, Part, after, begins_with}
 use Rattle.round_lang.specs.Parts.{behind_comma, others, listed}
-use Rattle.round_lang.proofs.Steps.{some_then, some_is, mark_same, mark_itself, after_is}
+use Rattle.round_lang.proofs.Steps.{some_then, mark_same, mark_itself, after_is}
 use Rattle.round_lang.proofs.Repetition.{ahead, ItemLaws, many_good, many_found, weight_of}
 
 pub begun_is : (sign : Mark) (ws : List Lexeme) → begins_with sign ws ≡ true → (rest : List Lexeme) × (ws ≡ mark sign ∷ rest)
@@ -84,14 +85,14 @@ module _ {A : Type 0} {item : ℕ → Part A} {weight : A → ℕ} {most : ℕ} 
     listed_good ws found rest is = go (begins_with m.Close ws) is
       where
         go : (b : Bool) → list_by b ws ≡ Some (found, rest) → ListGood ws found rest
-        go true is' = subst (λ (v : List A × List Lexeme). ListGood ws v.0 v.1) (some_is ([], ws) (found, rest) is') (record { reads = g.empty; few = omega arith })
+        go true is' = subst (λ (v : List A × List Lexeme). ListGood ws v.0 v.1) (same_Some ([], ws) (found, rest) is') (record { reads = g.empty; few = omega arith })
         go false is' =
             let a = some_then (item 0 ws) (λ a. ahead a.0 (others item weight (weight a.0 + 0) a.1)) (found, rest) is' in
             let r = some_then (others item weight (weight a.0.0 + 0) a.0.1) (λ r. Some (a.0.0 ∷ r.0, r.1)) (found, rest) a.2 in
             let one = laws.good 0 ws a.0.0 a.0.1 a.1 in
             let more = many_good (begins_with m.Comma) (behind_comma item weight) weight most (After m.Comma Item) Follows commas (suc (length a.0.1)) (weight a.0.0 + 0) a.0.1 r.0.0 r.0.1 r.1 in
             let few = more.few in
-            subst (λ (v : List A × List Lexeme). ListGood ws v.0 v.1) (some_is (a.0.0 ∷ r.0.0, r.0.1) (found, rest) r.2)
+            subst (λ (v : List A × List Lexeme). ListGood ws v.0 v.1) (same_Some (a.0.0 ∷ r.0.0, r.0.1) (found, rest) r.2)
             (record { reads = g.some one.0 more.reads; few = omega (arith, few (one.1 (omega arith))) })
 
     listed_on : (b : Bool) (ws xs rest : List Lexeme) (a : A) (found : List A) → b ≡ false → item 0 ws ≡ Some (a, xs) → others item weight (weight a + 0) xs ≡ Some (found, rest)

@@ -1,10 +1,10 @@
 -- Names are ASCII, and the front of a text that begins as one is one.
-use Rattle.std.proofs.Common.{◌≡◌, ℕ, ◌+◌, ◌<◌, Bool, true, false, ◌&&◌, List, [], ◌∷◌, length}
-use Rattle.std.proofs.Common.{take, drop, get_or, refl, arith}
+use Rattle.std.proofs.Common.{◌≡◌, ℕ, ◌+◌, ◌<◌, true, List, [], ◌∷◌, length}
+use Rattle.std.proofs.Common.{take, drop, get_or, arith}
 use Rattle.std.specs.Str.{IsAscii}
 use Rattle.std.specs.List.{list_all, prefix_len}
 use Rattle.std.proofs.Math.Numerals.{one-add}
-use Rattle.std.proofs.lemmas.Bool.{and_from}
+use Rattle.std.proofs.lemmas.Bool.{and_from, and_parts}
 use Rattle.std.proofs.lemmas.Bool.Decides.{nat_tests}
 use Rattle.std.proofs.lemmas.Str.Ascii.{IsAscii-nil, IsAscii-cons}
 use Rattle.round_lang.specs.Tokens.{begins_name, is_in_name, is_name}
@@ -16,18 +16,14 @@ in_name_ascii b h = grind (arith, nat_tests)
 begins_in_name : (b : ℕ) → begins_name b ≡ true → is_in_name b ≡ true
 begins_in_name b h = grind (arith, nat_tests)
 
-both : (a b : Bool) → (a && b) ≡ true → (a ≡ true) × (b ≡ true)
-both true b e = (refl, e)
-both false b e = absurd cc
-
 names_ascii : (bs : List ℕ) → list_all is_in_name bs ≡ true → IsAscii bs
 names_ascii [] h = IsAscii-nil
-names_ascii (b ∷ bs) h = let p = both (is_in_name b) (list_all is_in_name bs) h in IsAscii-cons b bs (in_name_ascii b p.0) (names_ascii bs p.1)
+names_ascii (b ∷ bs) h = let p = and_parts (is_in_name b) (list_all is_in_name bs) h in IsAscii-cons b bs (in_name_ascii b p.0) (names_ascii bs p.1)
 
 pub spelt_ascii : (bs : List ℕ) → is_name bs ≡ true → IsAscii bs
 spelt_ascii [] h = IsAscii-nil
 spelt_ascii (b ∷ bs) h =
-    let p = both (begins_name b) (list_all is_in_name bs) h in
+    let p = and_parts (begins_name b) (list_all is_in_name bs) h in
     IsAscii-cons b bs (in_name_ascii b (begins_in_name b p.0)) (names_ascii bs p.1)
 
 -- the front of a text that begins as a name is spelt as one

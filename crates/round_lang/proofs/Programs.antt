@@ -1,6 +1,7 @@
 -- Reading a program is the grammar, and no words are two programs.
 use Rattle.std.proofs.Common.{◌≡◌, ℕ, suc, ◌≤◌, false, List, [], ◌∷◌, length, Some, refl, sym, ap}
 use Rattle.std.proofs.Common.{◌∙◌, subst, arith}
+use Rattle.std.proofs.lemmas.Option.{same_Some}
 use Rattle.round_lang.specs.declared.token.Mark.TheVariants as m
 use Rattle.round_lang.specs.declared.program.Variable.{Variable}
 use Rattle.round_lang.specs.declared.parsing.level.Level.TheVariants.{Whole}
@@ -14,7 +15,7 @@ use Rattle.round_lang.specs.Source as g
 use Rattle.round_lang.specs.Reading.{◌>>=◌, after, number_at, begins_with, begins_name}
 use Rattle.round_lang.specs.Parts.{items, begins_declaration, declaration, variable_count}
 use Rattle.round_lang.specs.Parts.{declarations, declared, any_block, blocks, all_read, program}
-use Rattle.round_lang.proofs.Steps.{some_then, some_is, after_is, number_is}
+use Rattle.round_lang.proofs.Steps.{some_then, after_is, number_is}
 use Rattle.round_lang.proofs.Ends.{Ends, ends_at_at, ends_at_end}
 use Rattle.round_lang.proofs.Complete.{number_found}
 use Rattle.round_lang.proofs.Repetition.{many_good, many_found, weight_of}
@@ -42,7 +43,7 @@ declared_good ws vs xs rest e =
     let o = some_then (items begins_declaration declaration variable_count 0 ws) (λ ds. Some (variables_of ds.0, decides_of ds.0, ds.1)) (vs, xs, rest) e in
     let p = many_good begins_declaration declaration variable_count max_variables IsDecl (Ends Whole) declaration_laws (suc (length ws)) 0 ws o.0.0 o.0.1 o.1 in
     let few' = p.few (omega arith) in
-    subst (λ (v : Declared). DeclaredGood ws v.0 v.1 v.2) (some_is (variables_of o.0.0, decides_of o.0.0, o.0.1) (vs, xs, rest) o.2)
+    subst (λ (v : Declared). DeclaredGood ws v.0 v.1 v.2) (same_Some (variables_of o.0.0, decides_of o.0.0, o.0.1) (vs, xs, rest) o.2)
     (record { ds = o.0.0; variables = refl; decides = refl; reads = p.reads; few = omega (arith, few', variables_weigh o.0.0) })
 
 declared_found : (ds : List Declaration) (ws rest : List Lexeme) → Many IsDecl ds ws rest → length (variables_of ds) ≤ max_variables → Ends Whole rest → begins_declaration rest ≡ false → declared ws ≡ Some (variables_of ds, decides_of ds, rest)
@@ -81,7 +82,7 @@ at_blocks g.none e = subst AtBlocks (sym e) at_no_block
 at_blocks (g.more r others) e = at_block r
 
 all_read_is : (p q : ProgramTree) (ws : List Lexeme) → all_read p ws ≡ Some q → (ws ≡ []) × (p ≡ q)
-all_read_is p q [] e = (refl, some_is p q e)
+all_read_is p q [] e = (refl, same_Some p q e)
 all_read_is p q (w ∷ ws) e = absurd cc
 
 abbrev made_of : ℕ → ℕ → List Variable → List (List ℕ) → List BlockTree → ProgramTree
@@ -120,4 +121,4 @@ program_found (g.program {k = k} {p = p} {digits = digits} {digits2 = digits2} {
 
 -- no words are two programs
 pub one_program : (ws : List Lexeme) (q r : ProgramTree) → IsProgram q ws → IsProgram r ws → q ≡ r
-one_program ws q r h k = some_is q r (sym (program_found h) ∙ program_found k)
+one_program ws q r h k = same_Some q r (sym (program_found h) ∙ program_found k)

@@ -3,12 +3,13 @@ use Rattle.std.proofs.Common.{◌≡◌, ℕ, zero, suc, ◌+◌, ◌<◌, ◌�
 use Rattle.std.proofs.Common.{◌∷◌, ◌++◌, length, Option, Some, None, refl, sym, ap, ◌∙◌, subst}
 use Rattle.std.proofs.Common.{arith, append_assoc}
 use Rattle.std.proofs.lemmas.List.{append-nil}
+use Rattle.std.proofs.lemmas.Option.{same_Some}
 use Rattle.round_lang.specs.Lexemes.{Lexeme}
 use Rattle.round_lang.specs.Source.{Many}
 use Rattle.round_lang.specs.Source as g
 use Rattle.round_lang.specs.Reading.{◌>>=◌, Part}
 use Rattle.round_lang.specs.Parts.{many, items}
-use Rattle.round_lang.proofs.Steps.{some_then, some_is}
+use Rattle.round_lang.proofs.Steps.{some_then}
 
 -- an item more, or items more, before those that were read
 abbrev pub ahead : {A : Type 0} → A → Option (List A × List Lexeme) → Option (List A × List Lexeme)
@@ -58,14 +59,14 @@ module _ {A : Type 0} (begins : List Lexeme → Bool) (item : ℕ → Part A) (w
     many_by : (n count : ℕ) (ws : List Lexeme) (found : List A) (rest : List Lexeme) → ((count : ℕ) (ws : List Lexeme) (found : List A) (rest : List Lexeme) → many begins item weight n count ws ≡ Some (found, rest) → AllGood count ws found rest)
         → (b : Bool) → begins ws ≡ b → cond b (item count ws >>= λ a. ahead a.0 (many begins item weight n (weight a.0 + count) a.1)) (Some ([], ws)) ≡ Some (found, rest) → AllGood count ws found rest
     many_by n count ws found rest ih false e is =
-        subst (λ (v : List A × List Lexeme). AllGood count ws v.0 v.1) (some_is ([], ws) (found, rest) is) (record { reads = g.none; few = λ le. omega (arith, le); ended = e })
+        subst (λ (v : List A × List Lexeme). AllGood count ws v.0 v.1) (same_Some ([], ws) (found, rest) is) (record { reads = g.none; few = λ le. omega (arith, le); ended = e })
     many_by n count ws found rest ih true e is =
         let a = some_then (item count ws) (λ a. ahead a.0 (many begins item weight n (weight a.0 + count) a.1)) (found, rest) is in
         let r = some_then (many begins item weight n (weight a.0.0 + count) a.0.1) (λ r. Some (a.0.0 ∷ r.0, r.1)) (found, rest) a.2 in
         let one = laws.good count ws a.0.0 a.0.1 a.1 in
         let others = ih (weight a.0.0 + count) a.0.1 r.0.0 r.0.1 r.1 in
         let few = others.few in
-        subst (λ (v : List A × List Lexeme). AllGood count ws v.0 v.1) (some_is (a.0.0 ∷ r.0.0, r.0.1) (found, rest) r.2)
+        subst (λ (v : List A × List Lexeme). AllGood count ws v.0 v.1) (same_Some (a.0.0 ∷ r.0.0, r.0.1) (found, rest) r.2)
         (record { reads = g.more one.0 others.reads; few = λ le. omega (arith, few (one.1 le)); ended = others.ended })
 
     pub many_good : (n count : ℕ) (ws : List Lexeme) (found : List A) (rest : List Lexeme) → many begins item weight n count ws ≡ Some (found, rest) → AllGood count ws found rest

@@ -23,10 +23,6 @@ use Rattle.std.specs.Int.Count.{count_trailing_zeros}
 use Rattle.round_lang.specs.Sets.{is_in, set_of, members, union, inter, minus, everything, only}
 use Rattle.round_lang.specs.Sets.{size, least, first_or}
 
-bit_of : Bool → ℕ
-bit_of true = 1
-bit_of false = 0
-
 -- a bit says whether its place is a member
 pub bit-is_in : (s i : ℕ) → bit_at s i ≡ cond (is_in s i) 1 0
 unfolding is_in

@@ -2,6 +2,7 @@
 use Rattle.std.proofs.Common.{◌≡◌, ℕ, zero, suc, ◌≤◌, max, ltb, List, [], ◌∷◌, length, Option, Some}
 use Rattle.std.proofs.Common.{None, refl, sym, ap, ◌∙◌, subst, arith}
 use Rattle.std.proofs.lemmas.Bool.{ltb-true}
+use Rattle.std.proofs.lemmas.Option.{same_Some}
 use Rattle.round_lang.specs.declared.expr.UnaryOperator.{UnaryOperator}
 use Rattle.round_lang.specs.declared.expr.UnaryOperator.TheVariants as unary
 use Rattle.round_lang.specs.declared.expr.BinaryOperator.{BinaryOperator}
@@ -26,7 +27,7 @@ use Rattle.round_lang.specs.Reading.{closed, indexed, postfixed, called, has, br
 use Rattle.round_lang.specs.Reading.{comprehension, atom_by, atom, choice, chosen, postfixes}
 use Rattle.round_lang.specs.Reading.{products, sums, comparisons, negations, conjunctions}
 use Rattle.round_lang.specs.Reading.{disjunctions, level_at, parse, formula}
-use Rattle.round_lang.proofs.Steps.{some_then, guard_some, some_is, after_is, name_is, number_is}
+use Rattle.round_lang.proofs.Steps.{some_then, guard_some, after_is, name_is, number_is}
 use Rattle.round_lang.proofs.Steps.{operator_is}
 
 -- What nests at most n deep nests at most m deep.
@@ -68,7 +69,7 @@ module _ (n : ℕ) (inner : Level → Reader) (h : (level : Level) (ws : List Le
       → (o : Option (BinaryOperator × List Lexeme)) → operator_at level ws ≡ o → (x : Found) → operand inner (suc n) level next a d ws o ≡ Some x → Good level (suc n) from x
   unfolding operand
   operand_good level next from ws a d whole left le onward None e x is =
-      subst (Good level (suc n) from) (some_is (a, d, ws) x is) (record { reads = whole; within = le })
+      subst (Good level (suc n) from) (same_Some (a, d, ws) x is) (record { reads = whole; within = le })
   operand_good level next from ws a d whole left le onward (Some (op, xs)) e x is =
       let f = λ (b : Found). next (TBinary op a b.0) (suc (max d b.1)) b.2 in
       let p = guard_some (ltb d (suc n)) (inner (tighter level) xs >>= f) x is in
@@ -101,7 +102,7 @@ module _ (n : ℕ) (inner : Level → Reader) (h : (level : Level) (ws : List Le
   compared_good below hb ws x is =
       let b = some_then (below ws) (λ (a : Found). operand inner (suc n) Comparison (found inner (suc n)) a.0 a.1 a.2 (operator_at Comparison a.2)) x is in
       let first = hb ws b.0 b.1 in
-      operand_good Comparison (found inner (suc n)) ws b.0.2 b.0.0 b.0.1 (g.looser first.reads) first.reads first.within (λ a' d' ws' y r le is'. subst (Good Comparison (suc n) ws) (some_is (a', d', ws') y is') (record { reads = r; within = le })) (operator_at Comparison b.0.2) refl x b.2
+      operand_good Comparison (found inner (suc n)) ws b.0.2 b.0.0 b.0.1 (g.looser first.reads) first.reads first.within (λ a' d' ws' y r le is'. subst (Good Comparison (suc n) ws) (same_Some (a', d', ws') y is') (record { reads = r; within = le })) (operator_at Comparison b.0.2) refl x b.2
 
   -- what is made of the words behind a first mark
   either_good : (level : Level) (sign : Mark) (then : Reader) (below : Reader) → ((ws : List Lexeme) (x : Found) → then ws ≡ Some x → Good level (suc n) (mark sign ∷ ws) x) → (ws : List Lexeme) → ((x : Found) → below ws ≡ Some x → Good level (suc n) ws x) → (o : Option (List Lexeme)) → after sign ws ≡ o → (x : Found) → or_else o then (below ws) ≡ Some x → Good level (suc n) ws x
@@ -114,7 +115,7 @@ module _ (n : ℕ) (inner : Level → Reader) (h : (level : Level) (ws : List Le
       let behind : Reader = λ xs. inner Negation xs >>= λ a. Some (TUnary unary.Not a.0, suc a.1, a.2) in
       let made : (ws : List Lexeme) (x : Found) → behind ws ≡ Some x → Good Negation (suc n) (mark m.Not ∷ ws) x =
       λ xs y e. let b = some_then (inner Negation xs) (λ (a : Found). Some (TUnary unary.Not a.0, suc a.1, a.2)) y e in let r = h Negation xs b.0 b.1 in
-      subst (Good Negation (suc n) (mark m.Not ∷ xs)) (some_is (TUnary unary.Not b.0.0, suc b.0.1, b.0.2) y b.2) (record { reads = g.negated r.reads; within = let le = r.within in omega arith }) in
+      subst (Good Negation (suc n) (mark m.Not ∷ xs)) (same_Some (TUnary unary.Not b.0.0, suc b.0.1, b.0.2) y b.2) (record { reads = g.negated r.reads; within = let le = r.within in omega arith }) in
       either_good Negation m.Not behind below made ws (λ y e. let r = hb ws y e in record { reads = g.looser r.reads; within = r.within }) (after m.Not ws) refl x is
 
   -- an expression and the mark behind it
@@ -124,7 +125,7 @@ module _ (n : ℕ) (inner : Level → Reader) (h : (level : Level) (ws : List Le
       let a = some_then (inner Whole ws) (λ (a : Found). after sign a.2 >>= λ rest. Some (a.0, a.1, rest)) x is in
       let c = some_then (after sign a.0.2) (λ rest. Some (a.0.0, a.0.1, rest)) x a.2 in
       let i = h Whole ws a.0 a.1 in
-      subst (λ (y : Found). Reads Whole y.1 y.0 ws (mark sign ∷ y.2) × (y.1 ≤ n)) (some_is (a.0.0, a.0.1, c.0) x c.2) (subst (λ (v : List Lexeme). Reads Whole a.0.1 a.0.0 ws v) (after_is sign a.0.2 c.0 c.1) i.reads, i.within)
+      subst (λ (y : Found). Reads Whole y.1 y.0 ws (mark sign ∷ y.2) × (y.1 ≤ n)) (same_Some (a.0.0, a.0.1, c.0) x c.2) (subst (λ (v : List Lexeme). Reads Whole a.0.1 a.0.0 ws v) (after_is sign a.0.2 c.0 c.1) i.reads, i.within)
 
   indexed_good : (from : List Lexeme) (a : Tree) (d : ℕ) (xs : List Lexeme) (x : Found) → Reads Atom d a from (mark m.OpenSquare ∷ xs) → d ≤ suc n → indexed inner (suc n) a d xs ≡ Some x → Good Postfix (suc n) from x
   unfolding indexed
@@ -136,7 +137,7 @@ module _ (n : ℕ) (inner : Level → Reader) (h : (level : Level) (ws : List Le
       let k = max d b.0.1 in
       let lt = ltb-true d (suc n) p.0 in
       let le2 = i.1 in
-      subst (Good Postfix (suc n) from) (some_is (TBinary binary.Entry a b.0.0, suc k, b.0.2) x b.2) (record { reads = g.indexed (deeper r k (omega arith)) (deeper i.0 k (omega arith)); within = omega arith })
+      subst (Good Postfix (suc n) from) (same_Some (TBinary binary.Entry a b.0.0, suc k, b.0.2) x b.2) (record { reads = g.indexed (deeper r k (omega arith)) (deeper i.0 k (omega arith)); within = omega arith })
 
   postfixed_good : (below : Reader) → ((ws : List Lexeme) (x : Found) → below ws ≡ Some x → Good Atom (suc n) ws x) → (ws : List Lexeme) (x : Found) → postfixed inner (suc n) below ws ≡ Some x → Good Postfix (suc n) ws x
   unfolding postfixed
@@ -146,7 +147,7 @@ module _ (n : ℕ) (inner : Level → Reader) (h : (level : Level) (ws : List Le
       go b.0.0 b.0.1 b.0.2 first.reads first.within (after m.OpenSquare b.0.2) refl b.2
     where
       go : (a : Tree) (d : ℕ) (rest : List Lexeme) → Reads Atom d a ws rest → d ≤ suc n → (o : Option (List Lexeme)) → after m.OpenSquare rest ≡ o → or_else o (λ xs. indexed inner (suc n) a d xs) (Some (a, d, rest)) ≡ Some x → Good Postfix (suc n) ws x
-      go a d rest r le None e is' = subst (Good Postfix (suc n) ws) (some_is (a, d, rest) x is') (record { reads = g.looser r; within = le })
+      go a d rest r le None e is' = subst (Good Postfix (suc n) ws) (same_Some (a, d, rest) x is') (record { reads = g.looser r; within = le })
       go a d rest r le (Some xs) e is' = indexed_good ws a d xs x (subst (λ (v : List Lexeme). Reads Atom d a ws v) (after_is m.OpenSquare rest xs e) r) le is'
 
   called_good : (op : UnaryOperator) (ws : List Lexeme) (x : Found) → called inner (suc n) op ws ≡ Some x → Good Atom (suc n) (call op ∷ ws) x
@@ -158,7 +159,7 @@ module _ (n : ℕ) (inner : Level → Reader) (h : (level : Level) (ws : List Le
       let a = some_then (closed inner (suc n) m.Close o.0) made x o.2 in
       let i = closed_good m.Close o.0 a.0 a.1 in
       let good : Good Atom (suc n) (call op ∷ mark m.Open ∷ o.0) (TUnary op a.0.0, suc a.0.1, a.0.2) = record { reads = g.called i.0; within = let le = i.1 in omega arith } in
-      subst (λ (v : List Lexeme). Good Atom (suc n) (call op ∷ v) x) (sym (after_is m.Open ws o.0 o.1)) (subst (Good Atom (suc n) (call op ∷ mark m.Open ∷ o.0)) (some_is (TUnary op a.0.0, suc a.0.1, a.0.2) x a.2) good)
+      subst (λ (v : List Lexeme). Good Atom (suc n) (call op ∷ v) x) (sym (after_is m.Open ws o.0 o.1)) (subst (Good Atom (suc n) (call op ∷ mark m.Open ∷ o.0)) (same_Some (TUnary op a.0.0, suc a.0.1, a.0.2) x a.2) good)
 
   has_good : (ws : List Lexeme) (x : Found) → has inner (suc n) ws ≡ Some x → Good Atom (suc n) (mark m.Has ∷ ws) x
   unfolding has
@@ -172,14 +173,14 @@ module _ (n : ℕ) (inner : Level → Reader) (h : (level : Level) (ws : List Le
       let j = closed_good m.Close a.0.2 b.0 b.1 in
       let k = max a.0.1 b.0.1 in
       let good : Good Atom (suc n) (mark m.Has ∷ mark m.Open ∷ o.0) (TBinary binary.Has a.0.0 b.0.0, suc k, b.0.2) = record { reads = g.membership (deeper i.0 k (omega arith)) (deeper j.0 k (omega arith)); within = let le = i.1 in let le2 = j.1 in omega arith } in
-      subst (λ (v : List Lexeme). Good Atom (suc n) (mark m.Has ∷ v) x) (sym (after_is m.Open ws o.0 o.1)) (subst (Good Atom (suc n) (mark m.Has ∷ mark m.Open ∷ o.0)) (some_is (TBinary binary.Has a.0.0 b.0.0, suc k, b.0.2) x b.2) good)
+      subst (λ (v : List Lexeme). Good Atom (suc n) (mark m.Has ∷ v) x) (sym (after_is m.Open ws o.0 o.1)) (subst (Good Atom (suc n) (mark m.Has ∷ mark m.Open ∷ o.0)) (same_Some (TBinary binary.Has a.0.0 b.0.0, suc k, b.0.2) x b.2) good)
 
   brackets_good : (ws : List Lexeme) (x : Found) → brackets inner (suc n) ws ≡ Some x → Good Atom (suc n) (mark m.Open ∷ ws) x
   unfolding brackets
   brackets_good ws x is =
       let a = some_then (closed inner (suc n) m.Close ws) (λ (a : Found). Some (a.0, suc a.1, a.2)) x is in
       let i = closed_good m.Close ws a.0 a.1 in
-      subst (Good Atom (suc n) (mark m.Open ∷ ws)) (some_is (a.0.0, suc a.0.1, a.0.2) x a.2) (record { reads = g.brackets i.0; within = let le = i.1 in omega arith })
+      subst (Good Atom (suc n) (mark m.Open ∷ ws)) (same_Some (a.0.0, suc a.0.1, a.0.2) x a.2) (record { reads = g.brackets i.0; within = let le = i.1 in omega arith })
 
   -- a comprehension behind its first bracket
   comprehension_good : (made : List ℕ → Tree → Tree) (front sign : Mark)
@@ -196,7 +197,7 @@ module _ (n : ℕ) (inner : Level → Reader) (h : (level : Level) (ws : List Le
       let named = name_is ws v.0.0 v.0.1 v.1 in
       let good : Good Atom (suc n) (mark front ∷ name v.0.0 ∷ mark m.Colon ∷ o.0) (made v.0.0 a.0.0, suc a.0.1, a.0.2) = record { reads = rule a.0.1 v.0.0 a.0.0 o.0 a.0.2 named.1 i.0; within = let le = i.1 in omega arith } in
       let ws-is : ws ≡ name v.0.0 ∷ mark m.Colon ∷ o.0 = named.0 ∙ ap (λ (l : List Lexeme). name v.0.0 ∷ l) (after_is m.Colon v.0.1 o.0 o.1) in
-      subst (λ (l : List Lexeme). Good Atom (suc n) (mark front ∷ l) x) (sym ws-is) (subst (Good Atom (suc n) (mark front ∷ name v.0.0 ∷ mark m.Colon ∷ o.0)) (some_is (made v.0.0 a.0.0, suc a.0.1, a.0.2) x a.2) good)
+      subst (λ (l : List Lexeme). Good Atom (suc n) (mark front ∷ l) x) (sym ws-is) (subst (Good Atom (suc n) (mark front ∷ name v.0.0 ∷ mark m.Colon ∷ o.0)) (same_Some (made v.0.0 a.0.0, suc a.0.1, a.0.2) x a.2) good)
 
   choice_good : (ws : List Lexeme) (x : Found) → choice inner (suc n) ws ≡ Some x → Good Whole (suc n) (mark m.If ∷ ws) x
   unfolding choice
@@ -210,7 +211,7 @@ module _ (n : ℕ) (inner : Level → Reader) (h : (level : Level) (ws : List Le
       let l = h Whole b.0.2 c.0 c.1 in
       let k = max a.0.1 (max b.0.1 c.0.1) in
       let good : Good Whole (suc n) (mark m.If ∷ ws) (TIf a.0.0 b.0.0 c.0.0, suc k, c.0.2) = record { reads = g.choice (deeper i.0 k (omega arith)) (deeper j.0 k (omega arith)) (deeper l.reads k (omega arith)); within = let le = i.1 in let le2 = j.1 in let le3 = l.within in omega arith } in
-      subst (Good Whole (suc n) (mark m.If ∷ ws)) (some_is (TIf a.0.0 b.0.0 c.0.0, suc k, c.0.2) x c.2) good
+      subst (Good Whole (suc n) (mark m.If ∷ ws)) (same_Some (TIf a.0.0 b.0.0 c.0.0, suc k, c.0.2) x c.2) good
 
   atom_by_good : (sign : Mark) (ws : List Lexeme) (x : Found) → atom_by inner (suc n) sign ws ≡ Some x → Good Atom (suc n) (mark sign ∷ ws) x
   atom_by_good m.Has ws x is = has_good ws x is
@@ -223,13 +224,13 @@ module _ (n : ℕ) (inner : Level → Reader) (h : (level : Level) (ws : List Le
   named_good ws x is =
       let y = some_then (name_at ws) (λ y. Some (TNamed y.0, 1, y.1)) x is in
       let p = name_is ws y.0.0 y.0.1 y.1 in
-      subst (λ (v : List Lexeme). Good Atom (suc n) v x) (sym p.0) (subst (Good Atom (suc n) (name y.0.0 ∷ y.0.1)) (some_is (TNamed y.0.0, 1, y.0.1) x y.2) (record { reads = g.variable p.1; within = omega arith }))
+      subst (λ (v : List Lexeme). Good Atom (suc n) v x) (sym p.0) (subst (Good Atom (suc n) (name y.0.0 ∷ y.0.1)) (same_Some (TNamed y.0.0, 1, y.0.1) x y.2) (record { reads = g.variable p.1; within = omega arith }))
 
   numeral_good : (ws : List Lexeme) (x : Found) → (number_at 0 max_number ws >>= λ v. Some (TNumber v.0, 1, v.1)) ≡ Some x → Good Atom (suc n) ws x
   numeral_good ws x is =
       let v = some_then (number_at 0 max_number ws) (λ v. Some (TNumber v.0, 1, v.1)) x is in
       let p = number_is 0 max_number ws v.0.0 v.0.1 v.1 in
-      subst (λ (l : List Lexeme). Good Atom (suc n) l x) (sym p.is) (subst (Good Atom (suc n) (number p.digits ∷ v.0.1)) (some_is (TNumber v.0.0, 1, v.0.1) x v.2) (record { reads = g.numeral p.value p.most; within = omega arith }))
+      subst (λ (l : List Lexeme). Good Atom (suc n) l x) (sym p.is) (subst (Good Atom (suc n) (number p.digits ∷ v.0.1)) (same_Some (TNumber v.0.0, 1, v.0.1) x v.2) (record { reads = g.numeral p.value p.most; within = omega arith }))
 
   atom_good : (ws : List Lexeme) (x : Found) → atom inner (suc n) ws ≡ Some x → Good Atom (suc n) ws x
   unfolding atom
@@ -238,7 +239,7 @@ module _ (n : ℕ) (inner : Level → Reader) (h : (level : Level) (ws : List Le
   atom_good (number k ∷ ws) x is = numeral_good (number k ∷ ws) x is
   atom_good (mark s ∷ ws) x is = atom_by_good s ws x is
   atom_good (kind ty ∷ ws) x is = absurd cc
-  atom_good (fixed c ∷ ws) x is = subst (Good Atom (suc n) (fixed c ∷ ws)) (some_is (TFixed c, 1, ws) x is) (record { reads = g.constant; within = omega arith })
+  atom_good (fixed c ∷ ws) x is = subst (Good Atom (suc n) (fixed c ∷ ws)) (same_Some (TFixed c, 1, ws) x is) (record { reads = g.constant; within = omega arith })
   atom_good (call op ∷ ws) x is = called_good op ws x is
   atom_good (infix_word op ∷ ws) x is = absurd cc
 
@@ -293,6 +294,6 @@ pub formula_good : (ws : List Lexeme) (t : Tree) (rest : List Lexeme) → formul
 unfolding formula
 formula_good ws t rest is =
     let a = some_then (parse max_nesting Whole ws) (λ a. Some (a.0, a.2)) (t, rest) is in
-    let e = some_is (a.0.0, a.0.2) (t, rest) a.2 in
+    let e = same_Some (a.0.0, a.0.2) (t, rest) a.2 in
     let good = parse_good max_nesting Whole ws a.0 a.1 in
     subst (λ (v : Tree × List Lexeme). IsExpr v.0 ws v.1) e (deeper good.reads max_nesting good.within)

@@ -11,12 +11,12 @@ use Rattle.round_lang.specs.Values.{flag, set, row}
 use Rattle.round_meaning.specs.Algorithm1.{dls1, listing, locking, acknowledging, releasing}
 use Rattle.round_meaning.specs.Meaning.{Env}
 use Rattle.round_meaning.specs.Rounds.{algorithm, inbox, received, rounds}
-use Rattle.round_meaning.specs.Turn.{decision, ended, folded, initial, node_env, runs, sent}
+use Rattle.round_meaning.specs.Turn.{decision, ended, folded, node_env, runs, sent}
 use Rattle.round_meaning.specs.Turn.{with_dest, with_message, with_vars}
 use Rattle.round_meaning.specs.declared.received.Received.{Received}
-use Rattle.round_meaning.proofs.PhaseSteps.{Setting, Node, Message, World, hear, owner, start}
-use Rattle.round_meaning.proofs.PhaseSteps.{message1, take1, finish1, message2, take2, message3}
-use Rattle.round_meaning.proofs.PhaseSteps.{take3, finish3, message4, take4, hears1, hears2, hears3}
+use Rattle.round_meaning.proofs.PhaseSteps.{Setting, Node, Message, World, hear, owner}
+use Rattle.round_meaning.proofs.PhaseSteps.{message1, take1, message2, take2, message3}
+use Rattle.round_meaning.proofs.PhaseSteps.{take3, message4, take4, hears1, hears2, hears3}
 use Rattle.round_meaning.proofs.PhaseSteps.{hears4, next, run, node_decision}
 
 abbrev pub values_of : Node → List Value
@@ -37,9 +37,6 @@ takes1 : (s : Setting) (r k i j : ℕ) (n : Node) (m : Message)
     → runs (with_message j listing.fields (two m) (env_in s r k i)) listing.on_message (values_of n) ≡ values_of (take1 s n m)
 takes1 s r k i j n m = refl
 
-ends1 : (s : Setting) (r k i : ℕ) (n : Node) → runs (env_in s r k i) listing.end (values_of n) ≡ values_of (finish1 s k i n)
-ends1 s r k i n = refl
-
 sends1 : (s : Setting) (r k i j : ℕ) (n : Node)
     → sent (Some listing) (with_dest i (with_vars (values_of n) (env_in s r k j))) ≡ cond (i == owner s k) (Some (two (message1 s n))) None
 sends1 s r k i j n = refl
@@ -56,9 +53,6 @@ takes3 : (s : Setting) (r k i j : ℕ) (n : Node) (m : Message)
     → runs (with_message j acknowledging.fields (one m) (env_in s r k i)) acknowledging.on_message (values_of n) ≡ values_of (take3 n m)
 takes3 s r k i j n m = refl
 
-ends3 : (s : Setting) (r k i : ℕ) (n : Node) → runs (env_in s r k i) acknowledging.end (values_of n) ≡ values_of (finish3 s n)
-ends3 s r k i n = refl
-
 sends3 : (s : Setting) (r k i j : ℕ) (n : Node)
     → sent (Some acknowledging) (with_dest i (with_vars (values_of n) (env_in s r k j))) ≡ cond (flag n.got && (i == owner s k)) (Some (one (message3 n))) None
 sends3 s r k i j n = refl
@@ -71,12 +65,6 @@ sends4 : (s : Setting) (r k i j : ℕ) (n : Node)
     → sent (Some releasing) (with_dest i (with_vars (values_of n) (env_in s r k j)))
     ≡ cond (nat_lt 0 (size (set_of s.values (λ v. nat_lt 0 (slice_index (row n.locks) v))))) (Some (two (message4 n))) None
 sends4 s r k i j n = refl
-
-starts : (s : Setting) (x i : ℕ) → initial (dls1 s.values) s.nodes s.faults x i ≡ values_of (start s x)
-starts s x i = refl
-
-decides_same : (k : ℕ) (n : Node) → decision (dls1 k) (values_of n) ≡ node_decision n
-decides_same k n = refl
 
 -- what i hears of j: nothing where it is omitted or silent
 heard : (j : ℕ) (o t : Bool) (m : List Value) (d : Option (List Value)) → d ≡ cond t (Some m) None

@@ -6,6 +6,7 @@ use Rattle.std.specs.Str.{bytes_eq}
 use Rattle.std.proofs.Math.Pow.{ones_lt}
 use Rattle.std.proofs.lemmas.List.{length-replicate}
 use Rattle.std.proofs.lemmas.List.FromFn.{length-map-range_with_len}
+use Rattle.std.proofs.lemmas.Option.{same_Some}
 use Rattle.round_lang.specs.declared.expr.Constant.{Constant}
 use Rattle.round_lang.specs.declared.expr.Constant.TheVariants.{True, False, Empty, All, Zero, Me}
 use Rattle.round_lang.specs.declared.expr.Constant.TheVariants.{Nodes, Faults, Round, Phase, Dest}
@@ -33,9 +34,6 @@ use Rattle.round_meaning.specs.Meaning.{Env, constant, find_bound, look_up, or_n
 use Rattle.round_meaning.specs.Meaning.{value}
 use Rattle.round_meaning.specs.Typed.{Fits, HasType, Suits}
 
-same_some : (r u : Ty) → Some r ≡ Some u → r ≡ u
-same_some r u h = cc
-
 -- a value at another name of its type
 pub typed_at : (k : ℕ) (r u : Ty) (v : Value) → r ≡ u → HasType k r v → HasType k u v
 typed_at k r u v e h = subst (λ t. HasType k t v) e h
@@ -55,10 +53,10 @@ constant_typed Dest env h = tt
 constant_typed From env h = tt
 
 unary_typed : (k : ℕ) (op : UnaryOperator) (a : Option Ty) (v : Value) (u : Ty) → unary_type op a ≡ Some u → HasType k u (unary k op v)
-unary_typed k Not a v u h = typed_at k ty.Bool u _ (same_some _ _ (wanted a ty.Bool (Some ty.Bool) u h).1) tt
-unary_typed k Single a v u h = typed_at k ty.Set u _ (same_some _ _ (wanted a ty.Num (Some ty.Set) u h).1) (set_of-lt k _)
-unary_typed k Size a v u h = typed_at k ty.Num u _ (same_some _ _ (wanted a ty.Set (Some ty.Num) u h).1) tt
-unary_typed k Least a v u h = typed_at k ty.Num u _ (same_some _ _ (wanted a ty.Set (Some ty.Num) u h).1) tt
+unary_typed k Not a v u h = typed_at k ty.Bool u _ (same_Some _ _ (wanted a ty.Bool (Some ty.Bool) u h).1) tt
+unary_typed k Single a v u h = typed_at k ty.Set u _ (same_Some _ _ (wanted a ty.Num (Some ty.Set) u h).1) (set_of-lt k _)
+unary_typed k Size a v u h = typed_at k ty.Num u _ (same_Some _ _ (wanted a ty.Set (Some ty.Num) u h).1) tt
+unary_typed k Least a v u h = typed_at k ty.Num u _ (same_Some _ _ (wanted a ty.Set (Some ty.Num) u h).1) tt
 
 set_typed : (k : ℕ) (v : Value) → HasType k ty.Set v → set v < 2 ^ k
 set_typed k (Set s) h = h
@@ -74,7 +72,7 @@ module _ (k : ℕ) (few : k ≤ 64) (a b : Option Ty) (v w : Value) (u : Ty) (hv
   truth s t h c = typed_at k ty.Bool u _ (two_wanted a s b t ty.Bool u h).2 tt
 
   equality : alike a b (Some ty.Bool) ≡ Some u → (c : Bool) → HasType k u (Flag c)
-  equality h c = typed_at k ty.Bool u _ (same_some _ _ (two_alike a b (Some ty.Bool) u h).3) tt
+  equality h c = typed_at k ty.Bool u _ (same_Some _ _ (two_alike a b (Some ty.Bool) u h).3) tt
 
   binary_typed : (op : BinaryOperator) → binary_type op a b ≡ Some u → HasType k u (binary k op v w)
   binary_typed Add h = number h _
@@ -112,16 +110,16 @@ bound_known (b ∷ bs) x = some_if (bytes_eq b.0 x) b.1 _ (find_bound bs x) (bou
 variable_typed : (k : ℕ) (T : Option Ty) (V : Option Value) (t : Ty) → Suits k T V → T ≡ Some t → HasType k t (or_value V (Num 0))
 variable_typed k None V t s h = absurd cc
 variable_typed k (Some r) None t s h = absurd s
-variable_typed k (Some r) (Some v) t s h = typed_at k r t v (same_some _ _ h) s
+variable_typed k (Some r) (Some v) t s h = typed_at k r t v (same_Some _ _ h) s
 
 field_typed : (k : ℕ) (FT VT : Option Ty) (FV VV : Option Value) (t : Ty) → Suits k FT FV → Suits k VT VV → or_else FT VT ≡ Some t → HasType k t (or_value FV (or_value VV (Num 0)))
 field_typed k None VT None VV t f s h = variable_typed k VT VV t s h
 field_typed k None VT (Some v) VV t f s h = absurd f
 field_typed k (Some r) VT None VV t f s h = absurd f
-field_typed k (Some r) VT (Some v) VV t f s h = typed_at k r t v (same_some _ _ h) f
+field_typed k (Some r) VT (Some v) VV t f s h = typed_at k r t v (same_Some _ _ h) f
 
 name_typed : (k : ℕ) (B : Bool) (N : Option ℕ) (FT VT : Option Ty) (FV VV : Option Value) (t : Ty) → B ≡ is_some N → Suits k FT FV → Suits k VT VV → cond B (Some ty.Num) (or_else FT VT) ≡ Some t → HasType k t (or_number N (or_value FV (or_value VV (Num 0))))
-name_typed k true (Some n) FT VT FV VV t e f v h = typed_at k ty.Num t _ (same_some _ _ h) tt
+name_typed k true (Some n) FT VT FV VV t e f v h = typed_at k ty.Num t _ (same_Some _ _ h) tt
 name_typed k false None FT VT FV VV t e f v h = field_typed k FT VT FV VV t f v h
 name_typed k true None FT VT FV VV t e f v h = absurd cc
 name_typed k false (Some n) FT VT FV VV t e f v h = absurd cc
@@ -137,8 +135,8 @@ choose_typed k t true v w hv hw = hv
 choose_typed k t false v w hv hw = hw
 
 pub value_typed : (e : Tree) (c : Context) (env : Env) (t : Ty) → Fits c env → type_of e c ≡ Some t → HasType env.values t (value e env)
-value_typed (TNumber n) c env t f h = typed_at env.values ty.Num t _ (same_some _ _ h) tt
-value_typed (TFixed k) c env t f h = typed_at env.values (constant_type k) t _ (same_some _ _ h) (constant_typed k env f.values)
+value_typed (TNumber n) c env t f h = typed_at env.values ty.Num t _ (same_Some _ _ h) tt
+value_typed (TFixed k) c env t f h = typed_at env.values (constant_type k) t _ (same_Some _ _ h) (constant_typed k env f.values)
 value_typed (TNamed x) c env t f h = named_typed c env x t f h
 value_typed (TUnary op a) c env t f h = unary_typed env.values op (type_of a c) (value a env) t h
 value_typed (TBinary op a b) c env t f h =
@@ -146,9 +144,9 @@ value_typed (TBinary op a b) c env t f h =
 value_typed (TIf e a b) c env t f h =
     let x = wanted (type_of e c) ty.Bool _ t h in
     let y = two_alike (type_of a c) (type_of b c) (type_of a c) t x.1 in
-    let s : y.0 ≡ t = same_some _ _ (sym y.1 ∙ y.3) in
+    let s : y.0 ≡ t = same_Some _ _ (sym y.1 ∙ y.3) in
     choose_typed env.values t (flag (value e env)) (value a env) (value b env) (typed_at _ _ _ _ s (value_typed a c env y.0 f y.1)) (typed_at _ _ _ _ s (value_typed b c env y.0 f y.2))
 value_typed (TSetOf x e) c env t f h =
-    typed_at env.values ty.Set t _ (same_some _ _ (wanted (type_of e (under x c)) ty.Bool (Some ty.Set) t h).1) (set_of-lt env.values _)
+    typed_at env.values ty.Set t _ (same_Some _ _ (wanted (type_of e (under x c)) ty.Bool (Some ty.Set) t h).1) (set_of-lt env.values _)
 value_typed (TRowOf x e) c env t f h =
-    typed_at env.values ty.Row t _ (same_some _ _ (wanted (type_of e (under x c)) ty.Num (Some ty.Row) t h).1) (length-map-range_with_len _ 0 env.values)
+    typed_at env.values ty.Row t _ (same_Some _ _ (wanted (type_of e (under x c)) ty.Num (Some ty.Row) t h).1) (length-map-range_with_len _ 0 env.values)

@@ -72,7 +72,7 @@ module _ (k : ℕ) (x : List ℕ) (t : Ty) (v : Value) (fits : HasType k t v) wh
       put_if (nat_lt (position_or_len p ds) (length ds)) ds vs (position_or_len p ds) h (set_fits ds vs h e)
 
 -- the target's type is the value's
-target_type : (declared found : Option Ty) → not (is_same_type declared found) ≡ false → (t : Ty) × (declared ≡ Some t) × (found ≡ Some t)
+pub target_type : (declared found : Option Ty) → not (is_same_type declared found) ≡ false → (t : Ty) × (declared ≡ Some t) × (found ≡ Some t)
 target_type None found h = absurd cc
 target_type (Some t) found h = (t, refl, has_type-some found t (fails-not (has_type found t) h))
 
@@ -167,12 +167,13 @@ module _ (p : ProgramTree) (n t r i : ℕ) (few : p.values ≤ 64) where
       (values_fit (context_with [] p) env refl (send_fits dest vs h) b.fields b.sent (counts b refl) typed.sent)
 
 -- what fails for all fails for one
-any_at : {X : Type 0} (q : X → Bool) (xs : List X) (i : ℕ) (x : X) → list_any q xs ≡ false → slice_get xs i ≡ Some x → q x ≡ false
+pub any_at : {X : Type 0} (q : X → Bool) (xs : List X) (i : ℕ) (x : X) → list_any q xs ≡ false → slice_get xs i ≡ Some x → q x ≡ false
 any_at q [] i x none at = absurd cc
 any_at q (y ∷ ys) zero x none at = let same : y ≡ x = cc at in subst (λ z. q z ≡ false) same (neither (q y) (list_any q ys) none).0
 any_at q (y ∷ ys) (suc i) x none at = any_at q ys i x (neither (q y) (list_any q ys) none).1 at
 
-same_number : (m n : ℕ) → not (m == n) ≡ false → m ≡ n
+-- numbers that don't differ by a test are the same
+pub same_number : (m n : ℕ) → not (m == n) ≡ false → m ≡ n
 same_number m n h = grind (arith, nat_tests)
 
 module _ (p : ProgramTree) (typed : is_typed p ≡ true) where

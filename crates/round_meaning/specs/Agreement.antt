@@ -56,7 +56,8 @@ DecisionsAreLocked =
     → DecidesNext k s omits r i v → s.faults + 1 ≤ count_by (λ j. nat_le (phase_of (dls1 k) (suc r))
     (lock_in (state_after k s omits (suc r + d) j) v)) (range_with_len 0 s.nodes)
 
--- and no lock on another value has that phase or a later one
+-- from the round on in which v is decided, no lock on another value has that round's phase or a
+-- later one
 abbrev pub NoOtherLocks : Type 0
 NoOtherLocks =
     (k : ℕ) (s : Setup) (omits : ℕ → ℕ → ℕ → Bool) → HasMajority k s → (i r d v : ℕ) → i < s.nodes

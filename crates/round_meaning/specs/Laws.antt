@@ -21,7 +21,7 @@ SumsStop =
     (a b : ℕ) (env : Env) → max_number ≤ a + b
     → value (TBinary Add (TNumber a) (TNumber b)) env ≡ Num max_number
 
--- a difference is what is to be added
+-- a sum less one of its numbers is the other
 abbrev pub DifferencesAreExact : Type 0
 DifferencesAreExact =
     (a b : ℕ) (env : Env) → value (TBinary Sub (TNumber (a + b)) (TNumber b)) env ≡ Num a
@@ -44,7 +44,8 @@ AgreeOnSenders a o p n =
     (r i j : ℕ) → r < n → i < a.nodes → j < a.nodes → IsSome (a.send (suc r) (rounds a o r j) j i)
     → o i (suc r) j ≡ p i (suc r) j
 
--- such tests give the same states
+-- tests of omission that agree on the nodes that do send, in the first n rounds, give the same
+-- states after n rounds
 abbrev pub OnlySendersCountInRuns : Type 0
 OnlySendersCountInRuns =
     (a : Algorithm) (o p : ℕ → ℕ → ℕ → Bool) (n i : ℕ) → AgreeOnSenders a o p n → i < a.nodes

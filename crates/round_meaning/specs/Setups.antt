@@ -20,7 +20,7 @@ pub record IsSetup (s : Setup) : Type 0 where
   pub few_rounds : s.rounds ≤ max_rounds
   pub inputs : length s.inputs ≡ s.nodes
 
--- so they are, and each input is below K
+-- the numbers are within their limits, and each node has an input, which is below K
 pub record IsLawful (values : ℕ) (s : Setup) : Type 0 where
   pub sized : IsSetup s
   pub inputs : All (λ x. x < values) s.inputs

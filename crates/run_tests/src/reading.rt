@@ -22,13 +22,6 @@ pub fn two(text: &str) -> Result<(u32, u32), Fault> {
     Ok((number(one)?, number(other)?))
 }
 
-/// Three numbers with blanks between them.
-pub fn three(text: &str) -> Result<(u32, u32, u32), Fault> {
-    let (first, rest) = cut(text);
-    let (second, third) = two(rest)?;
-    Ok((number(first)?, second, third))
-}
-
 /// A plan's name: `growing`, or `known 3`.
 pub fn kind(text: &str) -> Result<PlanKind, Fault> {
     match cut(text) {

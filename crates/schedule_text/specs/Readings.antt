@@ -112,7 +112,7 @@ abbrev pub TextsHaveReadings : Type 0
 TextsHaveReadings =
     (kind : Kind) (text : List ℕ) → (answer : AnswerOf kind) × IsReadingOf kind text answer
 
--- and no text has two
+-- no text has two readings of one kind
 abbrev pub TextsHaveOneReading : Type 0
 TextsHaveOneReading =
     (kind : Kind) (text : List ℕ) (a b : AnswerOf kind)

@@ -2,7 +2,7 @@
 use Rattle.std.proofs.Common.{◌≡◌, ℕ, zero, suc, ◌+◌, ◌-◌, ◌^◌, ◌<◌, ◌≤◌, ⊎_elim, refl, arith}
 use Rattle.std.proofs.lemmas.Bool.{cases_lt}
 use Rattle.slot_plans.specs.Limits.{max_rounds}
-use Rattle.slot_plans.specs.Plan.{PlanLaws, IsClear}
+use Rattle.slot_plans.specs.Plan.{ClearRoundsLast, PlanLaws}
 
 -- the send slots of a round end before the next round starts
 abbrev pub StartsApart : ℕ → (ℕ → ℕ) → Type 0
@@ -24,14 +24,14 @@ pub start-le : (nodes : ℕ) (start : ℕ → ℕ) → StartsApart nodes start �
 start-le nodes start apart r s h l = rises start (λ t b. omega (arith, apart t b)) r (s - r) s h (omega arith)
 
 -- a later round has no fewer receive steps
-pub receives-le : {nodes : ℕ} {receives start : ℕ → ℕ} → PlanLaws nodes receives start → (r s : ℕ) → 1 ≤ r → r ≤ s → receives r ≤ receives s
+receives-le : {nodes : ℕ} {receives start : ℕ → ℕ} → PlanLaws nodes receives start → (r s : ℕ) → 1 ≤ r → r ≤ s → receives r ≤ receives s
 receives-le {receives} laws r s h l = rises receives laws.receives_rise r (s - r) s h (omega arith)
 
 -- the rounds after a clear one are clear
-pub IsClear-later : {nodes : ℕ} {receives start : ℕ → ℕ} {delta gst r : ℕ} → PlanLaws nodes receives start → IsClear receives start delta gst r → (s : ℕ) → 1 ≤ r → r ≤ s → IsClear receives start delta gst s
-IsClear-later {nodes} {start} {r} laws clear s h l = record {
-  stable = omega (arith, start-le nodes start (starts_apart laws) r s h l);
-  lasts = omega (arith, receives-le laws r s h l);
+pub clear_rounds_last : ClearRoundsLast
+clear_rounds_last nodes receives start laws delta gst r s h l clear = record {
+  stable = let first = clear.stable in omega (arith, start-le nodes start (starts_apart laws) r s h l);
+  lasts = let long = clear.lasts in omega (arith, receives-le laws r s h l);
 }
 
 -- the step lies in the round

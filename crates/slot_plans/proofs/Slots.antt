@@ -3,8 +3,8 @@ use Rattle.std.proofs.Common.{◌≡◌, ℕ, ◌+◌, Bool, true, false, IsTrue
 use Rattle.std.proofs.Common.{arith}
 use Rattle.slot_plans.specs.declared.slot.Slot.{Slot}
 use Rattle.slot_plans.specs.declared.slot.Slot.TheVariants.{Send, Receive}
-use Rattle.slot_plans.specs.Slot.{IsSlotOf, IsSendSlot, IsReceiveSlot}
-use Rattle.slot_plans.proofs.Rounds.{StartsApart, IsInRound, round-unique}
+use Rattle.slot_plans.specs.Slot.{IsSlotOf, IsSendSlot, IsReceiveSlot, StepsHaveOneSlot}
+use Rattle.slot_plans.proofs.Rounds.{StartsApart, IsInRound, round-unique, starts_apart}
 
 -- one fact has one test
 same-test : (a b : Bool) (P : Type 0) → (IsTrue a ↔ P) → (IsTrue b ↔ P) → a ≡ b
@@ -25,8 +25,8 @@ send-in_round {start} {round} apart slot = record {
 receive-in_round : {nodes : ℕ} {start : ℕ → ℕ} {step round : ℕ} {last : Bool} → IsReceiveSlot nodes start step round last → IsInRound start step round
 receive-in_round slot = record { first = slot.of_round.0; starts = omega arith; ends = slot.before_end }
 
--- a step has one slot only
-pub slot-unique : (nodes : ℕ) (start : ℕ → ℕ) → StartsApart nodes start → (step : ℕ) (a b : Slot) → IsSlotOf nodes start step a → IsSlotOf nodes start step b → a ≡ b
+-- slots of one step are the same
+slot-unique : (nodes : ℕ) (start : ℕ → ℕ) → StartsApart nodes start → (step : ℕ) (a b : Slot) → IsSlotOf nodes start step a → IsSlotOf nodes start step b → a ≡ b
 slot-unique nodes start apart step (Send r i) (Send s j) f g =
     let same : r ≡ s = round-unique nodes start apart step r s (send-in_round apart f) (send-in_round apart g) in
     let to : i ≡ j = omega (arith, ap start same) in
@@ -42,3 +42,7 @@ slot-unique nodes start apart step (Receive r last) (Receive s end) f g =
     let P : ℕ → Type 0 = λ t. IsTrue end ↔ (step + 1 ≡ start (t + 1)) in
     let tests : last ≡ end = same-test last end (step + 1 ≡ start (r + 1)) f.ends (subst P (sym same) g.ends) in
     cc
+
+-- a step has one slot only
+pub one_slot : StepsHaveOneSlot
+one_slot nodes receives start laws = slot-unique nodes start (starts_apart laws)

@@ -36,3 +36,10 @@ IsClearRound receives start delta gst (Some r) =
     × ((s : ℕ) → 1 ≤ s → s < r → ¬ IsClear receives start delta gst s)
 IsClearRound receives start delta gst None =
     (s : ℕ) → IsRound s → ¬ IsClear receives start delta gst s
+
+-- under each plan, the rounds after a clear one are clear
+abbrev pub ClearRoundsLast : Type 0
+ClearRoundsLast =
+    (nodes : ℕ) (receives start : ℕ → ℕ) → PlanLaws nodes receives start
+    → (delta gst r s : ℕ) → 1 ≤ r → r ≤ s
+    → IsClear receives start delta gst r → IsClear receives start delta gst s

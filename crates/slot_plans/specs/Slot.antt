@@ -2,7 +2,7 @@
 use Rattle.std.specs.Prelude.{◌≡◌, ℕ, ◌+◌, ◌<◌, ◌≤◌, ◌↔◌, Bool, IsTrue}
 use Rattle.slot_plans.specs.declared.slot.Slot.{Slot}
 use Rattle.slot_plans.specs.declared.slot.Slot.TheVariants.{Send, Receive}
-use Rattle.slot_plans.specs.Plan.{IsRound}
+use Rattle.slot_plans.specs.Plan.{IsRound, PlanLaws}
 
 -- the step is the round's send slot for that node
 pub record IsSendSlot (nodes : ℕ) (start : ℕ → ℕ) (step round to : ℕ) : Type 0 where
@@ -21,3 +21,10 @@ pub record IsReceiveSlot (nodes : ℕ) (start : ℕ → ℕ) (step round : ℕ) 
 abbrev pub IsSlotOf : ℕ → (ℕ → ℕ) → ℕ → Slot → Type 0
 IsSlotOf nodes start step (Send round to) = IsSendSlot nodes start step round to
 IsSlotOf nodes start step (Receive round last) = IsReceiveSlot nodes start step round last
+
+-- under each plan, a step has one slot only
+abbrev pub StepsHaveOneSlot : Type 0
+StepsHaveOneSlot =
+    (nodes : ℕ) (receives start : ℕ → ℕ) → PlanLaws nodes receives start
+    → (step : ℕ) (one other : Slot)
+    → IsSlotOf nodes start step one → IsSlotOf nodes start step other → one ≡ other

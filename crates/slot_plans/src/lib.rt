@@ -8,6 +8,7 @@
 mod growing;
 mod kind;
 mod known;
+mod laws;
 mod limits;
 mod plan;
 mod slot;
@@ -15,6 +16,7 @@ mod slot;
 pub use growing::Growing;
 pub use kind::PlanKind;
 pub use known::Known;
+pub use laws::{clear_rounds_last, one_slot};
 pub use limits::{MAX_DELTA, MAX_NODES, MAX_ROUNDS};
 pub use plan::Plan;
 pub use slot::Slot;

@@ -90,11 +90,6 @@ let_made : (w : World) (s : ℕ) (b : Bool) → LetIn w s (if b then Moving else
 let_made w s true = tt
 let_made w s false = tt
 
-let_left : (w : World) (s x : ℕ) (a b : Bool) → x ≤ s → ((y : ℕ) → x ≤ y → y < s → ⊥) → LetIn w s (if a then Waiting x else if b then Lost else Moving)
-let_left w s x true b l none = (l, λ y low high. absurd (none y low high))
-let_left w s x false true l none = tt
-let_left w s x false false l none = tt
-
 -- a release is no step
 pub release_no_step : (i : ℕ) (n : Name) (e : Event) → is_release n e ≡ true → is_step i e ≡ false
 release_no_step i n (Step k) h = cc
@@ -275,11 +270,11 @@ carried_sent w t i r j h =
     let k = some_found (λ k. taken_near w r (fate w t (copy_to j i r k))) (sym (carried_by w t i r j) ∙ h) in
     made_sent w t (copy_to j i r k.0) (taken_made w r _ k.2)
 
-kept_made : (w : World) (r : ℕ) (b : Bool) → taken_near w r (if b then Moving else Unmade) ≡ false
+pub kept_made : (w : World) (r : ℕ) (b : Bool) → taken_near w r (if b then Moving else Unmade) ≡ false
 kept_made w r true = refl
 kept_made w r false = refl
 
-kept_left : (w : World) (r x : ℕ) (a b : Bool) → taken_near w r (if a then Waiting x else if b then Lost else Moving) ≡ false
+pub kept_left : (w : World) (r x : ℕ) (a b : Bool) → taken_near w r (if a then Waiting x else if b then Lost else Moving) ≡ false
 kept_left w r x true b = refl
 kept_left w r x false true = refl
 kept_left w r x false false = refl

@@ -24,7 +24,7 @@ use Rattle.step_book.specs.Taking.{HasTaken, frame_from, held_or}
 use Rattle.step_book.specs.Trace.{is_drop, is_name, is_release, is_step, steps}
 use Rattle.step_book.specs.Work.{AreCarried, Tag, heard_from, sent_name, tag_by, tag_of}
 use Rattle.step_book.specs.World.{IsPlan, World, earliest, is_receive, lies_near, nodes_of}
-use Rattle.step_book.proofs.Fates.{LetIn, carried_by, carried_sent, copy_to, fate_next, let_in}
+use Rattle.step_book.proofs.Fates.{LetIn, carried_by, carried_sent, copy_to, fate_next, kept_left, kept_made, let_in}
 use Rattle.step_book.proofs.Fates.{made_sent, none_of, some_found, some_none, some_of, some_same}
 use Rattle.step_book.proofs.Heard.{message_is}
 use Rattle.step_book.proofs.Kept.{state_kept}
@@ -33,21 +33,12 @@ use Rattle.step_book.proofs.Plans.{lies_before, lies_within, start_le, starts_ea
 
 -- ---- an event that is no receive of the node
 
-near_made : (w : World) (r : ℕ) (b : Bool) → taken_near w r (if b then Moving else Unmade) ≡ false
-near_made w r true = refl
-near_made w r false = refl
-
-near_left : (w : World) (r x : ℕ) (a b : Bool) → taken_near w r (if a then Waiting x else if b then Lost else Moving) ≡ false
-near_left w r x true b = refl
-near_left w r x false true = refl
-near_left w r x false false = refl
-
 near_waits : (w : World) (r x c : ℕ) (b : Bool) → b ≡ false → taken_near w r (if b then Taken x c else Waiting x) ≡ false
 near_waits w r x c b h = rw h refl
 
 near_on : (w : World) (n : Name) (r : ℕ) (e : Event) (t : List Event) (first f : Fate) → is_take w n.to e t ≡ false → taken_near w r (after w n e t first f) ≡ taken_near w r f
-near_on w n r e t first Unmade h = near_made w r (makes w n e t first)
-near_on w n r e t first Moving h = near_left w r (steps n.to t) (is_release n e) (is_drop n e)
+near_on w n r e t first Unmade h = kept_made w r (makes w n e t first)
+near_on w n r e t first Moving h = kept_left w r (steps n.to t) (is_release n e) (is_drop n e)
 near_on w n r e t first (Waiting x) h = near_waits w r x (steps n.to t) (is_take w n.to e t) h
 near_on w n r e t first (Taken x c) h = refl
 near_on w n r e t first Lost h = refl
@@ -122,7 +113,7 @@ near_taken w r x c b h k = rw h k
 
 -- it's taken where it was, or waits now
 near_now : (w : World) (n : Name) (r : ℕ) (t : List Event) (first f : Fate) → is_take w n.to (Step n.to) t ≡ true → lies_near w r (steps n.to t) ≡ true → taken_near w r (after w n (Step n.to) t first f) ≡ (taken_near w r f || is_waiting f)
-near_now w n r t first Unmade h k = near_made w r (makes w n (Step n.to) t first)
+near_now w n r t first Unmade h k = kept_made w r (makes w n (Step n.to) t first)
 near_now w n r t first Moving h k = refl
 near_now w n r t first (Waiting x) h k = near_taken w r x (steps n.to t) _ h k
 near_now w n r t first (Taken x c) h k = or_false (lies_near w r c)

@@ -1,7 +1,8 @@
 -- Each event keeps the agreement.
 use Rattle.std.proofs.Common.{◌≡◌, ◌≢◌, ℕ, suc, ◌+◌, ◌-◌, ◌*◌, ◌/◌, ◌%◌, ◌<◌, ◌≤◌, false, List, []}
 use Rattle.std.proofs.Common.{◌∷◌, ◌++◌, length, get_or, set, replicate, sym, refl, ap, ◌∙◌, arith}
-use Rattle.std.proofs.Common.{◌⊎◌, inl, inr}
+use Rattle.std.proofs.Common.{◌⊎◌, inl, inr, map}
+use Rattle.std.specs.List.{range_with_len}
 use Rattle.std.proofs.lemmas.Bool.{and_left, and_right, cases_lt, cases_eq, eq-eqb, ne_eqb}
 use Rattle.std.proofs.lemmas.List.{get_or-set_same, get_or-set_other, length-set}
 use Rattle.std.proofs.lemmas.List.{get_or_append_left, get_or_push, length_push, length-replicate}
@@ -15,7 +16,7 @@ use Rattle.step_book.specs.declared.mark.Mark.{Mark}
 use Rattle.step_book.specs.declared.mark.Mark.TheVariants.{Unsent}
 use Rattle.round_lang.specs.declared.value.Value.{Value}
 use Rattle.round_meaning.specs.Rounds.{rounds}
-use Rattle.step_book.specs.Agreement.{Row, row, first_rows, place_of, Agrees}
+use Rattle.step_book.specs.Agreement.{Row, row, place_of, Agrees}
 use Rattle.step_book.specs.Fates.{is_slot}
 use Rattle.step_book.specs.History.{spoken, message, state, mark_of}
 use Rattle.step_book.specs.Names.{IsNameOf}
@@ -299,7 +300,10 @@ keeps_close w p t counts rows tables k v x d e f a =
 
 -- ---- the start
 
--- the first rows have the initial states
+-- the rows of the initial states
+abbrev pub first_rows : World → List Row
+first_rows w = map (λ i. w.algorithm.init i ∷ []) (range_with_len 0 (nodes_of w))
+
 pub row_first : (w : World) (i : ℕ) → i < nodes_of w → row (first_rows w) i ≡ w.algorithm.init i ∷ []
 row_first w i l = get_or-map-range_with_len (λ j. w.algorithm.init j ∷ []) 0 (nodes_of w) i i [] l (omega arith)
 

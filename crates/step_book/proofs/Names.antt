@@ -3,10 +3,22 @@ use Rattle.std.proofs.Common.{◌≡◌, ℕ, ◌≤◌, ◌==◌, ◌&&◌, tru
 use Rattle.std.proofs.Common.{◌⊎◌, inl, inr}
 use Rattle.std.proofs.lemmas.Bool.{and_from, and_parts, cases_eq, eq-eqb, eqb-true}
 use Rattle.std.proofs.lemmas.Bool.{false_from_ne_true}
+use Rattle.round_meaning.specs.Setups.{IsSetup}
+use Rattle.round_meaning.specs.declared.setup.Setup.{Setup}
 use Rattle.step_machine.specs.declared.event.Name.{Name}
 use Rattle.step_machine.specs.Sealed.{original}
-use Rattle.step_book.specs.Names.{IsNameOf}
+use Rattle.step_book.specs.Names.{IsName, IsNameOf}
 use Rattle.step_book.specs.Trace.{is_name}
+use Rattle.stored_events.specs.Stored.{IsStorableName}
+
+-- the numbers of a name of a run are small enough to be stored
+pub storable_name : (s : Setup) → IsSetup s → (n : Name) → IsName s n → IsStorableName n
+storable_name s h n a = record {
+  from = let few = h.few_nodes in let from = a.from in omega arith;
+  to = let few = h.few_nodes in let to = a.to in omega arith;
+  round = let few = h.few_rounds in let last = a.last in omega arith;
+  copy = let copy = a.copy in omega arith;
+}
 
 pub name_same : (n m : Name) → n.from ≡ m.from → n.to ≡ m.to → n.round ≡ m.round → n.copy ≡ m.copy → n ≡ m
 name_same n m a b c d =

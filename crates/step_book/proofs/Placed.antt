@@ -28,7 +28,8 @@ use Rattle.step_book.proofs.Plans.{lies_within, receives_by_in}
 
 -- ---- events
 
-step_event : (i : ℕ) (e : Event) → is_step i e ≡ true → e ≡ Step i
+-- an event that is a step of the node is that step
+pub step_event : (i : ℕ) (e : Event) → is_step i e ≡ true → e ≡ Step i
 step_event i (Step k) h = ap Step (eqb-true k i h)
 step_event i (Release m) h = cc
 step_event i (Drop m) h = cc
@@ -287,11 +288,12 @@ pub slot_one : (w : World) (t : List Event) (n : Name) (p q : ℕ) → IsSlotAt 
 slot_one w t n p q a b = not_less p q (slot_one_by w t n p q a b) (slot_one_by w t n q p b a) (cases_lt p q) (cases_lt q p)
 
 -- the first of a kind is one
-first_one : (Is : ℕ → Type 0) (a b c d : ℕ) → a ≡ c → IsFirstAfter Is a b → IsFirstAfter Is c d → b ≡ d
+pub first_one : (Is : ℕ → Type 0) (a b c d : ℕ) → a ≡ c → IsFirstAfter Is a b → IsFirstAfter Is c d → b ≡ d
 first_one Is a b c d e f g =
     not_less b d (λ l. g.none b (let m = f.later in omega arith) l f.there) (λ l. f.none d (let m = g.later in omega arith) l g.there) (cases_lt b d) (cases_lt d b)
 
-made_one : (w : World) (t : List Event) (n : Name) (p q : ℕ) → IsMadeAt w (reverse t) n p → IsMadeAt w (reverse t) n q → p ≡ q
+-- a copy is made at one place
+pub made_one : (w : World) (t : List Event) (n : Name) (p q : ℕ) → IsMadeAt w (reverse t) n p → IsMadeAt w (reverse t) n q → p ≡ q
 made_one w t n p q (Sent a h) (Sent b g) = slot_one w t n p q h g
 made_one w t n p q (Sent a h) (Copied b g) = absurd (omega arith)
 made_one w t n p q (Copied a h) (Sent b g) = absurd (omega arith)
@@ -514,7 +516,8 @@ unmade_none : (w : World) (trace : List Event) (n : Name) (a : ℕ) → IsUnmade
 unmade_none w trace n a f (Sent c h) = f.sent c a h
 unmade_none w trace n a f (Copied l h) = let x = f.copied l h.slot a h.sent h.first.later h.first.there in h.flies x.0 x.1 x.2 x.3
 
-release_drop : (trace : List Event) (n : Name) (p q : ℕ) → p ≡ q → IsReleaseAt trace n p → IsDropAt trace n q → ⊥
+-- an event isn't a release and a drop
+pub release_drop : (trace : List Event) (n : Name) (p q : ℕ) → p ≡ q → IsReleaseAt trace n p → IsDropAt trace n q → ⊥
 release_drop trace n p q e h k =
     let both : ◌≡◌ {A = Option Event} (Some (Release n)) (Some (Drop n)) = sym h ∙ ap (slice_get trace) e ∙ k in
     let same = same_Some (Release n) (Drop n) both in

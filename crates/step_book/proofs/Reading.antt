@@ -23,7 +23,6 @@ use Rattle.step_book.specs.Log.{Log, Recorded, IsBookOf, IsFaithful, IsFlying, h
 use Rattle.step_book.specs.Log.{history, round_of, count_of, mark_in, waiting_in, states_of}
 use Rattle.step_book.specs.Log.{rows_of, handed_in, waits_in}
 use Rattle.step_book.specs.Mailing.{Mailed}
-use Rattle.stored_events.specs.Stored.{IsFewName}
 use Rattle.step_book.proofs.Buffers.{buffer_counts}
 use Rattle.step_book.proofs.Tables.{has_place}
 
@@ -45,17 +44,9 @@ pub named : (start : ℕ → ℕ) (v : Log) (n : Name) → IsName v.setup n → 
 named start v n a = subst (λ (z : ℕ). IsNameOf z v.setup.rounds n) (sym (nodes_are start v)) a
 
 module _ {start : ℕ → ℕ} {nodes : ℕ} {v : Log} {counts : List ℕ} {tables : List (List Mark)} {waiting : List (List Name)} {handed : List (List (List Name))} {answers : List Bool} {messages : List Name} (h : IsBookOf start nodes v counts tables waiting handed answers messages) where
-  -- the numbers of a node and of a name of the run are few
-  pub few_node : (k : ℕ) → k < v.setup.nodes → k < 16
-  few_node k l = let few = h.lawful.sized.few_nodes in omega (arith, l)
-
-  pub few_name : (n : Name) → IsName v.setup n → IsFewName n
-  few_name n a = record {
-    from = few_node n.from a.from;
-    to = few_node n.to a.to;
-    round = let few = h.lawful.sized.few_rounds in let last = a.last in omega arith;
-    copy = let copy = a.copy in omega arith;
-  }
+  -- the number of a node of the run is small enough to be stored
+  pub storable_node : (k : ℕ) → k < v.setup.nodes → k < 16
+  storable_node k l = let few = h.lawful.sized.few_nodes in omega (arith, l)
 
   pub counts_len : length counts ≡ v.setup.nodes
   counts_len = h.book.counted ∙ nodes_are start v

@@ -1,7 +1,7 @@
 -- Tables as they grow and as a place of one is written.
 use Rattle.std.proofs.Common.{◌≡◌, ◌≢◌, ℕ, ◌-◌, ◌<◌, ◌≤◌, List, [], ◌∷◌, ◌++◌, length, get_or, set, sym}
 use Rattle.std.proofs.Common.{subst, ap, ◌∙◌, arith, refl, ◌⊎◌, inl, inr}
-use Rattle.std.specs.Prelude.{All, Err, Ok, OnOk, Result, Vec}
+use Rattle.std.specs.Prelude.{All, Ok, Vec}
 use Rattle.std.proofs.lemmas.Bool.{cases_lt, cases_eq}
 use Rattle.std.proofs.lemmas.List.{get_or-set_same, get_or-set_other}
 use Rattle.std.proofs.lemmas.List.{get_or_append_left, get_or-append_right}
@@ -168,8 +168,3 @@ pub room_vec : {A B : Type 0} (xs : List (Vec A B)) (w : Vec A B) (c p : ℕ) �
 room_vec {A} {B} xs w c p l m =
     let size = tables_len xs in
     subst (λ (z : List (List A)). HasPlace z c p) (sym (tables_set xs c w)) (place_grown (tables_of xs) w.items c p (omega arith) m)
-
--- what follows from an Ok
-pub on_ok : {A E P Q : Type 0} (r : Result A E) → (P → Q) → OnOk r P → OnOk r Q
-on_ok (Ok x) f h = f h
-on_ok (Err e) f h = tt

@@ -1,7 +1,7 @@
 -- That what is recorded agrees with the run in rounds.
-use Rattle.std.specs.Prelude.{◌≡◌, ℕ, ◌+◌, ◌-◌, ◌*◌, ◌<◌, ◌≤◌, List, [], ◌∷◌, length, map}
+use Rattle.std.specs.Prelude.{◌≡◌, ℕ, ◌+◌, ◌-◌, ◌*◌, ◌<◌, ◌≤◌, List, [], length}
 use Rattle.std.specs.Prelude.{slice_index_or, Bool, if◌then◌else◌}
-use Rattle.std.specs.List.{count_by, range_with_len}
+use Rattle.std.specs.List.{count_by}
 use Rattle.round_lang.specs.declared.value.Value.{Value}
 use Rattle.step_book.specs.declared.mark.Mark.{Mark}
 use Rattle.step_book.specs.declared.mark.Mark.TheVariants.{Unsent}
@@ -20,10 +20,6 @@ Row = List (List Value)
 -- the row of a node
 abbrev pub row : List Row → ℕ → Row
 row rows i = slice_index_or rows i []
-
--- the rows of the initial states
-abbrev pub first_rows : World → List Row
-first_rows w = map (λ i. w.algorithm.init i ∷ []) (range_with_len 0 (nodes_of w))
 
 -- the place of a message in the table of its copy number
 abbrev pub place_of : World → Name → ℕ

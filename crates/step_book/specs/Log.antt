@@ -102,7 +102,7 @@ pub record IsLeastCopy (start : ℕ → ℕ) (v : Log) (n : Name) (c : ℕ) : Ty
   pub can : CanMake start v n c
   pub least : (d : ℕ) → 0 < d → d < c → ¬ (CanMake start v n d)
 
--- there is none: it's a copy itself, or no copy more can be made
+-- the name is a copy's own, or no copy more can be made under it
 abbrev pub HasNoCopy : (ℕ → ℕ) → Log → Name → Type 0
 HasNoCopy start v n = n.copy ≡ 0 → (d : ℕ) → 0 < d → d ≤ max_copy → ¬ (CanMake start v n d)
 
@@ -127,7 +127,7 @@ abbrev pub SameMarks : (ℕ → ℕ) → Log → Log → Type 0
 SameMarks start old new =
     (n : Name) → IsName old.setup n → mark_in start new n ≡ mark_in start old n
 
--- but this one
+-- what is recorded of each copy of a message but this one is as it was
 abbrev pub SameMarksBut : (ℕ → ℕ) → Name → Log → Log → Type 0
 SameMarksBut start but old new =
     (n : Name) → IsName old.setup n → n ≢ but → mark_in start new n ≡ mark_in start old n
@@ -136,7 +136,7 @@ SameMarksBut start but old new =
 abbrev pub SameWaiting : (ℕ → ℕ) → Log → Log → Type 0
 SameWaiting start old new = (i : ℕ) → waiting_in start new i ≡ waiting_in start old i
 
--- but this one
+-- the same names wait for each node but this one
 abbrev pub SameWaitingBut : (ℕ → ℕ) → ℕ → Log → Log → Type 0
 SameWaitingBut start but old new =
     (i : ℕ) → i ≢ but → waiting_in start new i ≡ waiting_in start old i

@@ -39,7 +39,7 @@ abbrev pub AreCarried : World → List Event → ℕ → ℕ → HeldRow → Typ
 AreCarried w t i q held =
     (j : ℕ) → j < nodes_of w → option_map tag_of (held_at held j) ≡ heard_from w t i q j
 
--- it was released while its receiver's step count stood in these steps
+-- the mark is of a release while its receiver's step count stood in these steps
 abbrev pub is_within : Mark → ℕ → ℕ → Bool
 is_within Unsent first end = false
 is_within Silent first end = false

@@ -131,7 +131,7 @@ impl Buffer {
         self.flying[round as usize].reserve(&mut self.spare, nodes, place)
     }
 
-    /// Makes room for one more frame that waits; the first time, for one of each node.
+    /// Makes room for one more frame that waits, in pieces of 16.
     #[inline(always)]
     pub fn reserve_waiting(&mut self) -> Result<(), NoMemory>
         ensures room { OnOk result (0 < self.new.spare) }

@@ -1,4 +1,4 @@
-//! Why a journal refuses an event.
+//! Why a book refuses an event.
 ghost use Rattle.std.specs.Prelude.{◌≡◌};
 ghost use Rattle.step_book.specs.declared.fault.ReceiveFault.TheVariants as receive;
 ghost use Rattle.step_book.specs.declared.fault.CloseFault.TheVariants as close;
@@ -63,7 +63,7 @@ impl From<NoMemory> for ReceiveFault {
 /// Why a round isn't closed.
 #[derive(Clone, Copy, PartialEq, Eq, Debug, Error)]
 pub enum CloseFault {
-    #[error("no round of the node is due to be closed")]
+    #[error("this round of the node isn't due to be closed")]
     NotDue = 1,
     #[error("the round's end is of another run, another state or other messages")]
     Stranger = 2,

@@ -2,7 +2,7 @@
 ghost use Rattle.std.specs.Prelude.{◌≡◌, ◌-◌, ◌<◌, ◌≤◌, ◌++◌, ◌∷◌, [], OnErr, OnOk, drop, length};
 ghost use Rattle.std.specs.Prelude.{slice_index, slice_index_or, take};
 ghost use Rattle.step_book.specs.Mailing.{mailed};
-ghost use Rattle.stored_events.specs.Stored.{IsFewName};
+ghost use Rattle.stored_events.specs.Stored.{IsStorableName};
 
 use crate::growth::room;
 use round_lang::NoMemory;
@@ -70,7 +70,7 @@ impl Mailbox {
     /// A name more that waits.
     #[inline(always)]
     pub fn push(&mut self, name: Name) -> Result<(), NoMemory>
-        requires { IsFewName name }
+        requires { IsStorableName name }
         ensures handed { OnOk result (self.new.handed ≡ self.old.handed) }
         ensures waiting { OnOk result (self.new.waiting ≡ self.old.waiting ++ name ∷ []) }
         ensures err { OnErr result (self.new ≡ self.old) }

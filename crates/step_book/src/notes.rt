@@ -8,7 +8,7 @@ ghost use Rattle.step_book.specs.History.{arrival};
 ghost use Rattle.step_book.specs.Stored.{IsShort};
 ghost use Rattle.step_book.specs.Tables.{Puts, SameTables};
 ghost use Rattle.step_book.specs.Log.{states_of};
-ghost use Rattle.stored_events.specs.Stored.{IsFew, IsFewName};
+ghost use Rattle.stored_events.specs.Stored.{IsStorable, IsStorableName};
 
 use crate::growth::room;
 use crate::mailbox::Mailbox;
@@ -26,7 +26,7 @@ pub(crate) fn note_step(
     steps: &mut Vec<u64>,
     node: u32,
 ) -> Result<(), NoMemory>
-    requires few { node < 16 }
+    requires storable { node < 16 }
     requires node_in { node < vec_len steps.old }
     requires counted { slice_index steps.old.items node ≤ vec_len trace.old }
     ensures trace { OnOk result (trace.new.items ≡ trace.old.items ++ Event.Step node ∷ []) }
@@ -53,7 +53,7 @@ pub(crate) fn note_send(
     place: usize,
     mark: Mark,
 ) -> Result<(), NoMemory>
-    requires few { IsFewName name }
+    requires storable { IsStorableName name }
     requires short { IsShort mark }
     requires node_in { name.from < vec_len steps.old }
     requires counted { slice_index steps.old.items name.from ≤ vec_len trace.old }
@@ -85,7 +85,7 @@ pub(crate) fn note_receive(
     mail: &mut Mailbox,
     node: u32,
 ) -> Result<(), NoMemory>
-    requires few { node < 16 }
+    requires storable { node < 16 }
     requires node_in { node < vec_len steps.old }
     requires counted { slice_index steps.old.items node ≤ vec_len trace.old }
     ensures trace { OnOk result (trace.new.items ≡ trace.old.items ++ Event.Step node ∷ []) }
@@ -112,7 +112,7 @@ pub(crate) fn note_release(
     mail: &mut Mailbox,
     name: Name,
 ) -> Result<(), NoMemory>
-    requires { IsFewName name }
+    requires { IsStorableName name }
     ensures trace { OnOk result (trace.new.items ≡ trace.old.items ++ Event.Release name ∷ []) }
     ensures answers { OnOk result (answers.new.items ≡ answers.old.items ++ true ∷ []) }
     ensures handed { OnOk result (mail.new.handed ≡ mail.old.handed) }
@@ -137,7 +137,7 @@ pub(crate) fn note_answer(
     event: Event,
     answer: bool,
 ) -> Result<(), NoMemory>
-    requires { IsFew event }
+    requires { IsStorable event }
     ensures trace { OnOk result (trace.new.items ≡ trace.old.items ++ event ∷ []) }
     ensures answers { OnOk result (answers.new.items ≡ answers.old.items ++ answer ∷ []) }
     ensures trace_kept { OnErr result (trace.new.items ≡ trace.old.items) }

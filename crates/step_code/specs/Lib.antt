@@ -1,6 +1,5 @@
 pub mod Machine
 pub mod Joined
-pub mod Going
 pub mod Changes
 pub mod Comparing
 pub mod Setwise

@@ -1,5 +1,5 @@
 -- Frames, and the bytes that spell them.
-use Rattle.std.proofs.Common.{◌≡◌, ℕ, ◌+◌, ◌*◌, ◌-◌, ◌<◌, ◌≤◌, List, Some, length, arith, refl, ap, subst}
+use Rattle.std.proofs.Common.{◌≡◌, ℕ, ◌+◌, ◌*◌, ◌-◌, ◌<◌, ◌≤◌, List, length, arith, refl, ap, subst}
 use Rattle.std.proofs.Common.{◌∙◌, sym}
 use Rattle.std.proofs.Math.Nat.{mul-le-mul_right}
 use Rattle.round_lang.specs.declared.value.Value.{Value}
@@ -24,9 +24,6 @@ message_at s bytes = (frame_at s bytes).message
 pub record IsNamed (s : Format) (n : Name) (bytes : List ℕ) : Type 0 where
   pub sealed : IsSealed s bytes
   pub name_is : name_in (frame_at s bytes) ≡ n
-
-pub some_same : {X : Type 0} (a b : X) → Some a ≡ Some b → a ≡ b
-some_same a b h = cc
 
 -- a frame of version 2, written again
 again : (w : Written) → w.version ≡ V2 → w ≡ written_as (name_in w) w.message

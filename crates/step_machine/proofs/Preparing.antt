@@ -1,6 +1,5 @@
 -- What a node prepares.
 use Rattle.std.proofs.Common.{◌≡◌, ℕ, List, Option, ap, refl, subst, sym, ◌∙◌}
-use Rattle.std.specs.Prelude.{Err, IfOk, Ok, Result}
 use Rattle.round_lang.specs.declared.value.Value.{Value}
 use Rattle.round_meaning.specs.Rounds.{algorithm_of}
 use Rattle.step_machine.specs.declared.event.Name.{Name}
@@ -12,10 +11,6 @@ use Rattle.step_machine.specs.Saying.{origin_of}
 use Rattle.step_machine.specs.Sealed.{HasStateTypes, IsPrepared, Ready}
 
 -- a result that is so where there is one
-pub if_ok_so : {T E : Type 0} (r : Result T E) (P Q : T → Type 0) → ((x : T) → P x → Q x) → IfOk r P → IfOk r Q
-if_ok_so (Ok x) P Q so h = so x h
-if_ok_so (Err e) P Q so h = tt
-
 -- what a node has ready for another in its round
 abbrev pub ready_in : NodeView → ℕ → Ready
 ready_in n dest = record {

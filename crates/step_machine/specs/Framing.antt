@@ -20,7 +20,7 @@ written_as n message = record {
   message = message;
 }
 
--- as the frame's bytes have it, which say nothing of the sender's state
+-- the message as the frame's bytes have it, which say nothing of its sender's state
 abbrev pub wire : Frame → Written
 wire f = written_as f.name f.message
 

@@ -92,7 +92,7 @@ impl Model for Node {
 impl Node {
     ghost use Rattle.step_machine.specs.Lending.{LeavesEnded};
 
-    /// The node `me` before its first round. The setup is lawful, and `me` is below its nodes.
+    /// The node `me` before its first round.
     pub fn new(alloc: Global, program: &Checked, setup: &Setup, me: u32) -> Result<Node, NoMemory>
         requires sized { IsSetup setup.now }
         requires me { me < setup.now.nodes }

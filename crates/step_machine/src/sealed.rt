@@ -12,7 +12,7 @@ use crate::event::Name;
 use crate::origin::Origin;
 use crate::said::Said;
 use crate::sealed_view::SealedView;
-use frame_format::{FrameVersion, copy_of, from_of, round_of, spelled_is_read, to_of};
+use frame_format::{FrameVersion, spelled_is_read};
 use frame_views::{FieldsView, FrameView, write_frame};
 use round_lang::{Kind, Message, NoMemory, Vars};
 use std::marker::Model;
@@ -104,13 +104,7 @@ impl Sealed {
     pub fn name(&self) -> Name
         ensures { result ≡ self.now.name }
     {
-        let bytes = self.said.part(self.first as usize);
-        Name {
-            from: from_of(bytes),
-            to: to_of(bytes),
-            round: round_of(bytes),
-            copy: copy_of(bytes),
-        }
+        self.seen().name()
     }
 
     /// The state that its sender was in.
@@ -118,31 +112,17 @@ impl Sealed {
     pub fn state(&self) -> &Vars
         ensures { result.now ≡ self.now.state }
     {
-        &self.said.origin.state
+        self.seen().state()
     }
 
     /// The frame, where it lies: it has the message's name and its fields.
     pub fn view(&self) -> FrameView<'_>
         ensures { result ≡ wire self.now }
     {
-        FrameView::over(
-            &self.said.origin.layout,
-            self.said.part(self.first as usize),
-        )
+        self.seen().view()
     }
 
-    /// The fields of its message, where they lie.
-    #[inline(always)]
-    pub fn fields(&self) -> FieldsView<'_, '_>
-        ensures { result ≡ self.now.message }
-    {
-        FieldsView::of_frame(
-            &self.said.origin.layout,
-            self.said.part(self.first as usize),
-        )
-    }
-
-    /// The same fields, of which the kinds are known.
+    /// The fields of its message, where they lie; their kinds are known.
     #[inline(always)]
     pub(crate) fn fields_of<'a>(&'a self, kinds: &'a [Kind]) -> FieldsView<'a, 'a>
         requires { map kind_of self.now.message ≡ kinds.now }

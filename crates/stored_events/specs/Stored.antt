@@ -22,21 +22,21 @@ event_of kind.Release n = event.Release n
 event_of kind.Drop n = event.Drop n
 event_of kind.Copy n = event.Copy n
 
--- the numbers of the name are few enough to be stored
-pub record IsFewName (n : Name) : Type 0 where
+-- the numbers of the name are small enough to be stored
+pub record IsStorableName (n : Name) : Type 0 where
   pub from : n.from < 16
   pub to : n.to < 16
   pub round : n.round < 16384
   pub copy : n.copy < 4
 
 -- and so are those of the event
-abbrev pub IsFew : Event → Type 0
-IsFew (event.Step i) = i < 16
-IsFew (event.Release n) = IsFewName n
-IsFew (event.Drop n) = IsFewName n
-IsFew (event.Copy n) = IsFewName n
+abbrev pub IsStorable : Event → Type 0
+IsStorable (event.Step i) = i < 16
+IsStorable (event.Release n) = IsStorableName n
+IsStorable (event.Drop n) = IsStorableName n
+IsStorable (event.Copy n) = IsStorableName n
 
 -- if there are events, the first has too large numbers
 abbrev pub AreLate : List Event → Type 0
 AreLate [] = Unit {0}
-AreLate (e ∷ es) = ¬ IsFew e
+AreLate (e ∷ es) = ¬ IsStorable e

@@ -1,6 +1,6 @@
 //! Events in few bytes.
 ghost use Rattle.std.specs.Prelude.{◌≡◌, IfOk};
-ghost use Rattle.stored_events.specs.Stored.{IsFew, IsFewName, event_of};
+ghost use Rattle.stored_events.specs.Stored.{IsStorable, IsStorableName, event_of};
 
 use crate::name::{ends_of, name_in, turn_of};
 use round_lang::NoMemory;
@@ -39,7 +39,7 @@ impl StoredEvent {
     /// An event of a run.
     #[inline(always)]
     pub fn new(event: Event) -> StoredEvent
-        requires { IsFew event }
+        requires { IsStorable event }
         ensures { result ≡ event }
     {
         match event {
@@ -72,7 +72,7 @@ impl StoredEvent {
 /// An event of this kind that names a message.
 #[inline(always)]
 fn of_network(kind: Kind, name: Name) -> StoredEvent
-    requires { IsFewName name }
+    requires { IsStorableName name }
     ensures { result ≡ event_of kind name }
 {
     StoredEvent {

@@ -1,7 +1,7 @@
 //! Lists of events in few bytes.
 ghost use Rattle.std.specs.Prelude.{◌≡◌, ◌<◌, ◌++◌, ◌∷◌, [], IfOk, IsTrue, OnErr, OnOk, false};
 ghost use Rattle.std.specs.Prelude.{vec_capacity, vec_len};
-ghost use Rattle.stored_events.specs.Stored.{AreLate, IsFew, IsFewName};
+ghost use Rattle.stored_events.specs.Stored.{AreLate, IsStorable, IsStorableName};
 
 use crate::event::{StoredEvent, events_of};
 use round_lang::NoMemory;
@@ -13,7 +13,7 @@ use step_machine::{Event, Name};
 /// whole from there on.
 #[derive(Drop)]
 pub struct Events {
-    few: Vec<StoredEvent>,
+    stored: Vec<StoredEvent>,
     whole: Vec<Event>,
 }
 
@@ -24,7 +24,7 @@ impl Model for Events {
 
     ghost Value = { List Event };
 
-    ghost view = { λ s. s.few.items ++ s.whole.items };
+    ghost view = { λ s. s.stored.items ++ s.whole.items };
 
     ghost invariant = { λ s. AreLate s.whole.items };
 }
@@ -35,7 +35,7 @@ impl Events {
         ensures { result ≡ [] }
     {
         Events {
-            few: Vec::new(alloc),
+            stored: Vec::new(alloc),
             whole: Vec::new(alloc),
         }
     }
@@ -46,11 +46,11 @@ impl Events {
         ensures ok { OnOk result (self.new ≡ self.old ++ event ∷ []) }
         ensures err { OnErr result (self.new ≡ self.old) }
     {
-        if self.whole.is_empty() && is_few(event) {
-            if self.few.len() == self.few.capacity() {
-                make_room(&mut self.few)?;
+        if self.whole.is_empty() && is_storable(event) {
+            if self.stored.len() == self.stored.capacity() {
+                make_room(&mut self.stored)?;
             }
-            self.few.push_reserved(StoredEvent::new(event));
+            self.stored.push_reserved(StoredEvent::new(event));
         } else {
             self.whole.push(event)?;
         }
@@ -62,14 +62,14 @@ impl Events {
         ensures all { self.now ≡ result.0.now ++ result.1.now }
         ensures late { AreLate result.1.now }
     {
-        (&self.few, &self.whole)
+        (&self.stored, &self.whole)
     }
 
     /// Takes all events away and keeps their memory.
     pub fn clear(&mut self)
         ensures { self.new ≡ [] }
     {
-        self.few.clear();
+        self.stored.clear();
         self.whole.clear();
     }
 
@@ -77,7 +77,7 @@ impl Events {
     pub fn to_vec(&self, alloc: Global) -> Result<Vec<Event>, NoMemory>
         ensures { IfOk result (λ events. events.items ≡ self.now) }
     {
-        let mut events = events_of(alloc, &self.few)?;
+        let mut events = events_of(alloc, &self.stored)?;
         events.extend_from_slice(&self.whole)?;
         Ok(events)
     }
@@ -95,21 +95,21 @@ fn make_room(events: &mut Vec<StoredEvent>) -> Result<(), NoMemory>
 
 /// Whether an event can be stored in 4 bytes.
 #[inline(always)]
-fn is_few(event: Event) -> bool
-    ensures few { IsTrue result → IsFew event }
-    ensures all { result ≡ false → ¬ IsFew event }
+fn is_storable(event: Event) -> bool
+    ensures storable { IsTrue result → IsStorable event }
+    ensures all { result ≡ false → ¬ IsStorable event }
 {
     match event {
         Event::Step(node) => node < 16,
-        Event::Release(name) | Event::Drop(name) | Event::Copy(name) => is_few_name(name),
+        Event::Release(name) | Event::Drop(name) | Event::Copy(name) => is_storable_name(name),
     }
 }
 
 /// Whether a name can.
 #[inline(always)]
-fn is_few_name(name: Name) -> bool
-    ensures few { IsTrue result → IsFewName name }
-    ensures all { result ≡ false → ¬ IsFewName name }
+fn is_storable_name(name: Name) -> bool
+    ensures storable { IsTrue result → IsStorableName name }
+    ensures all { result ≡ false → ¬ IsStorableName name }
 {
     name.from < 16 && name.to < 16 && name.round < 16384 && name.copy < 4
 }

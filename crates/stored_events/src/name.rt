@@ -1,6 +1,6 @@
 //! Names of messages in few bytes.
 ghost use Rattle.std.specs.Prelude.{◌≡◌, ◌<◌, ◌/◌, ◌%◌, ◌++◌, OnErr, OnOk};
-ghost use Rattle.stored_events.specs.Stored.{IsFewName, name_of};
+ghost use Rattle.stored_events.specs.Stored.{IsStorableName, name_of};
 
 use round_lang::NoMemory;
 use std::marker::Model;
@@ -27,7 +27,7 @@ impl StoredName {
     /// The name of a message of a run.
     #[inline(always)]
     pub fn new(name: Name) -> StoredName
-        requires { IsFewName name }
+        requires { IsStorableName name }
         ensures { result ≡ name }
     {
         StoredName {

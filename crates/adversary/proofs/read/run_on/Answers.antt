@@ -17,18 +17,18 @@ returns-in-Some-clause-cause g c =
     let s = c.args.driver.log.setup in
     let n = length c.args.driver.log.trace in
     let m = length c.trace.result.now in
-    let few = c.parts.result.0.now in
+    let stored = c.parts.result.0.now in
     let whole = c.parts.result.1.now in
     let f = c.unknown_at.result in
     let same = ap length (c.trace.ensures ∙ ap (λ b. b.log.trace) (c.book.ensures ∙ c.journal.ensures) ∙ c.in_ok-next.ensures.log.trace) in
-    let counted : m ≡ n + length few = omega (arith, same, length-append c.args.driver.log.trace few) in
+    let counted : m ≡ n + length stored = omega (arith, same, length-append c.args.driver.log.trace stored) in
     inr (subst (λ es. IsUnknownPast s n es f) (sym c.parts.ensures.all)
-    (unknown_late s n m few whole c.in-Some.event.now f c.requires c.parts.ensures.late (search rules) (search rules) counted c.in_ok-next.ensures.known c.unknown_at.ensures))
+    (unknown_late s n m stored whole c.in-Some.event.now f c.requires c.parts.ensures.late (search rules) (search rules) counted c.in_ok-next.ensures.known c.unknown_at.ensures))
 
 pub returns-in-None-clause-known : goal.returns-in-None-clause-known
 returns-in-None-clause-known g c =
     let s = c.args.driver.log.setup in
-    let few = c.parts.result.0.now in
+    let stored = c.parts.result.0.now in
     let whole = c.parts.result.1.now in
     let none : length whole ≡ 0 = search rules in
-    subst (All (IsKnown s)) (sym c.parts.ensures.all) (known_whole s few whole none c.in_ok-next.ensures.known)
+    subst (All (IsKnown s)) (sym c.parts.ensures.all) (known_whole s stored whole none c.in_ok-next.ensures.known)

@@ -12,12 +12,12 @@ use Rattle.step_book.specs.Agreed.{JournalAgrees}
 use Rattle.step_book.specs.Log.{mark_in, waiting_in}
 use Rattle.command_runs.proofs.explained.explained_run.Goals as goal
 
-pub returns-in-Ok-clause-explained : goal.returns-in-Ok-clause-explained
-returns-in-Ok-clause-explained g c =
+pub returns-clause-explained : goal.returns-clause-explained
+returns-clause-explained g c =
     let run = c.in_ok-journal.journal.log in
     let ran = c.in_ok-journal.ensures in
-    let said = c.in-Ok.ensures in
-    let rows = c.in-Ok.report.rows in
+    let said = c.in_ok-report.ensures in
+    let rows = c.in_ok-report.report.rows in
     let of_program = subst (λ p. All (IsOfRounds (algorithm_of p run.setup) (printed_omits rows)) rows) ran.program said.in_rounds in record {
       run = run;
       program = ran.program;
@@ -41,16 +41,16 @@ Agrees report p s = RunsAlgorithm1 p s → AreAgreed report.rows
 abbrev Inputs : Report → ProgramTree → Setup → Type 0
 Inputs report p s = RunsAlgorithm1 p s → AreInputs s report.rows
 
-pub returns-in-Ok-clause-agreement : goal.returns-in-Ok-clause-agreement
-returns-in-Ok-clause-agreement g c =
+pub returns-clause-agreement : goal.returns-clause-agreement
+returns-clause-agreement g c =
     let ran = c.in_ok-journal.ensures in
-    let report = c.in-Ok.report in
+    let report = c.in_ok-report.report in
     subst (λ s. Agrees report c.args.program.now s) ran.setup
-    (subst (λ p. Agrees report p c.in_ok-journal.journal.log.setup) ran.program c.in-Ok.ensures.agreement)
+    (subst (λ p. Agrees report p c.in_ok-journal.journal.log.setup) ran.program c.in_ok-report.ensures.agreement)
 
-pub returns-in-Ok-clause-validity : goal.returns-in-Ok-clause-validity
-returns-in-Ok-clause-validity g c =
+pub returns-clause-validity : goal.returns-clause-validity
+returns-clause-validity g c =
     let ran = c.in_ok-journal.ensures in
-    let report = c.in-Ok.report in
+    let report = c.in_ok-report.report in
     subst (λ s. Inputs report c.args.program.now s) ran.setup
-    (subst (λ p. Inputs report p c.in_ok-journal.journal.log.setup) ran.program c.in-Ok.ensures.validity)
+    (subst (λ p. Inputs report p c.in_ok-journal.journal.log.setup) ran.program c.in_ok-report.ensures.validity)

@@ -11,8 +11,8 @@ use Rattle.step_book.specs.Log.{Recorded, history, mark_in, waiting_in, world_of
 use Rattle.command_runs.specs.InLockstep.{ticks_of}
 use Rattle.command_runs.proofs.lockstep.lockstep_text.Goals as goal
 
-pub returns-in-Ok-clause-made : goal.returns-in-Ok-clause-made
-returns-in-Ok-clause-made g c =
+pub returns-clause-made : goal.returns-clause-made
+returns-clause-made g c =
     let start = g.P.Plan.start in
     let s = c.args.setup.now in
     let k = c.args.kind in
@@ -20,7 +20,7 @@ returns-in-Ok-clause-made g c =
     let run = c.in_ok-journal.journal.log in
     let ran = c.in_ok-journal.ensures in
     let correct = c.in-Some.correct.bits in
-    let text = string_bytes c.in-Ok.text in
+    let text = string_bytes c.in_ok-text.text in
     let ticks = ticks_of (start c.args.plan) s c.args.pacing.ticks in
     let same = c.trace.ensures ∙ ap (λ (x : Recorded _). x.log.trace) c.book.ensures in
     let lawful : IsLawful c.args.program.now.values s = c.if-not-is_lawful.ensures.0 refl in
@@ -43,7 +43,7 @@ returns-in-Ok-clause-made g c =
         bound = subst (λ p. IsDelayBound (start p) run correct b.delta b.gst) ran.plan ran.bound;
       };
       written = record {
-        spelled = c.in-Ok.ensures.spelled ∙ ap (text_of s k) same;
-        read_back = λ short. subst (λ es. Says text s k es) same (c.in-Ok.ensures.read_back some short);
+        spelled = c.in_ok-text.ensures.spelled ∙ ap (text_of s k) same;
+        read_back = λ short. subst (λ es. Says text s k es) same (c.in_ok-text.ensures.read_back some short);
       };
     }

@@ -38,9 +38,9 @@ returns-clause-explained g c = λ whole.
     let t = c.args.setup.now in
     let run = c.in_ok-journal.journal.log in
     let ran = c.in_ok-journal.ensures in
-    let said = c.in-Ok.ensures in
-    let rows = c.in-Ok.report.rows in
-    let text = string_bytes c.in-Ok-write_stored_schedule.trace in
+    let said = c.in_ok-report.ensures in
+    let rows = c.in_ok-report.report.rows in
+    let text = string_bytes c.in_ok-trace.trace in
     let stops = c.as_slice-stops.ensures.value in
     let had = subst (λ es. All (λ e. e ≢ NoMemory) es) c.deref.ensures.value (c.had_memory.ensures.0 whole) in
     let of_program = subst (λ p. All (IsOfRounds (algorithm_of p run.setup) (printed_omits rows)) rows) ran.program said.in_rounds in
@@ -69,8 +69,8 @@ returns-clause-explained g c = λ whole.
         memory = had;
       },
       record {
-        spelled = c.in-Ok-write_stored_schedule.ensures.spelled ∙ ap (text_of t.setup t.plan) same;
-        read_back = λ short. subst (λ es. Says text t.setup t.plan es) same (c.in-Ok-write_stored_schedule.ensures.read_back inputs short);
+        spelled = c.in_ok-trace.ensures.spelled ∙ ap (text_of t.setup t.plan) same;
+        read_back = λ short. subst (λ es. Says text t.setup t.plan es) same (c.in_ok-trace.ensures.read_back inputs short);
       },
     )
 
@@ -84,13 +84,13 @@ Inputs report p s = RunsAlgorithm1 p s → AreInputs s report.rows
 pub returns-clause-agreement : goal.returns-clause-agreement
 returns-clause-agreement g c =
     let ran = c.in_ok-journal.ensures in
-    let report = c.in-Ok.report in
+    let report = c.in_ok-report.report in
     subst (λ s. Agrees report c.args.program.now s) ran.setup
-    (subst (λ p. Agrees report p c.in_ok-journal.journal.log.setup) ran.program c.in-Ok.ensures.agreement)
+    (subst (λ p. Agrees report p c.in_ok-journal.journal.log.setup) ran.program c.in_ok-report.ensures.agreement)
 
 pub returns-clause-validity : goal.returns-clause-validity
 returns-clause-validity g c =
     let ran = c.in_ok-journal.ensures in
-    let report = c.in-Ok.report in
+    let report = c.in_ok-report.report in
     subst (λ s. Inputs report c.args.program.now s) ran.setup
-    (subst (λ p. Inputs report p c.in_ok-journal.journal.log.setup) ran.program c.in-Ok.ensures.validity)
+    (subst (λ p. Inputs report p c.in_ok-journal.journal.log.setup) ran.program c.in_ok-report.ensures.validity)

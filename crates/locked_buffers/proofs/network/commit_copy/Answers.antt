@@ -3,7 +3,7 @@ use Rattle.step_machine.specs.Sealed.{original}
 use Rattle.step_book.specs.Buffers.{IsSameRun}
 use Rattle.step_journal.specs.Fits.{place_among}
 use Rattle.locked_buffers.proofs.Copies.{spelt_made}
-use Rattle.locked_buffers.proofs.Noted.{few_name}
+use Rattle.step_book.proofs.Names.{storable_name}
 use Rattle.locked_buffers.proofs.network.commit_copy.Goals as goal
 
 pub put-requires-clause-honest : goal.put-requires-clause-honest
@@ -13,4 +13,4 @@ put-requires-clause-honest g c =
     c.honest.ensures c.requires.copied c.in-Some.is same
 
 pub new-requires : goal.new-requires
-new-requires g c = few_name c.args.run.now.setup c.args.name c.sound.ensures.lawful.sized c.requires.name
+new-requires g c = storable_name _ c.sound.ensures.lawful.sized c.args.name c.requires.name

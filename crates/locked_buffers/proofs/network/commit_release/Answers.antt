@@ -1,5 +1,5 @@
-use Rattle.locked_buffers.proofs.Noted.{few_name}
+use Rattle.step_book.proofs.Names.{storable_name}
 use Rattle.locked_buffers.proofs.network.commit_release.Goals as goal
 
 pub new-requires : goal.new-requires
-new-requires g c = few_name c.args.run.now.setup c.args.name c.sound.ensures.lawful.sized c.requires.name
+new-requires g c = storable_name _ c.sound.ensures.lawful.sized c.args.name c.requires.name

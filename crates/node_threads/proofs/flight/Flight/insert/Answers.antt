@@ -1,4 +1,4 @@
-use Rattle.std.proofs.Common.{◌≡◌, ◌≤◌, ◌+◌, ◌∙◌, ap, arith, drop, length, length-drop}
+use Rattle.std.proofs.Common.{◌≤◌, ◌+◌, ◌∙◌, ap, arith, drop, length, length-drop}
 use Rattle.std.specs.List.{insert}
 use Rattle.node_threads.proofs.Dropped.{drop_insert}
 use Rattle.node_threads.proofs.flight.Flight.insert.Goals as goal

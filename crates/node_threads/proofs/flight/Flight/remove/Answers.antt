@@ -1,4 +1,4 @@
-use Rattle.std.proofs.Common.{◌≡◌, ◌≤◌, ◌+◌, ◌∙◌, ap, arith, drop, length, length-drop, sym}
+use Rattle.std.proofs.Common.{◌≤◌, ◌+◌, ◌∙◌, ap, arith, drop, length, length-drop, sym}
 use Rattle.std.specs.List.{remove}
 use Rattle.node_threads.proofs.Dropped.{drop_next, drop_remove}
 use Rattle.node_threads.proofs.flight.Flight.remove.Goals as goal

@@ -5,7 +5,8 @@ use Rattle.step_book.specs.Log.{Log, SameMarksBut, SameWaiting, mark_in}
 use Rattle.step_book.proofs.Events.{lost, not_lost, to_fields}
 use Rattle.step_book.proofs.Later.{kept_happened}
 use Rattle.step_book.proofs.Leaves.{dropped_mark, dropped_others, dropped_waiting}
-use Rattle.step_book.proofs.Reading.{few_name, flying_in, log_view, of_view, trace_view}
+use Rattle.step_book.proofs.Names.{storable_name}
+use Rattle.step_book.proofs.Reading.{flying_in, log_view, of_view, trace_view}
 use Rattle.step_book.proofs.book.Book.drop_copy.Goals as goal
 
 pub put-requires-clause-place : goal.put-requires-clause-place
@@ -75,4 +76,4 @@ returns-clause-kept g c =
     (kept_happened (of_view g.P.Plan.start g.P.Plan.nodes c.self.view_is c.self.invariant) (Drop n))
 
 pub note_answer-requires : goal.note_answer-requires
-note_answer-requires g c = few_name (of_view g.P.Plan.start g.P.Plan.nodes c.self.view_is c.self.invariant) c.args.name c.requires
+note_answer-requires g c = storable_name _ (of_view g.P.Plan.start g.P.Plan.nodes c.self.view_is c.self.invariant).lawful.sized c.args.name c.requires

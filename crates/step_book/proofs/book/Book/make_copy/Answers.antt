@@ -6,7 +6,8 @@ use Rattle.step_book.specs.Agreed.{KeepsClosed}
 use Rattle.step_book.specs.Log.{Log, SameMarksBut, SameWaiting, mark_in}
 use Rattle.step_book.proofs.Later.{kept_happened}
 use Rattle.step_book.proofs.Leaves.{copied_mark, copied_others, copied_waiting}
-use Rattle.step_book.proofs.Reading.{few_name, log_view, of_view, trace_view}
+use Rattle.step_book.proofs.Names.{storable_name}
+use Rattle.step_book.proofs.Reading.{log_view, of_view, trace_view}
 use Rattle.step_book.proofs.Tables.{puts_after}
 use Rattle.step_book.proofs.book.Book.make_copy.Goals as goal
 
@@ -81,4 +82,4 @@ returns-clause-kept g c =
     (kept_happened (of_view g.P.Plan.start g.P.Plan.nodes c.self.view_is c.self.invariant) (Copy n))
 
 pub note_answer-requires : goal.note_answer-requires
-note_answer-requires g c = few_name (of_view g.P.Plan.start g.P.Plan.nodes c.self.view_is c.self.invariant) c.args.name c.requires.name
+note_answer-requires g c = storable_name _ (of_view g.P.Plan.start g.P.Plan.nodes c.self.view_is c.self.invariant).lawful.sized c.args.name c.requires.name

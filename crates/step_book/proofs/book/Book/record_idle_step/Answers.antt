@@ -5,7 +5,7 @@ use Rattle.step_machine.specs.declared.event.Event.TheVariants.{Step}
 use Rattle.step_book.specs.Log.{Log, SameMarks, SameWaiting}
 use Rattle.step_book.proofs.Events.{count_le, idle, to_fields}
 use Rattle.step_book.proofs.Leaves.{idle_marks, idle_waiting}
-use Rattle.step_book.proofs.Reading.{few_node, log_view, nodes_view, of_view, trace_view}
+use Rattle.step_book.proofs.Reading.{storable_node, log_view, nodes_view, of_view, trace_view}
 use Rattle.step_book.proofs.book.Book.record_idle_step.Goals as goal
 
 pub note_step-requires-clause-counted : goal.note_step-requires-clause-counted
@@ -39,5 +39,5 @@ returns-clause-kept g c =
     subst (λ (z : Log). KeepsClosed (g.P.Plan.start v.plan) v.log z) (sym (log_view (Step c.args.node) _ c.self.view_is c.in_ok-note_step.ensures.trace))
     (kept_happened (of_view g.P.Plan.start g.P.Plan.nodes c.self.view_is c.self.invariant) (Step c.args.node))
 
-pub note_step-requires-clause-few : goal.note_step-requires-clause-few
-note_step-requires-clause-few g c = few_node (of_view g.P.Plan.start g.P.Plan.nodes c.self.view_is c.self.invariant) c.args.node c.requires.node
+pub note_step-requires-clause-storable : goal.note_step-requires-clause-storable
+note_step-requires-clause-storable g c = storable_node (of_view g.P.Plan.start g.P.Plan.nodes c.self.view_is c.self.invariant) c.args.node c.requires.node

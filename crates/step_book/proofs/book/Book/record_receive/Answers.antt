@@ -6,7 +6,7 @@ use Rattle.step_book.specs.Mailing.{Mailed}
 use Rattle.step_book.specs.Log.{Log, SameMarks, SameWaitingBut, waiting_in}
 use Rattle.step_book.proofs.Events.{count_le, kept, received, to_fields}
 use Rattle.step_book.proofs.Leaves.{received_marks, received_own, received_others}
-use Rattle.step_book.proofs.Reading.{few_node, buffer_once, of_view, nodes_view, trace_view, log_view}
+use Rattle.step_book.proofs.Reading.{storable_node, buffer_once, of_view, nodes_view, trace_view, log_view}
 use Rattle.step_book.proofs.Reading.{counts_len, handed_len, waiting_len, lists_len, waits_len}
 use Rattle.step_book.proofs.Reading.{waits_read}
 use Rattle.step_book.proofs.Vectors.{waits_set, waits_same, lists_push, lists_same}
@@ -87,5 +87,5 @@ returns-clause-kept g c =
     subst (λ (z : Log). KeepsClosed (g.P.Plan.start v.plan) v.log z) (sym (log_view (Step c.args.node) _ c.self.view_is c.in_ok-note_receive.ensures.trace))
     (kept_happened (of_view g.P.Plan.start g.P.Plan.nodes c.self.view_is c.self.invariant) (Step c.args.node))
 
-pub note_receive-requires-clause-few : goal.note_receive-requires-clause-few
-note_receive-requires-clause-few g c = few_node (of_view g.P.Plan.start g.P.Plan.nodes c.self.view_is c.self.invariant) c.args.node c.requires.node
+pub note_receive-requires-clause-storable : goal.note_receive-requires-clause-storable
+note_receive-requires-clause-storable g c = storable_node (of_view g.P.Plan.start g.P.Plan.nodes c.self.view_is c.self.invariant) c.args.node c.requires.node

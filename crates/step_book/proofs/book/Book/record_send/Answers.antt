@@ -5,11 +5,12 @@ use Rattle.std.proofs.Common.{subst, ap, ◌∙◌}
 use Rattle.step_machine.specs.declared.event.Event.TheVariants.{Step}
 use Rattle.step_machine.specs.declared.event.Name.{Name}
 use Rattle.step_book.specs.History.{arrival}
-use Rattle.stored_events.specs.Stored.{IsFewName}
+use Rattle.stored_events.specs.Stored.{IsStorableName}
 use Rattle.step_book.specs.Log.{Log, SameMarksBut, SameWaiting, mark_in}
 use Rattle.step_book.proofs.Events.{count_le, kept, send_round, sent, to_fields}
 use Rattle.step_book.proofs.Leaves.{unsent, sent_mark, sent_others, sent_waiting}
-use Rattle.step_book.proofs.Reading.{few_name, of_view, nodes_view, trace_view, log_view}
+use Rattle.step_book.proofs.Names.{storable_name}
+use Rattle.step_book.proofs.Reading.{of_view, nodes_view, trace_view, log_view}
 use Rattle.step_book.proofs.book.Book.record_send.Goals as goal
 
 pub note_send-requires-clause-counted : goal.note_send-requires-clause-counted
@@ -74,7 +75,7 @@ returns-clause-kept g c =
     subst (λ (z : Log). KeepsClosed (g.P.Plan.start v.plan) v.log z) (sym (log_view (Step p.name.from) _ c.self.view_is more))
     (kept_happened (of_view g.P.Plan.start g.P.Plan.nodes c.self.view_is c.self.invariant) (Step p.name.from))
 
-pub note_send-requires-clause-few : goal.note_send-requires-clause-few
-note_send-requires-clause-few g c =
+pub note_send-requires-clause-storable : goal.note_send-requires-clause-storable
+note_send-requires-clause-storable g c =
     let h = of_view g.P.Plan.start g.P.Plan.nodes c.self.view_is c.self.invariant in
-    subst (λ n. IsFewName n) (sym c.name-name.ensures.value) (few_name h c.args.prepared.now.name c.requires.name)
+    subst (λ n. IsStorableName n) (sym c.name-name.ensures.value) (storable_name _ h.lawful.sized c.args.prepared.now.name c.requires.name)

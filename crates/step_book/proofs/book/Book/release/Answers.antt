@@ -9,7 +9,8 @@ use Rattle.step_book.specs.Log.{Log, IsFlying, SameMarksBut, SameWaitingBut, mar
 use Rattle.step_book.proofs.Events.{kept, moved, let_be, to_fields}
 use Rattle.step_book.proofs.Leaves.{released_mark, released_others, released_waiting}
 use Rattle.step_book.proofs.Leaves.{released_waiting_others}
-use Rattle.step_book.proofs.Reading.{few_name, of_view, trace_view, log_view}
+use Rattle.step_book.proofs.Names.{storable_name}
+use Rattle.step_book.proofs.Reading.{of_view, trace_view, log_view}
 use Rattle.step_book.proofs.Reading.{flying_in, handed_len}
 use Rattle.step_book.proofs.Reading.{lists_len, waiting_len, waits_len}
 use Rattle.step_book.proofs.Vectors.{lists_same, waits_push, waits_same}
@@ -128,7 +129,7 @@ returns-clause-kept g c =
     (kept_happened (of_view g.P.Plan.start g.P.Plan.nodes c.self.view_is c.self.invariant) (Release n))
 
 pub note_release-requires : goal.note_release-requires
-note_release-requires g c = few_name (of_view g.P.Plan.start g.P.Plan.nodes c.self.view_is c.self.invariant) c.args.name c.requires
+note_release-requires g c = storable_name _ (of_view g.P.Plan.start g.P.Plan.nodes c.self.view_is c.self.invariant).lawful.sized c.args.name c.requires
 
 pub note_answer-requires : goal.note_answer-requires
-note_answer-requires g c = few_name (of_view g.P.Plan.start g.P.Plan.nodes c.self.view_is c.self.invariant) c.args.name c.requires
+note_answer-requires g c = storable_name _ (of_view g.P.Plan.start g.P.Plan.nodes c.self.view_is c.self.invariant).lawful.sized c.args.name c.requires

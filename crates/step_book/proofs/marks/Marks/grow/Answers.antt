@@ -1,13 +1,14 @@
 use Rattle.std.proofs.Common.{List, arith, set, subst}
+use Rattle.std.proofs.lemmas.Result.{on_ok_weaker}
 use Rattle.step_book.specs.declared.mark.Mark.{Mark}
 use Rattle.step_book.specs.declared.mark.Mark.TheVariants.{Unsent}
 use Rattle.step_book.specs.Tables.{SameTables, tables_of}
-use Rattle.step_book.proofs.Tables.{on_ok, room_vec, same_then, same_vec}
+use Rattle.step_book.proofs.Tables.{room_vec, same_then, same_vec}
 use Rattle.step_book.proofs.marks.Marks.grow.Goals as goal
 
 pub returns-clause-room : goal.returns-clause-room
 returns-clause-room c =
-    on_ok c.grow.result (λ long. room_vec c.add_tables.new.tables.items c.grow.new.marks c.args.copy c.args.place (let there = c.in_ok-add_tables.ensures.there in omega arith) (let l = long in omega arith)) c.grow.ensures.long
+    on_ok_weaker c.grow.result (λ long. room_vec c.add_tables.new.tables.items c.grow.new.marks c.args.copy c.args.place (let there = c.in_ok-add_tables.ensures.there in omega arith) (let l = long in omega arith)) c.grow.ensures.long
 
 pub returns-clause-same : goal.returns-clause-same
 returns-clause-same c =

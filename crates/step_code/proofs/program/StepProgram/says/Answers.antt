@@ -1,5 +1,6 @@
 use Rattle.std.proofs.Common.{◌∙◌, arith, refl}
-use Rattle.step_code.proofs.Answering.{free_fits, free_is, if_ok, kinds_read, of_round, said_part}
+use Rattle.std.proofs.lemmas.Result.{IfOk-weaker}
+use Rattle.step_code.proofs.Answering.{free_fits, free_is, kinds_read, of_round, said_part}
 use Rattle.step_code.proofs.Safe.{message_from}
 use Rattle.step_code.proofs.program.StepProgram.says.Goals as goal
 
@@ -18,7 +19,7 @@ values-requires-2-clause-spelled c =
 pub returns-clause-message : goal.returns-clause-message
 returns-clause-message c = λ env h.
     let said = said_part c.args.self.now c.args.round c.args.block.now c.args.code.now c.requires.part env c.args.room.now c.run.new.self c.values.result c.deref.result.now c.shape-shape.result.now c.message_place.result c.args.code.now.free c.values.ensures.value c.deref.ensures.value c.run.ensures.words c.shape-shape.ensures c.message_place.ensures.place refl h in
-    if_ok c.values-2.result _ _ (λ v e. e ∙ said.1) c.values-2.ensures
+    IfOk-weaker c.values-2.result _ _ (λ v e. e ∙ said.1) c.values-2.ensures
 
 pub returns-clause-room : goal.returns-clause-room
 returns-clause-room c =
@@ -27,4 +28,4 @@ returns-clause-room c =
 pub returns-clause-kinds : goal.returns-clause-kinds
 returns-clause-kinds c =
     let said = said_part c.args.self.now c.args.round c.args.block.now c.args.code.now c.requires.part c.requires.ready.0 c.args.room.now c.run.new.self c.values.result c.deref.result.now c.shape-shape.result.now c.message_place.result c.args.code.now.free c.values.ensures.value c.deref.ensures.value c.run.ensures.words c.shape-shape.ensures c.message_place.ensures.place refl c.requires.ready.1 in
-    if_ok c.values-2.result _ _ (λ v e. of_round c.args.self.now c.args.round c.args.block.now _ v c.requires.part.at (kinds_read _ _ v e said.2) c.shape-shape.ensures) c.values-2.ensures
+    IfOk-weaker c.values-2.result _ _ (λ v e. of_round c.args.self.now c.args.round c.args.block.now _ v c.requires.part.at (kinds_read _ _ v e said.2) c.shape-shape.ensures) c.values-2.ensures

@@ -1,8 +1,9 @@
 use Rattle.std.proofs.Common.{◌≡◌, ◌<◌, ap, sym, subst, ◌∙◌}
+use Rattle.std.proofs.lemmas.Result.{IfOk-weaker}
 use Rattle.frame_format.specs.Formats.{Format}
 use Rattle.step_machine.specs.Nodes.{NodeView}
 use Rattle.step_machine.specs.Saying.{layout_in, origin_of}
-use Rattle.step_machine.proofs.Preparing.{if_ok_so, ready_is, ready_told}
+use Rattle.step_machine.proofs.Preparing.{ready_is, ready_told}
 use Rattle.step_machine.proofs.node.Node.prepare.Goals as goal
 
 pub prepared-requires-clause-spoken : goal.prepared-requires-clause-spoken
@@ -20,13 +21,13 @@ prepared-requires-clause-to c =
 pub returns-in-Some-clause-ready : goal.returns-in-Some-clause-ready
 returns-in-Some-clause-ready c =
     let told = c.self.invariant.spoken c.in-Some.spoken c.in-Some.is in
-    if_ok_so c.prepared.result _ _ (λ p is. ready_told c.self.inside c.args.self.now c.args.dest c.in-Some.spoken p c.self.view_is told is)
+    IfOk-weaker c.prepared.result _ _ (λ p is. ready_told c.self.inside c.args.self.now c.args.dest c.in-Some.spoken p c.self.view_is told is)
     (c.prepared.ensures told.message told.spoken)
 
 pub returns-in-Some-clause-prepared : goal.returns-in-Some-clause-prepared
 returns-in-Some-clause-prepared c =
     let told = c.self.invariant.spoken c.in-Some.spoken c.in-Some.is in
-    if_ok_so c.prepared.result _ _
+    IfOk-weaker c.prepared.result _ _
     (λ p is. ready_is c.self.inside c.args.self.now c.args.dest p c.self.view_is c.self.invariant.state.types
     (ready_told c.self.inside c.args.self.now c.args.dest c.in-Some.spoken p c.self.view_is told is))
     (c.prepared.ensures told.message told.spoken)
