@@ -1,6 +1,6 @@
 //! What plans answer.
 use crate::fault::Fault;
-use crate::reading::{cut, kind, number, three, two};
+use crate::reading::{cut, kind, number, two};
 use slot_plans::{Growing, Known, MAX_ROUNDS, Plan, Slot};
 
 const OUTSIDE: &str = "not within its limits";
