@@ -58,7 +58,7 @@ MayReceive start nodes rounds a = (¬ IsDueBy start rounds a) × IsReceiveBy sta
 abbrev pub MayClose : (ℕ → ℕ) → ℕ → Account → ℕ → Type 0
 MayClose start rounds a r = IsDueBy start rounds a × (round_by a ≡ r)
 
--- why a send is refused, by what the node counts
+-- why a send is refused, by the node's own counts
 abbrev pub SendBlame : (ℕ → ℕ) → ℕ → Account → Name → SendFault → Type 0
 SendBlame start rounds a n send.NotClosed = IsDueBy start rounds a
 SendBlame start rounds a n send.NotItsSlot = (¬ IsDueBy start rounds a) × (¬ IsSlotBy start a n)

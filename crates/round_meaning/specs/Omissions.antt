@@ -7,7 +7,7 @@ use Rattle.round_meaning.specs.declared.omissions.Omission.{Omission}
 abbrev pub omits : ℕ → ℕ → ℕ → Omission → Bool
 omits i r j o = o.receiver == i && (o.round == r && o.sender == j)
 
--- some entry omits j's message of round r from i
+-- some entry omits j's message of round r to i
 abbrev pub is_omitted : List Omission → ℕ → ℕ → ℕ → Bool
 is_omitted os i r j = list_any (omits i r j) os
 

@@ -29,7 +29,7 @@ pub record IsStorableName (n : Name) : Type 0 where
   pub round : n.round < 16384
   pub copy : n.copy < 4
 
--- and so are those of the event
+-- the numbers of the event are small enough to be stored
 abbrev pub IsStorable : Event → Type 0
 IsStorable (event.Step i) = i < 16
 IsStorable (event.Release n) = IsStorableName n
