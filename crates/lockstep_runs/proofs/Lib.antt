@@ -1,7 +1,6 @@
 pub mod Keys
 pub mod Flights
 pub mod Maps
-pub mod Slots
 pub mod Turns
 pub mod Paces
 pub mod Ticks

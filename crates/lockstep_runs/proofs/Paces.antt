@@ -27,12 +27,13 @@ use Rattle.lockstep_runs.specs.Lockstep.{AllBefore, IsAloft, IsBefore, IsLockste
 use Rattle.lockstep_runs.specs.Lockstep.{IsOriginal, Key, MayHappen, Part, Tick, Turn, due_in}
 use Rattle.lockstep_runs.specs.Lockstep.{key_of, turn_in}
 use Rattle.lockstep_runs.specs.Pacing.{AreSteps, Flies, Flight, IsFlight, IsOther, IsPaced}
-use Rattle.lockstep_runs.specs.Pacing.{IsPopped, NoneBefore, due_key, tick_key, turn_key, waits_at}
+use Rattle.lockstep_runs.specs.Pacing.{IsPopped, NoneBefore, due_key, tick_key, waits_at}
 use Rattle.step_book.specs.Serials.{sends, sent, serial}
 use Rattle.lockstep_runs.proofs.Flights.{flight_kept, flight_less, flight_more, left, release_came}
 use Rattle.lockstep_runs.proofs.Flights.{release_stays, step_came, step_stays}
 use Rattle.lockstep_runs.proofs.Keys.{all_before, all_before_tick, each_map, each_more}
 use Rattle.step_book.proofs.Serials.{no_send, sends_at, sent_more, sent_same, serial_now, slot_on}
+use Rattle.lockstep_runs.proofs.Turns.{turn_key}
 
 -- what holds of the events of a run holds of its record
 pub on_record : {P : Type 0} (start : P → ℕ → ℕ) (j k : Recorded P) (e : Event) (Q : World → List Event → Type 0) → k.plan ≡ j.plan → IsOneMore j.log k.log e → Q (world_of (start j.plan) j.log) (e ∷ history j.log) → Q (world_of (start k.plan) k.log) (history k.log)

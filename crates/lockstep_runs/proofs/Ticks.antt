@@ -11,6 +11,7 @@ use Rattle.step_book.specs.Log.{IsFlying, Recorded, count_of, history, opened, w
 use Rattle.step_book.specs.Names.{IsName, IsNameOf}
 use Rattle.step_book.specs.History.{mark_of}
 use Rattle.step_book.specs.Serials.{sent}
+use Rattle.step_book.specs.Slots.{IsMessageAt, IsNoMessageAt}
 use Rattle.step_book.specs.Trace.{steps}
 use Rattle.step_book.specs.World.{IsPlan, World, nodes_of}
 use Rattle.step_book.proofs.Kept.{mark_before}
@@ -21,17 +22,17 @@ use Rattle.step_machine.specs.declared.event.Name.{Name}
 use Rattle.adversary.specs.Driving.{IsOneMore}
 use Rattle.lockstep_runs.specs.Lockstep.{AllBefore, IsAloft, IsLockstepRun, IsOriginal, Turn}
 use Rattle.lockstep_runs.specs.Lockstep.{due_in, first_in, turn_in}
-use Rattle.lockstep_runs.specs.Pacing.{AreSteps, AreStepsIn, Flight, IsFlight, IsFlightIn, IsPaced}
-use Rattle.lockstep_runs.specs.Pacing.{IsOther, IsPacedIn, IsPopped, IsSameRun, IsSlotName, NoSlot}
-use Rattle.lockstep_runs.specs.Pacing.{NoneBefore, tick_key, turn_key, waits_at}
+use Rattle.lockstep_runs.specs.Pacing.{AreSteps, Flight, IsFlight, IsFlightIn, IsPaced}
+use Rattle.lockstep_runs.specs.Pacing.{IsOther, IsPacedIn, IsPopped, IsSameRun}
+use Rattle.lockstep_runs.specs.Pacing.{NoneBefore, tick_key, waits_at}
 use Rattle.lockstep_runs.proofs.Keys.{all_before, each_none}
 use Rattle.lockstep_runs.proofs.Maps.{none_empty}
 use Rattle.lockstep_runs.proofs.Paces.{IsReleasingIn, lockstep_run, off_record, on_record}
 use Rattle.lockstep_runs.proofs.Paces.{paced_step, popped_aloft, releasing_begins, releasing_on}
 use Rattle.lockstep_runs.proofs.Paces.{serial_spoken, step_silent, step_spoken, steps_release}
 use Rattle.lockstep_runs.proofs.Paces.{tick_ends}
-use Rattle.lockstep_runs.proofs.Turns.{steps_begin, steps_end, steps_now, steps_passed}
-use Rattle.lockstep_runs.proofs.Turns.{steps_stepped, turn_at}
+use Rattle.lockstep_runs.proofs.Turns.{AreStepsIn, steps_begin, steps_end, steps_now, steps_passed}
+use Rattle.lockstep_runs.proofs.Turns.{steps_stepped, turn_at, turn_key}
 
 pub same_run : {P : Type 0} (first j k : Recorded P) (e : Event) → IsSameRun first j → k.plan ≡ j.plan → IsOneMore j.log k.log e → IsSameRun first k
 same_run first j k e h same g = record {
@@ -213,13 +214,8 @@ ticked_last start p s plan b correct ticks j f h = lockstep_run (world_of (start
 
 -- ---- a step's slot
 
-slot_world : {P : Type 0} (start : P → ℕ → ℕ) (j : Recorded P) (q : P) (s : Setup) → q ≡ j.plan → s ≡ j.log.setup → (n : Name) (x : ℕ) → x ≡ start j.plan n.round + n.to → x ≡ start q n.round + n.to
-slot_world start j q s e f n x at = at ∙ ap (λ z. start z n.round + n.to) (sym e)
-
-pub no_original : {P : Type 0} (start : P → ℕ → ℕ) (j : Recorded P) (q : P) (s : Setup) (i now : ℕ) → q ≡ j.plan → s ≡ j.log.setup → count_of j.log i ≡ now → NoSlot (start q) s now → (n : Name) → IsOriginal (world_of (start j.plan) j.log) n → steps i (history j.log) ≡ start j.plan n.round + n.to → ⊥
-no_original start j q s i now e f count none n o at =
-    none n (subst (λ (z : Setup). IsName z n) (sym f) (subst (λ (z : ℕ). IsNameOf z j.log.setup.rounds n) (nodes_are (start j.plan) j.log) o.named))
-    (sym count ∙ slot_world start j q s e f n (steps i (history j.log)) at)
+pub no_original : {P : Type 0} (start : P → ℕ → ℕ) (j k : Recorded P) (i now : ℕ) → k.plan ≡ j.plan → IsOneMore j.log k.log (Step i) → count_of j.log i ≡ now → IsNoMessageAt (world_of (start k.plan) k.log) now → (n : Name) → IsOriginal (world_of (start j.plan) j.log) n → steps i (history j.log) ≡ start j.plan n.round + n.to → ⊥
+no_original start j k i now same more count none n o at = off_record start j k (Step i) (λ w t. IsNoMessageAt w now) same more none n o.named (sym count ∙ at)
 
 -- the slot of a name
 pub record IsSlotHere {P : Type 0} (start : P → ℕ → ℕ) (j : Recorded P) (i : ℕ) (m : Name) : Type 0 where
@@ -227,15 +223,14 @@ pub record IsSlotHere {P : Type 0} (start : P → ℕ → ℕ) (j : Recorded P) 
   pub own : m.from ≡ i
   pub at : count_of j.log i ≡ start j.plan m.round + m.to
 
-pub slot_here : {P : Type 0} (start : P → ℕ → ℕ) (j : Recorded P) (q : P) (s : Setup) (i now : ℕ) (m : Name) → q ≡ j.plan → s ≡ j.log.setup → count_of j.log i ≡ now → IsSlotName (start q) s i now m → IsSlotHere start j i m
-slot_here start j q s i now m e f count h = record {
-  original = record {
-    named = subst (λ (z : ℕ). IsNameOf z j.log.setup.rounds m) (sym (nodes_are (start j.plan) j.log)) (subst (λ (z : Setup). IsName z m) f h.named);
-    first = h.first;
-  };
-  own = h.own;
-  at = count ∙ h.at ∙ ap (λ z. start z m.round + m.to) e;
-}
+pub slot_here : {P : Type 0} (start : P → ℕ → ℕ) (j k : Recorded P) (i now : ℕ) (m : Name) → k.plan ≡ j.plan → IsOneMore j.log k.log (Step i) → count_of j.log i ≡ now → IsMessageAt (world_of (start k.plan) k.log) i now m → IsSlotHere start j i m
+slot_here start j k i now m same more count h =
+    let here = off_record start j k (Step i) (λ w t. IsMessageAt w i now m) same more h in
+    record {
+      original = record { named = here.named; first = here.copy };
+      own = here.from;
+      at = count ∙ here.slot;
+    }
 
 -- what isn't in flight after its slot was silence
 pub stays_down : {P : Type 0} (start : P → ℕ → ℕ) (b : Bounded) (j k : Recorded P) (i : ℕ) (f : Flight) (m : Name) → IsPlan (world_of (start j.plan) j.log) → IsSlotHere start j i m → k.plan ≡ j.plan → IsOneMore j.log k.log (Step i) → (IsFlying (start k.plan) k.log m → ⊥) → IsFlightIn (start j.plan) j.log b f → IsFlightIn (start k.plan) k.log b f

@@ -13,8 +13,18 @@ use Rattle.step_book.specs.World.{World, nodes_of}
 use Rattle.step_book.proofs.Places.{steps_at, steps_other}
 use Rattle.step_machine.specs.declared.event.Event.{Event}
 use Rattle.step_machine.specs.declared.event.Event.TheVariants.{Step}
-use Rattle.lockstep_runs.specs.Lockstep.{first_in, turn_in}
-use Rattle.lockstep_runs.specs.Pacing.{AreSteps, AreStepsIn}
+use Rattle.lockstep_runs.specs.Lockstep.{Key, first_in, turn_in}
+use Rattle.lockstep_runs.specs.Pacing.{AreSteps}
+
+-- the key of a turn of a tick's steps
+abbrev pub turn_key : ℕ → ℕ → Key
+turn_key tick turn = record { tick = tick; part = 1; turn = turn }
+
+-- how many steps each node took in a tick whose first turns are over
+abbrev pub AreStepsIn : World → Bounded → ℕ → List Event → ℕ → ℕ → Type 0
+AreStepsIn w b correct t tick turns =
+    (i : ℕ) → i < nodes_of w → steps i t ≡ (if has_node correct i
+    then (if ltb (turn_in b (nodes_of w) tick i) turns then tick + 1 else tick) else 0)
 
 wrapped : (x n : ℕ) → x < n → (x + n) % n ≡ x
 wrapped x n l = let e : x + n ≡ 1 * n + x = omega arith in ap (λ y. y % n) e ∙ digits_mod 1 l

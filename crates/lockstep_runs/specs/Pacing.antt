@@ -1,19 +1,17 @@
 -- What holds while a lockstep run is made.
-use Rattle.std.specs.Prelude.{◌≡◌, ℕ, ◌+◌, ◌<◌, ◌≤◌, List, Option, Some, None, if◌then◌else◌, ltb}
+use Rattle.std.specs.Prelude.{◌≡◌, ℕ, ◌<◌, ◌≤◌, List, Option, Some, None, if◌then◌else◌}
 use Rattle.std.specs.BTreeMap as tree
 use Rattle.std.specs.BTreeMap.{BTreeMap}
 use Rattle.std.specs.Ordering.{nat_cmp, ordering_then}
 use Rattle.policies.specs.declared.bounded.Bounded.{Bounded}
 use Rattle.round_meaning.specs.Nodes.{has_node}
-use Rattle.round_meaning.specs.declared.setup.Setup.{Setup}
 use Rattle.step_book.specs.Log.{Log, Recorded, history, world_of}
-use Rattle.step_book.specs.Names.{IsName}
 use Rattle.step_book.specs.Trace.{steps}
 use Rattle.step_book.specs.World.{IsPlan, World, nodes_of}
 use Rattle.step_machine.specs.declared.event.Event.{Event}
 use Rattle.step_machine.specs.declared.event.Name.{Name}
 use Rattle.lockstep_runs.specs.Lockstep.{AllBefore, Each, IsAloft, IsBefore, Key, MayHappen, due_in}
-use Rattle.lockstep_runs.specs.Lockstep.{key_of, turn_in}
+use Rattle.lockstep_runs.specs.Lockstep.{key_of}
 use Rattle.step_book.specs.Serials.{sent, serial}
 
 -- messages by the tick in which they're due and by their serials
@@ -56,10 +54,6 @@ abbrev pub IsPacedIn : (ℕ → ℕ) → Log → Bounded → ℕ → ℕ → Key
 IsPacedIn start v b correct ticks up_to f =
     IsPaced (world_of start v) b correct ticks up_to (history v) f
 
--- the key of a turn of a tick's steps
-abbrev pub turn_key : ℕ → ℕ → Key
-turn_key tick turn = record { tick = tick; part = 1; turn = turn }
-
 -- the key with which a tick begins
 abbrev pub tick_key : ℕ → Key
 tick_key tick = record { tick = tick; part = 0; turn = 0 }
@@ -72,12 +66,6 @@ NoneBefore f tick = (due turn : ℕ) (n : Name) → waits_at f due turn ≡ Some
 abbrev pub AreSteps : World → ℕ → List Event → ℕ → Type 0
 AreSteps w correct t ticks =
     (i : ℕ) → i < nodes_of w → steps i t ≡ (if has_node correct i then ticks else 0)
-
--- in a tick whose first turns are over
-abbrev pub AreStepsIn : World → Bounded → ℕ → List Event → ℕ → ℕ → Type 0
-AreStepsIn w b correct t tick turns =
-    (i : ℕ) → i < nodes_of w → steps i t ≡ (if has_node correct i
-    then (if ltb (turn_in b (nodes_of w) tick i) turns then tick + 1 else tick) else 0)
 
 -- the same program, setup and plan
 pub record IsSameRun {P : Type 0} (old new : Recorded P) : Type 0 where
@@ -104,14 +92,3 @@ pub record IsPopped (old new : Flight) (now : ℕ) (n : Name) : Type 0 where
   pub least : (d k : ℕ) (m : Name) → waits_at new d k ≡ Some m
       → IsBefore (due_key due turn) (due_key d k)
   pub fewer : tree.btree_map_len new < tree.btree_map_len old
-
--- it's the name of what a node sends at this step number
-pub record IsSlotName (start : ℕ → ℕ) (s : Setup) (from step : ℕ) (n : Name) : Type 0 where
-  pub named : IsName s n
-  pub first : n.copy ≡ 0
-  pub own : n.from ≡ from
-  pub at : step ≡ start n.round + n.to
-
--- nothing is sent at this step number
-abbrev pub NoSlot : (ℕ → ℕ) → Setup → ℕ → Type 0
-NoSlot start s step = (n : Name) → IsName s n → step ≡ start n.round + n.to → ⊥

@@ -1,19 +1,18 @@
 //! The ticks of a lockstep run.
-ghost use Rattle.std.specs.Prelude.{◌≡◌, ◌+◌, ◌<◌, ◌≤◌, IfNone, IfOk, IfSome, OnOk};
-ghost use Rattle.round_meaning.specs.Setups.{max_rounds};
+ghost use Rattle.std.specs.Prelude.{◌≡◌, ◌+◌, ◌<◌, IfNone, IfOk, IfSome, OnOk};
 ghost use Rattle.slot_plans.specs.Plan.{IsDelta};
 ghost use Rattle.step_book.specs.Log.{count_of, history, world_of};
 ghost use Rattle.step_book.specs.World.{IsPlan};
 ghost use Rattle.step_machine.specs.declared.event.Event.TheVariants as event;
 ghost use Rattle.adversary.specs.Driving.{IsOneMore};
 ghost use Rattle.lockstep_runs.specs.Pacing.{AreSteps, IsFlightIn, IsPacedIn, IsPopped, IsSameRun};
-ghost use Rattle.lockstep_runs.specs.Pacing.{IsSlotName, NoSlot, NoneBefore, tick_key};
+ghost use Rattle.lockstep_runs.specs.Pacing.{NoneBefore, tick_key};
 
 use adversary::Driver;
 use policies::Bounded;
 use round_lang::NoMemory;
-use round_meaning::{NodeSet, Setup};
-use slot_plans::{Plan, Slot};
+use round_meaning::NodeSet;
+use slot_plans::Plan;
 use std::collections::BTreeMap;
 use step_machine::{Event, InFlight, Name};
 
@@ -96,7 +95,7 @@ fn step<P: Plan>(
     let driver = driver.act(Event::Step(node))?;
     let book = driver.journal().book();
     book.agrees();
-    let Some(name) = slot_of(book.plan(), book.setup(), node, now) else {
+    let Some(name) = book.message_at(node, u64::from(now)) else {
         return Ok(driver);
     };
     if book.is_flying(name) {
@@ -108,26 +107,4 @@ fn step<P: Plan>(
         flight.insert((bounded.due(&message), serial), name)?;
     }
     Ok(driver)
-}
-
-/// The name of what a node sends at its step number `step`, where that is a send of the run.
-fn slot_of<P: Plan>(plan: P, setup: &Setup, from: u32, step: u32) -> Option<Name>
-    requires nodes { P.nodes plan ≡ setup.now.nodes }
-    requires rounds { setup.now.rounds ≤ max_rounds }
-    requires from { from < setup.now.nodes }
-    ensures some { IfSome result (IsSlotName (P.start plan) setup.now from step) }
-    ensures none { IfNone result (NoSlot (P.start plan) setup.now step) }
-{
-    if plan.start(setup.rounds + 1) <= step {
-        return None;
-    }
-    match plan.place(step) {
-        Slot::Send { round, to } => Some(Name {
-            from,
-            to,
-            round,
-            copy: 0,
-        }),
-        Slot::Receive { round: _, last: _ } => None,
-    }
 }

@@ -1,5 +1,5 @@
 -- When the step that a node takes next keeps the bound.
-use Rattle.std.proofs.Common.{◌≡◌, ℕ, suc, ◌+◌, ◌-◌, ◌^◌, ◌<◌, ◌≤◌, ◌↔◌, Bool, true, false, not}
+use Rattle.std.proofs.Common.{◌≡◌, ℕ, ◌+◌, ◌^◌, ◌<◌, ◌≤◌, ◌↔◌, Bool, true, false, not}
 use Rattle.std.proofs.Common.{max, List, get_or, sym, subst, refl, ap, ◌∙◌, arith}
 use Rattle.std.proofs.lemmas.Bool.{and_from, and_parts, lt-ltb, both_ways}
 use Rattle.round_lang.specs.Sets.{is_in}
@@ -8,12 +8,11 @@ use Rattle.slot_plans.specs.Plan.{PlanLaws}
 use Rattle.step_machine.specs.declared.event.Event.{Event}
 use Rattle.step_machine.specs.declared.event.Name.{Name}
 use Rattle.step_book.specs.Log.{Log, world_of}
+use Rattle.step_book.specs.Slots.{IsMessageAt, IsNoMessageAt}
 use Rattle.step_book.specs.Trace.{steps}
 use Rattle.step_book.specs.World.{World, IsPlan}
-use Rattle.step_book.proofs.Keeps.{round_same}
-use Rattle.step_book.proofs.Names.{name_same}
-use Rattle.omission_explainer.specs.Lateness.{HasReceive, IsNoOwnSlot, IsOwnSlot, KeepsBound}
-use Rattle.omission_explainer.specs.Lateness.{marks_of, open_until}
+use Rattle.step_book.proofs.Slots.{one_message}
+use Rattle.omission_explainer.specs.Lateness.{HasReceive, KeepsBound, marks_of, open_until}
 use Rattle.omission_explainer.proofs.Slots.{sends_small}
 
 -- a member that may be a node is found
@@ -23,45 +22,25 @@ has_member members i small h = and_from _ _ (lt-ltb i 64 small) h
 pub member_of : (members i : ℕ) → has_node members i ≡ true → is_in members i ≡ true
 member_of members i h = (and_parts _ _ h).1
 
--- a step is one slot
-pub one_slot : (w : World) → IsPlan w → (j x : ℕ) (n m : Name) → IsOwnSlot w j x n → IsOwnSlot w j x m → n ≡ m
-one_slot w plan j x n m a b =
-    let few = a.to in
-    let other = b.to in
-    let at = a.slot in
-    let first = b.first in
-    let long = plan.next n.round a.first in
-    let back : m.round ≡ suc (m.round - 1) = omega arith in
-    let slot : x ≡ w.start (suc (m.round - 1)) + m.to = b.slot ∙ ap (λ r. w.start r + m.to) back in
-    let round : n.round ≡ m.round = round_same w plan n.round (m.round - 1) m.to x a.first b.to (omega arith) (omega arith) slot ∙ sym back in
-    let start = ap w.start round in
-    let there = b.slot in
-    let to : n.to ≡ m.to = omega arith in
-    name_same n m (a.from ∙ sym b.from) to round (a.copy ∙ sym b.copy)
-
 module _ (w : World) (t : List Event) (correct delta gst : ℕ) (counts : List ℕ) (j : ℕ) (plan : IsPlan w) where
   pub keeps_early : get_or counts j 0 < gst → KeepsBound w t correct delta gst counts j
   keeps_early early n own here late = absurd (omega arith)
 
-  pub keeps_no_slot : IsNoOwnSlot w (get_or counts j 0) → KeepsBound w t correct delta gst counts j
-  keeps_no_slot none n own here late =
-      let first = own.first in
-      let last = own.last in
-      let back : n.round ≡ suc (n.round - 1) = omega arith in
-      absurd (none n.to (n.round - 1) own.to (omega arith) (own.slot ∙ ap (λ r. w.start r + n.to) back))
+  pub keeps_silent : IsNoMessageAt w (get_or counts j 0) → KeepsBound w t correct delta gst counts j
+  keeps_silent none n own here late = absurd (none n own.named own.slot)
 
-  pub keeps_other : (n : Name) → IsOwnSlot w j (get_or counts j 0) n → (is_in correct n.to ≡ true → ⊥) → KeepsBound w t correct delta gst counts j
+  pub keeps_other : (n : Name) → IsMessageAt w j (get_or counts j 0) n → (is_in correct n.to ≡ true → ⊥) → KeepsBound w t correct delta gst counts j
   keeps_other n s out m own here late has =
-      let same = one_slot w plan j (get_or counts j 0) n m s own in
+      let same = one_message w plan j (get_or counts j 0) n m s own in
       out (ap (λ (x : Name). is_in correct x.to) same ∙ here)
 
   -- what a receive of the slot's receiver may find too late
   abbrev pub Late : Name → Type 0
   Late n = HasReceive w (max (get_or counts j 0 + delta) (get_or counts n.to 0)) (open_until (steps n.to t) (marks_of w t n))
 
-  pub keeps_at : (n : Name) (b : Bool) → IsOwnSlot w j (get_or counts j 0) n → is_in correct n.to ≡ true → gst ≤ get_or counts j 0 → (b ≡ true) ↔ Late n → (not b ≡ true) ↔ KeepsBound w t correct delta gst counts j
+  pub keeps_at : (n : Name) (b : Bool) → IsMessageAt w j (get_or counts j 0) n → is_in correct n.to ≡ true → gst ≤ get_or counts j 0 → (b ≡ true) ↔ Late n → (not b ≡ true) ↔ KeepsBound w t correct delta gst counts j
   keeps_at n b s here late both = (
-    λ h m own member due has. both_ways b (not_is b h) (both.1 (subst (λ (x : Name). Late x) (sym (one_slot w plan j (get_or counts j 0) n m s own)) has)),
+    λ h m own member due has. both_ways b (not_is b h) (both.1 (subst (λ (x : Name). Late x) (sym (one_message w plan j (get_or counts j 0) n m s own)) has)),
     λ keeps. is_not b (λ on. keeps n s here late (both.0 on)),
   )
     where
@@ -74,9 +53,9 @@ module _ (w : World) (t : List Event) (correct delta gst : ℕ) (counts : List �
       is_not false h = refl
 
 -- a slot's step number with a delay fits 64 bits
-pub slot_small : (start receives : ℕ → ℕ) (nodes : ℕ) (v : Log) → PlanLaws nodes receives start → nodes ≡ v.setup.nodes → v.setup.rounds ≤ 4096 → (j x : ℕ) (n : Name) → IsOwnSlot (world_of start v) j x n → n.to < nodes → x < 2 ^ 32
+pub slot_small : (start receives : ℕ → ℕ) (nodes : ℕ) (v : Log) → PlanLaws nodes receives start → nodes ≡ v.setup.nodes → v.setup.rounds ≤ 4096 → (j x : ℕ) (n : Name) → IsMessageAt (world_of start v) j x n → n.to < nodes → x < 2 ^ 32
 slot_small start receives nodes v laws sized few j x n s to =
-    let first = s.first in
-    let last = s.last in
+    let first = s.named.first in
+    let last = s.named.last in
     let at = s.slot in
     omega (arith, sends_small start receives nodes v laws sized few n.round (omega arith) (omega arith))

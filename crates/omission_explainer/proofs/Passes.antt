@@ -11,12 +11,13 @@ use Rattle.step_machine.specs.declared.event.Event.{Event}
 use Rattle.step_machine.specs.declared.event.Event.TheVariants.{Step}
 use Rattle.step_machine.specs.declared.event.Name.{Name}
 use Rattle.step_book.specs.History.{message}
+use Rattle.step_book.specs.Slots.{IsMessageAt}
 use Rattle.step_book.specs.Trace.{is_step, steps}
 use Rattle.step_book.specs.World.{World, IsPlan, is_receive, nodes_of}
 use Rattle.step_book.proofs.Moments.{At, Newest, Older}
 use Rattle.step_book.proofs.Places.{steps_at, steps_other, steps_le}
-use Rattle.omission_explainer.specs.Lateness.{HasReceive, IsOwnSlot, KeepsBound, KeepsPace}
-use Rattle.omission_explainer.specs.Lateness.{marks_of, open_until}
+use Rattle.omission_explainer.specs.Lateness.{HasReceive, KeepsBound, KeepsPace, marks_of}
+use Rattle.omission_explainer.specs.Lateness.{open_until}
 use Rattle.omission_explainer.specs.Verdict.{AreNodes, IsLetInBetween}
 use Rattle.omission_explainer.proofs.Delays.{in_time, not_late}
 use Rattle.omission_explainer.proofs.Moments.{newest_or_older}
@@ -150,8 +151,8 @@ module _ (w : World) (t : List Event) (correct delta gst k : ℕ) (p : List Even
       let at : steps n.from p ≡ w.start n.round + n.to = omega arith in
       let whole : max (get_or counts k 0 + delta) (get_or counts n.to 0) ≡ max (steps n.from p + delta) (steps n.to p) =
       ap (λ z. max (z + delta) (get_or counts n.to 0)) (count ∙ sym same) ∙ ap (max (steps n.from p + delta)) other in
-      not_late w t p n plan own.to own.first own.last at (stands_own n own.from) delta
-      (λ c spoken s r d l. h n c own.from y (record { first = own.first; last = own.last; copy = own.copy; slot = at; spoken = spoken }) (omega arith) s r (omega arith) l)
+      not_late w t p n plan own.named.to own.named.first own.named.last at (stands_own n own.from) delta
+      (λ c spoken s r d l. h n c own.from y (record { first = own.named.first; last = own.named.last; copy = own.copy; slot = at; spoken = spoken }) (omega arith) s r (omega arith) l)
       (subst (λ z. HasReceive w z (open_until (steps n.to t) (marks_of w t n))) whole has)
 
   bound_of : KeepsBound w t correct delta gst counts k → IsBoundAt w t correct delta gst k p
@@ -162,12 +163,17 @@ module _ (w : World) (t : List Event) (correct delta gst k : ℕ) (p : List Even
       let same : steps n.from p ≡ steps k p = ap (λ x. steps x p) own in
       let whole : max (get_or counts k 0 + delta) (get_or counts n.to 0) ≡ max (steps n.from p + delta) (steps n.to p) =
       ap (λ z. max (z + delta) (get_or counts n.to 0)) (count ∙ sym same) ∙ ap (max (steps n.from p + delta)) other in
-      let is_own : IsOwnSlot w k (get_or counts k 0) n = record {
-        from = own;
-        to = within n.to y;
-        first = spoken.first;
-        last = spoken.last;
+      let node = within k here in
+      let is_own : IsMessageAt w k (get_or counts k 0) n = record {
+        named = record {
+          from = omega (arith, own);
+          to = within n.to y;
+          first = spoken.first;
+          last = spoken.last;
+          copy = omega (arith, spoken.copy);
+        };
         copy = spoken.copy;
+        from = own;
         slot = omega arith;
       } in
       in_time w t p n plan (within n.to y) spoken.first spoken.last spoken.slot (stands_own n own) delta c spoken.spoken s r (omega arith) l

@@ -1,41 +1,26 @@
--- The slots and the receives of a plan, as a step's number tells them.
-use Rattle.std.proofs.Common.{◌≡◌, ℕ, ◌+◌, ◌^◌, ◌<◌, ◌≤◌, ◌↔◌, Bool, true, false, refl, ◌∙◌, arith}
+-- The receives of a plan, as a step's number tells them.
+use Rattle.std.proofs.Common.{◌≡◌, ℕ, ◌+◌, ◌^◌, ◌<◌, ◌≤◌, ◌↔◌, Bool, true, false, ◌∙◌, arith}
 use Rattle.std.proofs.Common.{◌⊎◌, inl, inr}
 use Rattle.std.proofs.lemmas.Bool.{cases_lt, le-leb, lt-leb}
 use Rattle.slot_plans.specs.Plan.{PlanLaws}
 use Rattle.slot_plans.specs.Slot.{IsSendSlot, IsReceiveSlot}
 use Rattle.step_book.specs.Log.{Log, world_of}
 use Rattle.step_book.specs.World.{World, IsPlan, is_receive, nodes_of}
-use Rattle.step_book.proofs.Keeps.{idle_no_slot, receive_no_slot}
 use Rattle.step_book.proofs.Plans.{is_receive_at, start_le}
 use Rattle.step_book.proofs.Reading.{nodes_are}
+use Rattle.step_book.proofs.Slots.{round_within}
 use Rattle.step_book.proofs.Starts.{plan_is}
 use Rattle.step_book.proofs.WaitsKept.{idle_is_no_receive}
-use Rattle.omission_explainer.specs.Lateness.{HasReceive, IsNoOwnSlot, IsOwnSlot}
+use Rattle.omission_explainer.specs.Lateness.{HasReceive}
 
 module _ (w : World) (plan : IsPlan w) where
-  -- a round that starts before the last one ends isn't after it
-  pub round_within : (r x : ℕ) → w.start r ≤ x → x < w.start (w.rounds + 1) → r ≤ w.rounds
-  round_within r x low high = by (cases_lt w.rounds r)
-    where
-      by : (w.rounds < r) ⊎ (r ≤ w.rounds) → r ≤ w.rounds
-      by (inl late) = absurd (omega (arith, start_le w plan (w.rounds + 1) r (omega arith) (omega arith)))
-      by (inr within) = within
-
-  -- after the last round there is no slot, and no receive
-  pub no_slot_past : (x : ℕ) → w.start (w.rounds + 1) ≤ x → IsNoOwnSlot w x
-  no_slot_past x past i q few of_round at = idle_no_slot w plan q i x (omega arith) few past at
-
+  -- after the last round there is no receive
   pub no_receive_past : (low high : ℕ) → w.start (w.rounds + 1) ≤ low → HasReceive w low high → ⊥
   no_receive_past low high past h =
       let l = h.after in
       let off = idle_is_no_receive w plan h.step (omega arith) in
       let on = h.receive in
       cc
-
-  -- a receive is no slot
-  pub no_slot_there : (r x : ℕ) → 1 ≤ r → w.start r + nodes_of w ≤ x → x < w.start (r + 1) → IsNoOwnSlot w x
-  no_slot_there r x z low high i q few of_round at = receive_no_slot w plan r q i x (omega arith) few low high at
 
   -- of the steps from a slot on, the first receive of the round is the first receive
   pub first_after_slot : (r x low high : ℕ) → 1 ≤ r → r ≤ w.rounds → x ≡ w.start r + nodes_of w → w.start r ≤ low → low ≤ x → (x < high) ↔ HasReceive w low high
@@ -68,9 +53,6 @@ module _ (start receives : ℕ → ℕ) (nodes : ℕ) (v : Log) (laws : PlanLaws
   run_plan : IsPlan (world_of start v)
   run_plan = plan_is start receives nodes v laws sized
 
-  pub all_rounds : start (v.setup.rounds + 1) ≤ start 4097
-  all_rounds = start_le (world_of start v) run_plan (v.setup.rounds + 1) 4097 (omega arith) (omega arith)
-
   -- the sends of a round end within 32 bits
   pub sends_small : (r : ℕ) → 1 ≤ r → r ≤ 4096 → start r + nodes < 2 ^ 32
   sends_small r z l =
@@ -97,28 +79,3 @@ module _ (start receives : ℕ → ℕ) (nodes : ℕ) (v : Log) (laws : PlanLaws
       let upto = slot.before_end in
       let n = nodes_are start v in
       first_here (world_of start v) run_plan r low high z.0 (round_within (world_of start v) run_plan r low (omega arith) within) (omega arith) upto
-
-  pub none_past : (x : ℕ) → start (v.setup.rounds + 1) ≤ x → IsNoOwnSlot (world_of start v) x
-  none_past x past = no_slot_past (world_of start v) run_plan x past
-
-  pub none_there : (r x : ℕ) (last : Bool) → IsReceiveSlot nodes start x r last → IsNoOwnSlot (world_of start v) x
-  none_there r x last slot =
-      let z = slot.of_round in
-      let from = slot.after_sends in
-      let n = nodes_are start v in
-      no_slot_there (world_of start v) run_plan r x z.0 (omega arith) slot.before_end
-
-  pub slot_is : (r j to x : ℕ) → IsSendSlot nodes start x r to → x < start (v.setup.rounds + 1) → IsOwnSlot (world_of start v) j x (record { from = j; to = to; round = r; copy = 0 })
-  slot_is r j to x slot within =
-      let z = slot.of_round in
-      let at = slot.place in
-      let small = slot.to_node in
-      let n = nodes_are start v in
-      record {
-        from = refl;
-        to = omega arith;
-        first = z.0;
-        last = round_within (world_of start v) run_plan r x (omega arith) within;
-        copy = refl;
-        slot = at;
-      }

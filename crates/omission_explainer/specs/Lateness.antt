@@ -1,12 +1,13 @@
 -- The delay bound in the receiver's own steps, as one pass over a trace can tell it.
-use Rattle.std.specs.Prelude.{◌≡◌, ◌≢◌, ℕ, suc, ◌+◌, ◌<◌, ◌≤◌, Bool, true, false, List}
+use Rattle.std.specs.Prelude.{◌≡◌, ℕ, ◌+◌, ◌<◌, ◌≤◌, Bool, true, false, List}
 use Rattle.std.specs.Prelude.{if◌then◌else◌, max, min, slice_index}
 use Rattle.round_lang.specs.Sets.{is_in}
 use Rattle.step_book.specs.declared.mark.Mark.{Mark}
 use Rattle.step_book.specs.declared.mark.Mark.TheVariants.{Unsent, Silent, Flying, Released, Lost}
 use Rattle.step_book.specs.History.{mark_of}
+use Rattle.step_book.specs.Slots.{IsMessageAt}
 use Rattle.step_book.specs.Trace.{steps}
-use Rattle.step_book.specs.World.{World, is_receive, nodes_of}
+use Rattle.step_book.specs.World.{World, is_receive}
 use Rattle.step_machine.specs.declared.event.Event.{Event}
 use Rattle.step_machine.specs.declared.event.Name.{Name}
 
@@ -54,23 +55,10 @@ abbrev pub KeepsPace : ℕ → List ℕ → ℕ → Type 0
 KeepsPace correct counts i =
     (j : ℕ) → is_in correct j ≡ true → slice_index counts i ≤ slice_index counts j
 
--- no slot to a node in a round has this step number
-abbrev pub IsNoOwnSlot : World → ℕ → Type 0
-IsNoOwnSlot w count = (i q : ℕ) → i < nodes_of w → q < w.rounds → count ≢ w.start (suc q) + i
-
--- it is node j's slot of this message, which makes its copy 0
-pub record IsOwnSlot (w : World) (j count : ℕ) (n : Name) : Type 0 where
-  pub from : n.from ≡ j
-  pub to : n.to < nodes_of w
-  pub first : 0 < n.round
-  pub last : n.round ≤ w.rounds
-  pub copy : n.copy ≡ 0
-  pub slot : count ≡ w.start n.round + n.to
-
 -- node j takes its next step, and `counts` has how many each correct node took before: no message
 -- that it sends there is too late for a receive
 abbrev pub KeepsBound : World → List Event → ℕ → ℕ → ℕ → List ℕ → ℕ → Type 0
 KeepsBound w t correct delta gst counts j =
-    (n : Name) → IsOwnSlot w j (slice_index counts j) n → is_in correct n.to ≡ true
+    (n : Name) → IsMessageAt w j (slice_index counts j) n → is_in correct n.to ≡ true
     → gst ≤ slice_index counts j → ¬ HasReceive w (max (slice_index counts j + delta)
     (slice_index counts n.to)) (open_until (steps n.to t) (marks_of w t n))

@@ -1,12 +1,10 @@
 //! Whether a run kept what its plan counts on.
-ghost use Rattle.std.specs.Prelude.{◌≡◌, ◌+◌, ◌<◌, ◌≤◌, ◌↔◌, IfSome, IsTrue, MatchOption, Some};
-ghost use Rattle.std.specs.Prelude.{length, max};
+ghost use Rattle.std.specs.Prelude.{◌≡◌, ◌+◌, ◌<◌, ◌≤◌, ◌↔◌, IfSome, IsTrue, Some, length, max};
 ghost use Rattle.slot_plans.specs.Plan.{IsClearRound};
 ghost use Rattle.step_book.specs.Log.{count_of, history, mark_in, world_of};
 ghost use Rattle.step_book.specs.Names.{IsName};
-ghost use Rattle.omission_explainer.specs.Lateness.{HasReceive, IsNoOwnSlot, IsOwnSlot, KeepsBound};
-ghost use Rattle.omission_explainer.specs.Lateness.{KeepsPace, copy_open_until, marks_of};
-ghost use Rattle.omission_explainer.specs.Lateness.{open_until};
+ghost use Rattle.omission_explainer.specs.Lateness.{HasReceive, KeepsBound, KeepsPace};
+ghost use Rattle.omission_explainer.specs.Lateness.{copy_open_until, marks_of, open_until};
 ghost use Rattle.omission_explainer.specs.Verdict.{AreNodes, HearsFrom, IsDelayBound, IsLockstep};
 ghost use Rattle.omission_explainer.specs.Verdict.{yes_or_no};
 
@@ -139,7 +137,7 @@ fn keeps_bound<P: Plan>(book: &Book<P>, terms: Terms, counts: &[u64], node: u32)
     if count < u64::from(terms.gst) {
         return true;
     }
-    match slot_at(book, node, count) {
+    match book.message_at(node, count) {
         Some(name) => {
             if !terms.correct.contains(name.to) {
                 return true;
@@ -148,29 +146,6 @@ fn keeps_bound<P: Plan>(book: &Book<P>, terms: Terms, counts: &[u64], node: u32)
             !has_receive(book, low, open_until(book, name))
         }
         None => true,
-    }
-}
-
-/// The message for which a step of a node is the slot.
-fn slot_at<P: Plan>(book: &Book<P>, node: u32, count: u64) -> Option<Name>
-    requires { node < book.now.log.setup.nodes }
-    ensures { MatchOption result
-        (IsNoOwnSlot (world_of (P.start book.now.plan) book.now.log) count)
-        (IsOwnSlot (world_of (P.start book.now.plan) book.now.log) node count) }
-{
-    book.agrees();
-    let plan = book.plan();
-    if count >= u64::from(plan.start(book.setup().rounds + 1)) {
-        return None;
-    }
-    match plan.place(count as u32) {
-        Slot::Send { round, to } => Some(Name {
-            from: node,
-            to,
-            round,
-            copy: 0,
-        }),
-        Slot::Receive { round: _, last: _ } => None,
     }
 }
 

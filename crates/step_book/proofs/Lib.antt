@@ -18,6 +18,7 @@ pub mod Events
 pub mod Leaves
 pub mod Closing
 pub mod Starts
+pub mod Slots
 pub mod Vectors
 pub mod Moments
 pub mod Placed

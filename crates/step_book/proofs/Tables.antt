@@ -1,7 +1,7 @@
 -- Tables as they grow and as a place of one is written.
 use Rattle.std.proofs.Common.{◌≡◌, ◌≢◌, ℕ, ◌-◌, ◌<◌, ◌≤◌, List, [], ◌∷◌, ◌++◌, length, get_or, set, sym}
 use Rattle.std.proofs.Common.{subst, ap, ◌∙◌, arith, refl, ◌⊎◌, inl, inr}
-use Rattle.std.specs.Prelude.{All, Ok, Vec}
+use Rattle.std.specs.Prelude.{All, Vec}
 use Rattle.std.proofs.lemmas.Bool.{cases_lt, cases_eq}
 use Rattle.std.proofs.lemmas.List.{get_or-set_same, get_or-set_other}
 use Rattle.std.proofs.lemmas.List.{get_or_append_left, get_or-append_right}

@@ -5,6 +5,7 @@ pub use Rattle.step_machine.specs.Nodes
 pub use Rattle.slot_plans.specs.Plan
 pub mod World
 pub mod Names
+pub mod Slots
 pub mod Tables
 pub mod Trace
 pub mod Stored

@@ -18,6 +18,7 @@ ghost use Rattle.step_book.specs.Log.{happened, history, mark_in, opened, round_
 ghost use Rattle.step_book.specs.Log.{states_of, waiting_in, world_of};
 ghost use Rattle.step_book.specs.Names.{IsName};
 ghost use Rattle.step_book.specs.Serials.{AreSent, HasSerial};
+ghost use Rattle.step_book.specs.Slots.{IsNoMessageAt, IsMessageAt};
 ghost use Rattle.step_book.specs.Stored.{IsShort};
 ghost use Rattle.step_book.specs.declared.mark.Mark.TheVariants.{Unsent};
 ghost use Rattle.step_machine.specs.declared.event.Name.{Name as OneName};
@@ -33,7 +34,7 @@ use crate::opening::{first_rows, no_mail, no_steps};
 use round_check::Checked;
 use round_lang::NoMemory;
 use round_meaning::Setup;
-use slot_plans::Plan;
+use slot_plans::{Plan, Slot};
 use std::alloc::Global;
 use std::marker::Model;
 use std::sync::Arc;
@@ -376,6 +377,28 @@ impl<P: Plan> Book<P> {
         ensures small { result < 2 ^ 31 }
     {
         self.count_of(node).min(self.start(self.setup.rounds + 1))
+    }
+
+    /// The message for which a step of a node, from 0, is the slot; `None` where that step is a
+    /// receive, or past the last round.
+    pub fn message_at(&self, node: u32, step: u64) -> Option<Name>
+        requires { node < self.now.log.setup.nodes }
+        ensures { MatchOption result
+            (IsNoMessageAt (world_of (P.start self.now.plan) self.now.log) step)
+            (IsMessageAt (world_of (P.start self.now.plan) self.now.log) node step) }
+    {
+        if step >= self.start(self.setup.rounds + 1) {
+            return None;
+        }
+        match self.plan.place(step as u32) {
+            Slot::Send { round, to } => Some(Name {
+                from: node,
+                to,
+                round,
+                copy: 0,
+            }),
+            Slot::Receive { round: _, last: _ } => None,
+        }
     }
 
     /// Whether a round of the node is due and isn't closed.

@@ -1,6 +1,7 @@
-use Rattle.std.proofs.Common.{◌≡◌, ◌<◌, ◌≤◌, ◌∙◌, ◌+◌, ap, arith, length, refl, subst, sym}
+use Rattle.std.proofs.Common.{◌≡◌, ◌<◌, ◌≤◌, ◌∙◌, ◌+◌, arith, length, refl, subst, sym}
 use Rattle.step_book.specs.Log.{IsFlying, Recorded, history, world_of}
 use Rattle.step_book.specs.Serials.{sent}
+use Rattle.step_book.specs.Slots.{IsMessageAt, IsNoMessageAt}
 use Rattle.step_book.specs.World.{nodes_of}
 use Rattle.step_book.proofs.Reading.{nodes_are}
 use Rattle.step_machine.specs.declared.event.Event.TheVariants.{Step}
@@ -19,13 +20,13 @@ returns-in_default-clause-flight g c =
     let same = c.in_ok-driver.ensures.plan in
     let more = c.in_ok-driver.ensures.log in
     let read : c.book-book.result.now ≡ k = c.book-book.ensures ∙ c.journal-2.ensures in
-    let plan = c.plan.ensures ∙ ap (λ (z : Recorded _). z.plan) read ∙ same in
-    let setup = c.setup.ensures ∙ ap (λ (z : Recorded _). z.log.setup) read ∙ more.setup in
     let w = world_of (start j.plan) j.log in
+    let none : IsNoMessageAt (world_of (start k.plan) k.log) c.args.now =
+    subst (λ (z : Recorded _). IsNoMessageAt (world_of (start z.plan) z.log) c.args.now) read (subst (λ x. IsNoMessageAt (world_of (start c.book-book.result.now.plan) c.book-book.result.now.log) x) c.from.ensures c.in_default.ensures) in
     let inside : c.args.node < nodes_of w = (let n = nodes_are (start j.plan) j.log in let l = c.requires.node in omega arith) in
     on_record start j k (Step c.args.node) (λ w t. IsFlight w c.args.bounded.now t c.args.flight.now) same more
     (step_quiet w c.requires.plan c.args.bounded.now c.args.node (history j.log) c.args.flight.now inside
-    (no_original start j c.plan.result c.setup.result.now c.args.node c.args.now plan setup c.requires.count c.in_default.ensures.none) c.requires.flight)
+    (no_original start j k c.args.node c.args.now same more c.requires.count none) c.requires.flight)
 
 pub returns-clause-flight : goal.returns-clause-flight
 returns-clause-flight g c =
@@ -36,12 +37,12 @@ returns-clause-flight g c =
     let same = c.in_ok-driver.ensures.plan in
     let more = c.in_ok-driver.ensures.log in
     let read : c.book-book.result.now ≡ k = c.book-book.ensures ∙ c.journal-2.ensures in
-    let plan = c.plan.ensures ∙ ap (λ (z : Recorded _). z.plan) read ∙ same in
-    let setup = c.setup.ensures ∙ ap (λ (z : Recorded _). z.log.setup) read ∙ more.setup in
+    let some : IsMessageAt (world_of (start k.plan) k.log) c.args.node c.args.now c.in-Some.name =
+    subst (λ (z : Recorded _). IsMessageAt (world_of (start z.plan) z.log) c.args.node c.args.now c.in-Some.name) read (subst (λ x. IsMessageAt (world_of (start c.book-book.result.now.plan) c.book-book.result.now.log) c.args.node x c.in-Some.name) c.from.ensures c.in-Some.ensures) in
     let names = c.messages-serial.result.now in
     let counted : length names ≡ sent (world_of (start j.plan) j.log) (history j.log) =
     subst (λ (z : Recorded _). length names ≡ sent (world_of (start z.plan) z.log) (history z.log)) (c.book.ensures ∙ c.journal.ensures) c.messages-serial.ensures.counted in
-    let slot = slot_here start j c.plan.result c.setup.result.now c.args.node c.args.now c.in-Some.name plan setup c.requires.count c.in-Some.ensures.some in
+    let slot = slot_here start j k c.args.node c.args.now c.in-Some.name same more c.requires.count some in
     elim c.if-is_flying.branch [
       | then-is_flying+in_ok-insert w ↦
           let up = subst (λ (z : Recorded _). IsFlying (start z.plan) z.log c.in-Some.name) read (c.is_flying.ensures.0 (let z = w.if-is_flying.true in cc)) in

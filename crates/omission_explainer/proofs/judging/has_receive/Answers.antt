@@ -1,8 +1,8 @@
 use Rattle.std.proofs.Common.{◌≡◌, ◌∙◌, ◌+◌, ◌<◌, ◌≤◌, ap, subst, arith}
 use Rattle.std.proofs.lemmas.Bool.{lt-ltb, ltb-true}
 use Rattle.slot_plans.specs.Slot.{IsSendSlot, IsReceiveSlot}
-use Rattle.omission_explainer.proofs.Slots.{all_rounds, sends_small, past_all, slot_first}
-use Rattle.omission_explainer.proofs.Slots.{receive_first}
+use Rattle.step_book.proofs.Slots.{all_rounds}
+use Rattle.omission_explainer.proofs.Slots.{past_all, receive_first, sends_small, slot_first}
 use Rattle.omission_explainer.proofs.judging.has_receive.Goals as goal
 use Rattle.omission_explainer.proofs.judging.has_receive.Goals.{in-Send, in-Receive}
 

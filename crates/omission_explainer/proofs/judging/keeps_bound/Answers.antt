@@ -5,7 +5,7 @@ use Rattle.step_book.specs.Log.{history, world_of}
 use Rattle.step_book.proofs.Reading.{nodes_are}
 use Rattle.step_book.proofs.Starts.{plan_is}
 use Rattle.omission_explainer.specs.Lateness.{HasReceive}
-use Rattle.omission_explainer.proofs.Keeping.{has_member, member_of, keeps_no_slot, keeps_other}
+use Rattle.omission_explainer.proofs.Keeping.{has_member, member_of, keeps_silent, keeps_other}
 use Rattle.omission_explainer.proofs.Keeping.{keeps_at, slot_small}
 use Rattle.omission_explainer.proofs.judging.keeps_bound.Goals as goal
 
@@ -19,7 +19,7 @@ returns-then-not-contains g c =
     let plan = plan_is start (g.P.Plan.receives p) (g.P.Plan.nodes p) v (g.met.P.Plan.laws p) c.agrees.ensures.sized in
     let few = c.agrees.ensures.lawful.sized.few_nodes in
     let slot = c.in-Some.ensures in
-    let small = slot.to in
+    let small = slot.named.to in
     let out = λ (h : is_in c.args.terms.correct.bits c.in-Some.name.to ≡ true). both_ways c.contains.result c.if-not-contains.true (c.contains.ensures ∙ has_member _ _ (omega arith) h) in
     (λ h. keeps_other w (history v) c.args.terms.correct.bits c.args.terms.delta c.args.terms.gst c.args.counts.now c.args.node plan c.in-Some.name slot out, λ h. refl)
 
@@ -30,7 +30,7 @@ overflow_add-count g c =
     let start = g.P.Plan.start p in
     let n = nodes_are start v in
     let slot = c.in-Some.ensures in
-    let small = slot.to in
+    let small = slot.named.to in
     let sized = c.agrees.ensures.sized in
     let low = slot_small start (g.P.Plan.receives p) (g.P.Plan.nodes p) v (g.met.P.Plan.laws p) sized c.agrees.ensures.lawful.sized.few_rounds c.args.node _ c.in-Some.name slot (omega arith) in
     omega (arith, low, c.from-in-Some.ensures)
@@ -61,4 +61,4 @@ returns-in-None g c =
     let n = nodes_are start v in
     let w = world_of start v in
     let plan = plan_is start (g.P.Plan.receives p) (g.P.Plan.nodes p) v (g.met.P.Plan.laws p) c.agrees.ensures.sized in
-    (λ h. keeps_no_slot w (history v) c.args.terms.correct.bits c.args.terms.delta c.args.terms.gst c.args.counts.now c.args.node plan c.in-None.ensures, λ h. refl)
+    (λ h. keeps_silent w (history v) c.args.terms.correct.bits c.args.terms.delta c.args.terms.gst c.args.counts.now c.args.node plan c.in-None.ensures, λ h. refl)
