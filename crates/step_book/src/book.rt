@@ -18,7 +18,7 @@ ghost use Rattle.step_book.specs.Log.{happened, history, mark_in, opened, round_
 ghost use Rattle.step_book.specs.Log.{states_of, waiting_in, world_of};
 ghost use Rattle.step_book.specs.Names.{IsName};
 ghost use Rattle.step_book.specs.Serials.{AreSent, HasSerial};
-ghost use Rattle.step_book.specs.Slots.{IsNoMessageAt, IsMessageAt};
+ghost use Rattle.step_book.specs.Slots.{IsMessageAt, IsNoMessageAt};
 ghost use Rattle.step_book.specs.Stored.{IsShort};
 ghost use Rattle.step_book.specs.declared.mark.Mark.TheVariants.{Unsent};
 ghost use Rattle.step_machine.specs.declared.event.Name.{Name as OneName};
