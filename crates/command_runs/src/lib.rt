@@ -4,6 +4,7 @@
 mod asking;
 mod desk;
 mod explained;
+mod laws;
 mod limits;
 mod lockstep;
 mod memory_desk;
@@ -16,6 +17,7 @@ mod written;
 
 pub use desk::{Desk, DeskFault};
 pub use explained::{Terms, explained_run, judged_run};
+pub use laws::one_report;
 pub use limits::limits_agree;
 pub use lockstep::{Pacing, lockstep_text};
 pub use memory_desk::{MemoryDesk, MemoryFile};
