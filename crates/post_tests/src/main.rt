@@ -2,6 +2,7 @@
 //!
 //! ```text
 //! post_tests row SOURCE
+//! post_tests strangers SOURCE
 //! post_tests alone SOURCE
 //! ```
 //!
@@ -9,6 +10,10 @@
 //! schedule: its events are recorded by a journal and by a post, and standard output has what each
 //! event was answered, whether both answered the same, and the report of the post's journal. A call
 //! of the post that is refused for memory must have changed nothing, and is made again.
+//!
+//! With `strangers`, they are recorded by a post, and then they come to another post of the run
+//! with the seats and the relay of the first. Standard output has what both answered, and whether
+//! the second one's journal agrees with those seats and that relay.
 //!
 //! With `alone`, the nodes of a schedule without events run one after another over calls that
 //! release each message as soon as it was sent. Standard output has how each node ended, and the
@@ -73,6 +78,7 @@ fn answer_planned<R: Wait, P: Plan>(
     }
     match word {
         "row" => row::answer(rt, alloc, program, schedule, plan),
+        "strangers" => row::answer_of_strangers(rt, alloc, program, schedule, plan),
         "alone" => alone::answer(rt, alloc, program, &schedule.setup, plan),
         _ => Err(Fault::Unreadable),
     }

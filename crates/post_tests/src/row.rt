@@ -7,7 +7,7 @@ ghost use Rattle.step_machine.specs.Nodes.{algorithm_in};
 use crate::fault::Fault;
 use crate::recorder::{Counter, Recorder};
 use crate::report;
-use locked_buffers::{Post, PostFault, RelayFault};
+use locked_buffers::{Post, PostFault, RelayFault, Unmatched};
 use round_check::Checked;
 use round_meaning::Setup;
 use schedule_text::Schedule;
@@ -319,6 +319,53 @@ fn by_post<R: Wait, P: Plan>(
         relay,
     } = counter;
     Ok((out, post.into_journal(seats, relay).ok()))
+}
+
+/// What a post answers to the events, and what another post of the same run answers when they come
+/// to it with the seats and the relay of the first; then whether that one's accounts agree.
+pub fn answer_of_strangers<R: Wait, P: Plan>(
+    rt: &R,
+    alloc: Global,
+    program: &Checked,
+    schedule: &Schedule,
+    plan: P,
+) -> Result<String, Fault>
+    requires lawful { IsLawful program.now.values schedule.now.setup }
+    requires nodes { P.nodes plan ≡ schedule.now.setup.nodes }
+{
+    let (post, seats, relay) = Post::open(alloc, program, &schedule.setup, plan)?;
+    let (other, _seats, _relay) = Post::open(alloc, program, &schedule.setup, plan)?;
+    let mut counter = Counter {
+        rt,
+        post,
+        seats,
+        relay,
+    };
+    let mut out = answers(alloc, &mut counter, plan, program, schedule)?;
+    let Counter {
+        rt: _,
+        post: _,
+        seats,
+        relay,
+    } = counter;
+    let mut counter = Counter {
+        rt,
+        post: other,
+        seats,
+        relay,
+    };
+    out.push_str(answers(alloc, &mut counter, plan, program, schedule)?.as_str())?;
+    let Counter {
+        rt: _,
+        post,
+        seats,
+        relay,
+    } = counter;
+    out.push_str(match post.into_journal(seats, relay) {
+        Ok(_journal) => "MATCHED\n",
+        Err(Unmatched) => "unmatched\n",
+    })?;
+    Ok(out)
 }
 
 /// The answers of a post, whether a journal answered the same, and the report of the post's
