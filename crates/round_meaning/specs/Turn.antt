@@ -92,6 +92,16 @@ folded b env [] vs = vs
 folded b env (m ∷ ms) vs =
     folded b env ms (runs (with_message m.from b.fields m.message env) b.on_message vs)
 
+-- the state once `on message` has taken one message
+abbrev pub message_taken : Option BlockTree → Env → Received → List Value → List Value
+message_taken None env m vs = vs
+message_taken (Some b) env m vs = runs (with_message m.from b.fields m.message env) b.on_message vs
+
+-- the state once all messages are taken and `end` has run
+abbrev pub round_finished : Option BlockTree → Env → List Value → List Value
+round_finished None env vs = vs
+round_finished (Some b) env vs = runs env b.end vs
+
 -- the inbox is folded, then `end` is run
 abbrev pub ended : Option BlockTree → Env → List Received → List Value → List Value
 ended None env inbox vs = vs

@@ -27,4 +27,4 @@ pub use received::{Heard, Received, is_inbox};
 pub use rounds::run_rounds;
 pub use setup::{Inputs, MAX_FAULTS, MAX_NODES, MAX_ROUNDS, Setup};
 pub use states::StateTable;
-pub use turn::{decision_of, end_of, initial_of, send_of};
+pub use turn::{decision_of, end_of, finish_of, initial_of, send_of, take_of};
