@@ -1,0 +1,136 @@
+# Completions of roundc for bash, made by .ci/manual from what `roundc help` says.
+
+# What a value completes with: that of an option, or of the argument at a place.
+_roundc_choices() {
+    case $1 in
+        ' 1') choices='check run threads judge lockstep help' ;;
+        'check 1' | \
+        'run 1' | \
+        'threads 1' | \
+        'judge 1' | \
+        'lockstep 1') choices='@gather: @count_votes: @dls1:' files=yes ;;
+        'run --schedule' | \
+        'threads --setup' | \
+        'threads --trace' | \
+        'judge --schedule' | \
+        'lockstep --header') files=yes ;;
+        'help 1') choices='check run threads judge lockstep' ;;
+        *) return 1 ;;
+    esac
+}
+
+_roundc_options() {
+    case $1 in
+        '' | \
+        'check') options='-h --help -V --version' ;;
+        'run') options='--schedule --decided -h --help -V --version' ;;
+        'threads') options='--setup --trace --decided -h --help -V --version' ;;
+        'judge') options='--schedule --correct --delta --gst -h --help -V --version' ;;
+        'lockstep') options='--header --correct --delta --gst --delays --orders --ticks -h --help -V --version' ;;
+        'help') options='' ;;
+        *) return 1 ;;
+    esac
+}
+
+_roundc_takes_value() {
+    case $1 in
+        'run --schedule' | \
+        'threads --setup' | \
+        'threads --trace' | \
+        'judge --schedule' | \
+        'judge --correct' | \
+        'judge --delta' | \
+        'judge --gst' | \
+        'lockstep --header' | \
+        'lockstep --correct' | \
+        'lockstep --delta' | \
+        'lockstep --gst' | \
+        'lockstep --delays' | \
+        'lockstep --orders' | \
+        'lockstep --ticks') return 0 ;;
+        *) return 1 ;;
+    esac
+}
+
+_roundc_is_command() {
+    case $1 in
+        'check' | \
+        'run' | \
+        'threads' | \
+        'judge' | \
+        'lockstep' | \
+        'help') return 0 ;;
+        *) return 1 ;;
+    esac
+}
+
+_roundc_has_command() { _roundc_is_command "${1:+$1 }$2"; }
+
+# The words of the line up to the one that is written. What bash has split at `:`, `=` and `@` is
+# one word if no blank stands between.
+_roundc_words() {
+    local rest=$COMP_LINE word
+    words=()
+    for word in "${COMP_WORDS[@]:0:COMP_CWORD+1}"; do
+        if [[ ${#words[@]} == 0 || $rest == [[:blank:]]* ]]; then
+            words+=("")
+            rest=${rest#"${rest%%[![:blank:]]*}"}
+        fi
+        words[${#words[@]}-1]+=$word
+        rest=${rest#"$word"}
+    done
+}
+
+# Finds which command the line has, which option waits for its value, and how many arguments came.
+_roundc_place() {
+    local word
+    for word in "${words[@]:1:${#words[@]}-2}"; do
+        if [[ -n $option ]]; then
+            option=
+        elif [[ $word == -* ]]; then
+            if _roundc_takes_value "$command $word"; then
+                option=$word
+            fi
+        elif _roundc_has_command "$command" "$word"; then
+            command="${command:+$command }$word"
+        else
+            place=$((place + 1))
+        fi
+    done
+}
+
+_roundc() {
+    local words command= option= place=1 current start= choices= options= files= found
+    COMPREPLY=()
+    _roundc_words
+    _roundc_place
+    current=${words[${#words[@]}-1]}
+    if [[ -z $option && $current == --*=* ]]; then
+        option=${current%%=*} start=${current%%=*}=
+    fi
+    if [[ -n $option ]]; then
+        _roundc_choices "$command $option"
+    elif [[ $current == -* ]]; then
+        _roundc_options "$command"
+    else
+        _roundc_choices "$command $place"
+    fi
+    while IFS= read -r found; do
+        COMPREPLY+=("$start$found")
+    done < <(compgen -W "$choices $options" -- "${current#"$start"}")
+    if [[ ${#COMPREPLY[@]} == 1 && ${COMPREPLY[0]} == *[:=] ]]; then
+        compopt -o nospace 2>/dev/null
+    fi
+    # (a word that begins with `@` is no file's name)
+    if [[ -n $files && $current != @* ]]; then
+        compopt -o filenames -o default 2>/dev/null
+        while IFS= read -r found; do
+            COMPREPLY+=("$start$found")
+        done < <(compgen -f -- "${current#"$start"}")
+    fi
+    # Readline puts in what stands behind the last place at which it has split the word.
+    start=${current%"$2"}
+    COMPREPLY=("${COMPREPLY[@]#"$start"}")
+}
+
+complete -F _roundc roundc

@@ -1,0 +1,77 @@
+# Completions of roundc for fish, made by .ci/manual from what `roundc help` says.
+
+# The options that take a value.
+set -g __roundc_valued --correct --delays --delta --gst --header --orders --schedule --setup --ticks --trace
+
+# The words of the line behind `roundc`, without options and their values.
+function __roundc_words
+    set -l is_value no
+    for word in (commandline -opc)[2..-1]
+        if test $is_value = yes
+            set is_value no
+        else if contains -- $word $__roundc_valued
+            set is_value yes
+        else if not string match -q -- '-*' $word
+            echo $word
+        end
+    end
+end
+
+# Whether the line has a command, and behind it this many arguments if a number is given.
+function __roundc_at -a command count
+    set -l words (__roundc_words)
+    set -l path (string split -n ' ' -- $command)
+    set -l behind (math (count $words) - (count $path))
+    test $behind -ge 0; or return 1
+    test -z "$count"; or test $behind = $count; or return 1
+    test (count $path) = 0; or test "$words[1..(count $path)]" = "$command"
+end
+
+complete -c roundc -f
+
+complete -c roundc -n "__roundc_at '' 0" -a check -d 'Reads a source and says what it declares'
+complete -c roundc -n "__roundc_at '' 0" -a run -d 'Runs a schedule and reports each completed round'
+complete -c roundc -n "__roundc_at '' 0" -a threads -d 'Runs a program by a thread for each node, and explains the run'
+complete -c roundc -n "__roundc_at '' 0" -a judge -d 'Says whether a schedule keeps lockstep and the delay bound'
+complete -c roundc -n "__roundc_at '' 0" -a lockstep -d 'Writes the schedule of a run in lockstep'
+complete -c roundc -n "__roundc_at '' 0" -a help -d 'Print this message or the help of the given subcommand(s)'
+complete -c roundc -n "__roundc_at '' 0" -s h -l help -d 'Print help'
+complete -c roundc -n "__roundc_at '' 0" -s V -l version -d 'Print version'
+
+complete -c roundc -n "__roundc_at 'check'" -s h -l help -d 'Print help'
+complete -c roundc -n "__roundc_at 'check'" -s V -l version -d 'Print version'
+complete -c roundc -n "__roundc_at 'check' 0" -F -a '@gather: @count_votes: @dls1:'
+
+complete -c roundc -n "__roundc_at 'run'" -l schedule -r -F -d 'The schedule\'s file, or - for standard input'
+complete -c roundc -n "__roundc_at 'run'" -l decided -d 'Adds a line that says what all decisions come to'
+complete -c roundc -n "__roundc_at 'run'" -s h -l help -d 'Print help'
+complete -c roundc -n "__roundc_at 'run'" -s V -l version -d 'Print version'
+complete -c roundc -n "__roundc_at 'run' 0" -F -a '@gather: @count_votes: @dls1:'
+
+complete -c roundc -n "__roundc_at 'threads'" -l setup -r -F -d 'The thread setup\'s file, or - for standard input'
+complete -c roundc -n "__roundc_at 'threads'" -l trace -r -F -d 'The file that the run\'s schedule is written to'
+complete -c roundc -n "__roundc_at 'threads'" -l decided -d 'Adds a line that says what all decisions come to'
+complete -c roundc -n "__roundc_at 'threads'" -s h -l help -d 'Print help'
+complete -c roundc -n "__roundc_at 'threads'" -s V -l version -d 'Print version'
+complete -c roundc -n "__roundc_at 'threads' 0" -F -a '@gather: @count_votes: @dls1:'
+
+complete -c roundc -n "__roundc_at 'judge'" -l schedule -r -F -d 'The schedule\'s file, or - for standard input'
+complete -c roundc -n "__roundc_at 'judge'" -l correct -r -x -d 'The correct nodes, as 0,2,3'
+complete -c roundc -n "__roundc_at 'judge'" -l delta -r -x -d 'The delay bound in steps, 1 to 1024'
+complete -c roundc -n "__roundc_at 'judge'" -l gst -r -x -d 'The step from which the bound is to hold'
+complete -c roundc -n "__roundc_at 'judge'" -s h -l help -d 'Print help'
+complete -c roundc -n "__roundc_at 'judge'" -s V -l version -d 'Print version'
+complete -c roundc -n "__roundc_at 'judge' 0" -F -a '@gather: @count_votes: @dls1:'
+
+complete -c roundc -n "__roundc_at 'lockstep'" -l header -r -F -d 'The file of the five header lines, or - for standard input'
+complete -c roundc -n "__roundc_at 'lockstep'" -l correct -r -x -d 'The correct nodes, as 0,2,3'
+complete -c roundc -n "__roundc_at 'lockstep'" -l delta -r -x -d 'The delay bound in steps, 1 to 1024'
+complete -c roundc -n "__roundc_at 'lockstep'" -l gst -r -x -d 'The step from which the bound holds'
+complete -c roundc -n "__roundc_at 'lockstep'" -l delays -r -x -d 'The delays of the messages, by their serials'
+complete -c roundc -n "__roundc_at 'lockstep'" -l orders -r -x -d 'The node that steps first in each tick'
+complete -c roundc -n "__roundc_at 'lockstep'" -l ticks -r -x -d 'How many ticks; by default as many as the rounds need'
+complete -c roundc -n "__roundc_at 'lockstep'" -s h -l help -d 'Print help'
+complete -c roundc -n "__roundc_at 'lockstep'" -s V -l version -d 'Print version'
+complete -c roundc -n "__roundc_at 'lockstep' 0" -F -a '@gather: @count_votes: @dls1:'
+
+complete -c roundc -n "__roundc_at 'help' 0" -a 'check run threads judge lockstep'
