@@ -28,13 +28,20 @@ def takes_commands(argument, kinds):
     return "commands" in kinds.get(argument.value, [])
 
 
+def moved(command, path):
+    """Returns a command with those below it as they stand behind other words."""
+    path = [*path, command.name]
+    return dataclasses.replace(
+        command, path=path, commands=[moved(it, path) for it in command.commands])
+
+
 def spread(program, kinds):
     """Returns the program with each command that takes the words of another one, as if it had
     commands of its own; but `help` takes their names alone."""
     commands = []
     for command in program.commands:
         if command.name != "help" and any(takes_commands(it, kinds) for it in command.arguments):
-            below = [dataclasses.replace(it, path=[*command.path, it.name])
+            below = [moved(it, command.path)
                      for it in program.commands if it.name not in (command.name, "help")]
             command = dataclasses.replace(command, arguments=[], commands=below)
         commands.append(command)
@@ -286,11 +293,11 @@ end
 # Whether the line has a command, and behind it this many arguments if a number is given.
 function __roundc_at -a command count
     set -l words (__roundc_words)
-    set -l path (string split -n ' ' -- $command)
-    set -l behind (math (count $words) - (count $path))
-    test $behind -ge 0; or return 1
-    test -z "$count"; or test $behind = $count; or return 1
-    test (count $path) = 0; or test "$words[1..(count $path)]" = "$command"
+    for name in (string split -n ' ' -- $command)
+        test "$words[1]" = $name; or return 1
+        set -e words[1]
+    end
+    test -z "$count"; or test (count $words) = $count
 end
 
 complete -c roundc -f

@@ -20,11 +20,11 @@ end
 # Whether the line has a command, and behind it this many arguments if a number is given.
 function __roundc_at -a command count
     set -l words (__roundc_words)
-    set -l path (string split -n ' ' -- $command)
-    set -l behind (math (count $words) - (count $path))
-    test $behind -ge 0; or return 1
-    test -z "$count"; or test $behind = $count; or return 1
-    test (count $path) = 0; or test "$words[1..(count $path)]" = "$command"
+    for name in (string split -n ' ' -- $command)
+        test "$words[1]" = $name; or return 1
+        set -e words[1]
+    end
+    test -z "$count"; or test (count $words) = $count
 end
 
 complete -c roundc -f
