@@ -1,0 +1,6 @@
+pub mod Numerals
+pub mod Sizes
+pub mod Words
+pub mod Readings
+pub mod Lines
+pub mod Answered

@@ -1,0 +1,4 @@
+pub mod Texts
+pub mod Readings
+pub mod Meaning
+pub mod Forms
