@@ -4,3 +4,4 @@ pub mod Words
 pub mod Readings
 pub mod Lines
 pub mod Answered
+pub mod Adding

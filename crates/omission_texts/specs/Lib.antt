@@ -2,3 +2,4 @@ pub mod Texts
 pub mod Readings
 pub mod Meaning
 pub mod Forms
+pub mod Tables

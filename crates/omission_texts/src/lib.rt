@@ -2,7 +2,9 @@
 //! the messages, and how many steps each node takes.
 #![tactic(auto)]
 
+mod blocks;
 mod fault;
+mod known;
 mod laws;
 mod line;
 mod line_reader;
