@@ -1,6 +1,6 @@
 -- How messages are added to a table.
 use Rattle.std.proofs.Common.{◌≡◌, ℕ, zero, suc, ◌+◌, ◌<◌, ◌≤◌, Bool, true, false, cond, eqb, leb, ltb, ◌&&◌, ◌||◌, List, [], ◌∷◌, length, take, get_or, refl, sym, ap, ◌∙◌, subst, arith, max}
-use Rattle.std.specs.Prelude.{◌==◌}
+use Rattle.std.specs.Prelude.{◌==◌, OnOk, Ok, Err, Result}
 use Rattle.std.specs.List.{filter, list_any, range_with_len}
 use Rattle.std.proofs.lemmas.Bool.{eqb-true, ltb-true, ltb-false, leb-true}
 use Rattle.std.proofs.lemmas.Bool.Decides.{nat_tests}
@@ -145,3 +145,13 @@ and_swap false false = refl
 pub node-filter : (p : ℕ → Bool) (n i : ℕ) → has_node (filter p (range_with_len 0 n)) i ≡ (ltb i n && p i)
 node-filter p n i =
     any-filter_same (λ k. eqb k i) p (p i) (λ k e. ap p (eqb-true k i e)) (range_with_len 0 n) ∙ ap (λ b. p i && b) (any_range 0 n i) ∙ and_swap (p i) (leb 0 i && ltb i (0 + n)) ∙ ap (λ b. b && p i) (from_zero i n)
+
+-- what holds of an answer where it is Ok
+pub on_ok : {T E : Type 0} {P Q : Type 0} (r : Result T E) → (P → Q) → OnOk r P → OnOk r Q
+on_ok (Ok x) f h = f h
+on_ok (Err e) f h = h
+
+-- a block of the same lists and rounds
+pub block_is : (a b c d : List ℕ) (rs us : RoundRange) (t u : List Omission) → a ≡ c → rs ≡ us → b ≡ d → Adds (block a rs b) t u → Adds (block c us d) t u
+block_is a b c d rs us t u e f g x =
+    subst (λ z. Adds (block c us z) t u) g (subst (λ z. Adds (block c z b) t u) f (subst (λ z. Adds (block z rs b) t u) e x))

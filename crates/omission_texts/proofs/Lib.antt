@@ -5,3 +5,4 @@ pub mod Readings
 pub mod Lines
 pub mod Answered
 pub mod Adding
+pub mod LineTables

@@ -3,3 +3,4 @@ pub mod Readings
 pub mod Meaning
 pub mod Forms
 pub mod Tables
+pub mod Stops

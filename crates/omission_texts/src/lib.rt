@@ -11,6 +11,8 @@ mod line_reader;
 mod nodes;
 mod omissions;
 mod reading;
+mod stops;
+mod table;
 mod word;
 
 pub use laws::one_reading;
