@@ -6,3 +6,4 @@ pub mod Lines
 pub mod Answered
 pub mod Adding
 pub mod LineTables
+pub mod Crashes
