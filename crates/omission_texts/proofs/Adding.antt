@@ -1,8 +1,8 @@
 -- How messages are added to a table.
-use Rattle.std.proofs.Common.{◌≡◌, ℕ, zero, suc, ◌+◌, ◌<◌, ◌≤◌, Bool, true, false, cond, eqb, leb, ltb, ◌&&◌, ◌||◌, List, [], ◌∷◌, length, take, get_or, refl, sym, ap, ◌∙◌, subst, arith, max}
+use Rattle.std.proofs.Common.{◌≡◌, ℕ, zero, suc, ◌+◌, ◌<◌, ◌≤◌, Bool, true, false, eqb, leb, ltb, ◌&&◌, ◌||◌, List, length, take, get_or, refl, sym, ap, ◌∙◌, subst, arith, max}
 use Rattle.std.specs.Prelude.{◌==◌, OnOk, Ok, Err, Result}
 use Rattle.std.specs.List.{filter, list_any, range_with_len}
-use Rattle.std.proofs.lemmas.Bool.{eqb-true, ltb-true, ltb-false, leb-true}
+use Rattle.std.proofs.lemmas.Bool.{eqb-true}
 use Rattle.std.proofs.lemmas.Bool.Decides.{nat_tests}
 use Rattle.std.proofs.lemmas.List.{take_all}
 use Rattle.std.proofs.lemmas.List.Folds.{list_any_more}
@@ -119,7 +119,7 @@ module _ (receivers : List ℕ) (rs : RoundRange) (senders : List ℕ) where
   pub from_more : (k d : ℕ) (a b c : List Omission) → k < length senders → Adds (from_first k) a b → Adds (λ i r j. has_node receivers i && (has_round rs r && get_or senders k d == j)) b c → Adds (from_first (k + 1)) a c
   from_more k d a b c lt x y =
       adds_more (from_first k) (λ i r j. has_node receivers i && (has_round rs r && get_or senders k d == j)) (from_first (k + 1)) a b c x y (λ i r j.
-          ap (λ m. has_node receivers i && (has_round rs r && m)) (list_any_more (λ n. n == j) senders k d lt) ∙ split_last (has_node receivers i) (has_round rs r) (has_node (take k senders) j) (get_or senders k d == j))
+      ap (λ m. has_node receivers i && (has_round rs r && m)) (list_any_more (λ n. n == j) senders k d lt) ∙ split_last (has_node receivers i) (has_round rs r) (has_node (take k senders) j) (get_or senders k d == j))
 
   pub from_all : (k : ℕ) (a b : List Omission) → length senders ≤ k → Adds (from_first k) a b → Adds (block receivers rs senders) a b
   from_all k a b le x =

@@ -1,5 +1,5 @@
 -- What was returned shows what a text says.
-use Rattle.std.proofs.Common.{◌≡◌, ℕ, ◌+◌, ◌≤◌, List, length, Ok, Err, Result, refl, sym, ap, ◌∙◌, subst}
+use Rattle.std.proofs.Common.{◌≡◌, ℕ, ◌≤◌, List, length, Ok, Err, sym, ◌∙◌, subst}
 use Rattle.std.specs.Str.Lines.{lines}
 use Rattle.schedule_text.specs.Texts.{max_text}
 use Rattle.schedule_text.specs.declared.fault.ScheduleFault.{ScheduleFault}
@@ -7,7 +7,7 @@ use Rattle.schedule_text.specs.declared.fault.ScheduleFault.TheVariants as fault
 use Rattle.omission_texts.specs.declared.fault.LineFault.{LineFault}
 use Rattle.omission_texts.specs.declared.fault.LineFault.TheVariants as line
 use Rattle.omission_texts.specs.declared.line.OmissionLine.{OmissionLine}
-use Rattle.omission_texts.specs.Forms.{GivesAnswer, GivesLines, TakesLine, answer_of, at_line, from_line, said_by}
+use Rattle.omission_texts.specs.Forms.{GivesAnswer, GivesLines, TakesLine, at_line, from_line, said_by}
 use Rattle.omission_texts.specs.Readings.{Answer, IsRead, IsReading}
 use Rattle.omission_texts.proofs.Readings.{complete, short_told, sound}
 

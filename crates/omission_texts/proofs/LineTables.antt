@@ -1,13 +1,12 @@
 -- The blocks that stand for a line.
-use Rattle.std.proofs.Common.{◌≡◌, ℕ, zero, suc, ◌+◌, ◌<◌, ◌≤◌, Bool, true, false, cond, eqb, leb, ltb, ◌&&◌, ◌||◌, List, [], ◌∷◌, length, take, get_or, refl, sym, ap, ◌∙◌, arith, max, min, ◌⊎◌, inl, inr}
-use Rattle.std.specs.Prelude.{◌==◌, not}
-use Rattle.std.specs.List.{filter, list_any, range_with_len}
+use Rattle.std.proofs.Common.{◌≡◌, ℕ, ◌+◌, ◌<◌, ◌≤◌, Bool, true, false, eqb, leb, ltb, ◌&&◌, ◌||◌, List, [], ◌∷◌, length, take, get_or, sym, ap, ◌∙◌, arith, max, min, ◌⊎◌, inl, inr}
+use Rattle.std.specs.Prelude.{not}
+use Rattle.std.specs.List.{filter, range_with_len}
 use Rattle.std.proofs.lemmas.Bool.Decides.{nat_tests}
 use Rattle.std.proofs.lemmas.List.{take_all}
 use Rattle.std.proofs.lemmas.List.Folds.{list_any_more}
 use Rattle.round_meaning.specs.declared.omissions.Omission.{Omission}
 use Rattle.round_meaning.specs.declared.setup.Setup.{Setup}
-use Rattle.round_meaning.specs.Omissions.{is_omitted}
 use Rattle.omission_texts.specs.declared.line.OmissionLine.{OmissionLine}
 use Rattle.omission_texts.specs.declared.line.OmissionLine.TheVariants.{Omit, Cut, Crash}
 use Rattle.omission_texts.specs.declared.line.RoundRange.{RoundRange}
@@ -45,7 +44,7 @@ module _ (s : Setup) (receiver : ℕ) (rs : RoundRange) (sender : ℕ) where
   pub omit_some : (t u : List Omission) → receiver < s.nodes → sender < s.nodes → Adds (block (receiver ∷ []) (of_run s rs) (sender ∷ [])) t u → Adds (of_line s (Omit receiver rs sender)) t u
   omit_some t u a b x =
       adds_same (block (receiver ∷ []) (of_run s rs) (sender ∷ [])) (of_line s (Omit receiver rs sender)) t u x (λ i r j.
-          omit_bool (eqb receiver i) (eqb sender j) (has_round rs r) (is_round s r) (ltb i s.nodes) (ltb j s.nodes) (below_from receiver s.nodes i a) (below_from sender s.nodes j b) ∙ ap (λ h. has_node (receiver ∷ []) i && (h && has_node (sender ∷ []) j)) (sym (round-of_run s rs r)))
+      omit_bool (eqb receiver i) (eqb sender j) (has_round rs r) (is_round s r) (ltb i s.nodes) (ltb j s.nodes) (below_from receiver s.nodes i a) (below_from sender s.nodes j b) ∙ ap (λ h. has_node (receiver ∷ []) i && (h && has_node (sender ∷ []) j)) (sym (round-of_run s rs r)))
 
   pub omit_none : (t : List Omission) → (s.nodes ≤ receiver) ⊎ (s.nodes ≤ sender) → Adds (of_line s (Omit receiver rs sender)) t t
   omit_none t (inl le) = adds_none (of_line s (Omit receiver rs sender)) t (λ i r j. no_receiver (eqb receiver i) (eqb sender j) (has_round rs r) (is_round s r) (ltb i s.nodes) (ltb j s.nodes) (not_below receiver s.nodes i le))
@@ -70,9 +69,9 @@ block_of s p q rs i r j =
 pub cut_apart : (s : Setup) (list : List ℕ) (rs : RoundRange) (t u v : List Omission) → Adds (block (inner s list) (of_run s rs) (outer s list)) t u → Adds (block (outer s list) (of_run s rs) (inner s list)) u v → Adds (of_line s (Cut list rs)) t v
 cut_apart s list rs t u v x y =
     adds_more (block (inner s list) (of_run s rs) (outer s list)) (block (outer s list) (of_run s rs) (inner s list)) (of_line s (Cut list rs)) t u v x y (λ i r j.
-        cut_bool (ltb i s.nodes) (ltb j s.nodes) (has_round rs r) (is_round s r) (has_node list i) (has_node list j)
-        ∙ ap (λ z. z || ((ltb i s.nodes && has_node list i) && ((has_round rs r && is_round s r) && (ltb j s.nodes && not (has_node list j))))) (sym (block_of s (λ k. not (has_node list k)) (has_node list) rs i r j))
-        ∙ ap (λ z. block (outer s list) (of_run s rs) (inner s list) i r j || z) (sym (block_of s (has_node list) (λ k. not (has_node list k)) rs i r j)))
+    cut_bool (ltb i s.nodes) (ltb j s.nodes) (has_round rs r) (is_round s r) (has_node list i) (has_node list j)
+    ∙ ap (λ z. z || ((ltb i s.nodes && has_node list i) && ((has_round rs r && is_round s r) && (ltb j s.nodes && not (has_node list j))))) (sym (block_of s (λ k. not (has_node list k)) (has_node list) rs i r j))
+    ∙ ap (λ z. block (outer s list) (of_run s rs) (inner s list) i r j || z) (sym (block_of s (has_node list) (λ k. not (has_node list k)) rs i r j)))
 
 -- a crash
 crash_bool : (a b m n x y e l : Bool) → (y ≡ true → b ≡ true) → ((a && (b && (m && n))) && (y && ((e && not x) || l))) ≡ (((a && x) && (((l && n) && (m && n)) && (y || false))) || ((a && not x) && ((((e || l) && n) && (m && n)) && (y || false))))
@@ -119,9 +118,9 @@ module _ (s : Setup) (node round : ℕ) (reached : List ℕ) where
   pub crash_some : (t u v : List Omission) → node < s.nodes → Adds (block (outer s reached) (of_run s (rounds_from s round)) (node ∷ [])) t u → Adds (block (inner s reached) (of_run s (rounds_from s (round + 1))) (node ∷ [])) u v → Adds (of_line s (Crash node round reached)) t v
   crash_some t u v lt x y =
       adds_more (block (outer s reached) (of_run s (rounds_from s round)) (node ∷ [])) (block (inner s reached) (of_run s (rounds_from s (round + 1))) (node ∷ [])) (of_line s (Crash node round reached)) t u v x y (λ i r j.
-          crash_bool (ltb i s.nodes) (ltb j s.nodes) (leb 1 r) (leb r s.rounds) (has_node reached i) (eqb node j) (eqb round r) (ltb round r) (below_from node s.nodes j lt)
-          ∙ ap (λ z. z || ((ltb i s.nodes && not (has_node reached i)) && ((((eqb round r || ltb round r) && leb r s.rounds) && is_round s r) && (eqb node j || false)))) (sym (reached_is i r j))
-          ∙ ap (λ z. block (inner s reached) (of_run s (rounds_from s (round + 1))) (node ∷ []) i r j || z) (sym (missed_is i r j)))
+      crash_bool (ltb i s.nodes) (ltb j s.nodes) (leb 1 r) (leb r s.rounds) (has_node reached i) (eqb node j) (eqb round r) (ltb round r) (below_from node s.nodes j lt)
+      ∙ ap (λ z. z || ((ltb i s.nodes && not (has_node reached i)) && ((((eqb round r || ltb round r) && leb r s.rounds) && is_round s r) && (eqb node j || false)))) (sym (reached_is i r j))
+      ∙ ap (λ z. block (inner s reached) (of_run s (rounds_from s (round + 1))) (node ∷ []) i r j || z) (sym (missed_is i r j)))
 
   pub crash_none : (t : List Omission) → (s.nodes ≤ node) ⊎ (s.rounds < round) → Adds (of_line s (Crash node round reached)) t t
   crash_none t (inl le) = adds_none (of_line s (Crash node round reached)) t (λ i r j. no_crasher (ltb i s.nodes) (ltb j s.nodes) (is_round s r) (eqb node j) ((eqb round r && not (has_node reached i)) || ltb round r) (not_below node s.nodes j le))

@@ -4,7 +4,7 @@ use Rattle.std.proofs.Common.{le-leb, List, [], ◌∷◌, length, Ok, Err, Resu
 use Rattle.std.proofs.Common.{refl, ◌∙◌, ap, suc}
 use Rattle.std.specs.Prelude.{not}
 use Rattle.std.specs.Char.{is_ascii_digit}
-use Rattle.std.specs.List.{list_all, fold, slice_split, position_or_len, before_first, after_first}
+use Rattle.std.specs.List.{list_all, fold, position_or_len, before_first, after_first}
 use Rattle.std.specs.List.{join_with_byte}
 use Rattle.std.proofs.lemmas.Bool.{and_parts, and_right, leb-true, ne_eqb}
 use Rattle.std.proofs.lemmas.List.Splits.{length-slice_split, join_with_byte-slice_split}
@@ -14,7 +14,6 @@ use Rattle.schedule_text.specs.Numbers.{is_number, max_number, value_of}
 use Rattle.omission_texts.specs.Forms.{are_ends, parts_of, rounds_at, sized}
 use Rattle.omission_texts.specs.declared.fault.LineFault.{LineFault}
 use Rattle.omission_texts.specs.declared.fault.LineFault.TheVariants as line
-use Rattle.omission_texts.specs.declared.line.RoundRange.{RoundRange}
 
 pub own : IsNumeralModel (λ ds. list_all is_ascii_digit ds ≡ true) (λ ds. fold (λ n b. 10 * n + (b - 48)) 0 ds)
 own = numerals_by_fold (λ ds. list_all is_ascii_digit ds ≡ true) (search rules) (λ n ds. fold (λ n b. 10 * n + (b - 48)) n ds) (search rules)

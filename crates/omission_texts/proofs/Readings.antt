@@ -1,7 +1,7 @@
 -- Reading gives what a text says, and nothing else.
-use Rattle.std.proofs.Common.{◌≡◌, ◌≢◌, ℕ, zero, suc, ◌+◌, ◌<◌, ◌≤◌, Bool, true, false, cond, eqb, ◌&&◌, leb, ltb, List, [], ◌∷◌, length, get_or, Ok, Err, Result, ◌⊎◌, inl, inr, refl, sym, ap, ◌∙◌, subst, arith}
+use Rattle.std.proofs.Common.{◌≡◌, ℕ, zero, suc, ◌+◌, ◌<◌, ◌≤◌, Bool, true, false, cond, leb, ltb, List, [], ◌∷◌, length, get_or, Ok, Err, Result, inl, inr, refl, sym, ap, ◌∙◌, subst, arith}
 use Rattle.std.specs.Prelude.{All}
-use Rattle.std.specs.List.{AllZip, list_all, filter}
+use Rattle.std.specs.List.{AllZip, filter}
 use Rattle.std.specs.Str.Lines.{lines}
 use Rattle.std.proofs.Common.{le-leb, ltb-true, ltb-false, lt-ltb, le-ltb}
 use Rattle.std.proofs.lemmas.Bool.{leb-true}
@@ -14,9 +14,9 @@ use Rattle.schedule_text.specs.declared.fault.ScheduleFault.TheVariants as fault
 use Rattle.omission_texts.specs.declared.fault.LineFault.{LineFault}
 use Rattle.omission_texts.specs.declared.fault.LineFault.TheVariants as line
 use Rattle.omission_texts.specs.declared.line.OmissionLine.{OmissionLine}
-use Rattle.omission_texts.specs.Forms.{answer_of, are_small, at_line, behind, from_line, line_in, sized}
+use Rattle.omission_texts.specs.Forms.{answer_of, are_small, at_line, behind, from_line, line_in}
 use Rattle.omission_texts.specs.Readings.{Answer, IsBad, IsFirst, IsGood, IsLarge, IsReading}
-use Rattle.omission_texts.specs.Texts.{HasForm, HasSmallNumbers, Says, Tells, numbers_of}
+use Rattle.omission_texts.specs.Texts.{HasForm, HasSmallNumbers, Tells, numbers_of}
 use Rattle.omission_texts.proofs.Words.{Finds, line_found, line_read}
 
 -- numbers fit, or one doesn't

@@ -1,9 +1,8 @@
 -- What the reader finds in the words of a line is what they say.
-use Rattle.std.proofs.Common.{◌≡◌, ◌≢◌, ℕ, ◌+◌, ◌<◌, ◌≤◌, Bool, true, false, cond, eqb, ◌&&◌, ◌||◌, List, [], ◌∷◌, length, map, Ok, Err, Result, ◌⊎◌, inl, inr, refl, sym, ap, ◌∙◌, subst, arith, codes}
-use Rattle.std.specs.List.{AllZip, list_all, slice_split}
+use Rattle.std.proofs.Common.{◌≡◌, ℕ, Bool, true, false, cond, ◌&&◌, ◌||◌, List, [], ◌∷◌, map, Err, Result, ◌⊎◌, inl, inr, refl, sym, ap, ◌∙◌, subst, codes}
+use Rattle.std.specs.List.{AllZip, list_all}
 use Rattle.std.specs.Str.{bytes_eq}
 use Rattle.std.proofs.lemmas.Bool.{and_from, and_parts}
-use Rattle.std.proofs.lemmas.List.Splits.{length-slice_split}
 use Rattle.std.proofs.lemmas.Slice.Eq.{bytes_eq-Decides}
 use Rattle.schedule_text.specs.Numbers.{IsNumeral, is_number, value_of, words_of}
 use Rattle.omission_texts.specs.declared.fault.LineFault.{LineFault}
@@ -12,7 +11,7 @@ use Rattle.omission_texts.specs.declared.line.OmissionLine.{OmissionLine}
 use Rattle.omission_texts.specs.declared.line.OmissionLine.TheVariants.{Omit, Cut, Crash}
 use Rattle.omission_texts.specs.declared.line.RoundRange.{RoundRange}
 use Rattle.omission_texts.specs.Forms.{are_ends, are_nodes, are_rounds, crash_in, cut_in, formed, four_in, line_in, nodes_of, omit_in, parts_of, rounds_at, rounds_of, sized, three_in, words_in}
-use Rattle.omission_texts.specs.Texts.{AreNodes, AreNumerals, AreRounds, HasForm, IsSpelt, numbers_of, words_for}
+use Rattle.omission_texts.specs.Texts.{AreNodes, AreRounds, HasForm, IsSpelt, numbers_of, words_for}
 use Rattle.omission_texts.proofs.Numerals.{all_digits, digits_whole, one_part}
 
 -- numbers with marks between them

@@ -1,5 +1,6 @@
 -- What words and lines say, as the reader finds it. Only proofs pass through here.
-use Rattle.std.specs.Prelude.{◌≡◌, ⊤, ℕ, ◌+◌, length, nat_le, nat_lt, ◌==◌, ◌&&◌, ◌||◌, Bool, false, if◌then◌else◌, List, [], ◌∷◌, ◌++◌, map, Result, Ok, Err, codes}
+use Rattle.std.specs.Prelude.{◌≡◌, ⊤, ℕ, ◌+◌, length, nat_le, nat_lt, ◌==◌, ◌&&◌, ◌||◌, Bool, false}
+use Rattle.std.specs.Prelude.{if◌then◌else◌, List, [], ◌∷◌, ◌++◌, map, Result, Ok, Err, codes}
 use Rattle.std.specs.Global.{Vec}
 use Rattle.std.specs.List.{list_all, slice_split}
 use Rattle.std.specs.Str.{bytes_eq}
@@ -168,7 +169,8 @@ ahead said (Ok xs) = Ok (said ++ xs)
 ahead said (Err e) = Err e
 
 -- what was said, and behind it what one line says
-abbrev pub said_with : List OmissionLine → Result OmissionLine LineFault → Result (List OmissionLine) LineFault
+abbrev pub said_with :
+    List OmissionLine → Result OmissionLine LineFault → Result (List OmissionLine) LineFault
 said_with said (Ok x) = Ok (said ++ x ∷ [])
 said_with said (Err e) = Err e
 

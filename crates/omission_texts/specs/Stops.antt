@@ -1,5 +1,6 @@
 -- How many steps a node takes by what lines say.
-use Rattle.std.specs.Prelude.{◌≡◌, ℕ, ◌+◌, ◌==◌, if◌then◌else◌, nat_le, min, fold, List, Option, Some, None}
+use Rattle.std.specs.Prelude.{ℕ, ◌+◌, ◌==◌, if◌then◌else◌, nat_le, min, fold, List, Option, Some}
+use Rattle.std.specs.Prelude.{None}
 use Rattle.std.specs.List.{filter_map}
 use Rattle.round_meaning.specs.declared.setup.Setup.{Setup}
 use Rattle.omission_texts.specs.declared.line.OmissionLine.{OmissionLine}

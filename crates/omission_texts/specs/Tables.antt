@@ -1,5 +1,5 @@
 -- How a table grows. Only proofs pass through here.
-use Rattle.std.specs.Prelude.{◌≡◌, ℕ, Bool, ◌&&◌, ◌||◌, ◌==◌, List, max, min}
+use Rattle.std.specs.Prelude.{◌≡◌, ℕ, Bool, ◌&&◌, ◌||◌, List, max, min}
 use Rattle.round_meaning.specs.declared.omissions.Omission.{Omission}
 use Rattle.round_meaning.specs.Omissions.{is_omitted}
 use Rattle.round_meaning.specs.declared.setup.Setup.{Setup}

@@ -1,7 +1,7 @@
 -- What a text says. Its lines are those of the standard library: LF ends a line, the last may lack
 -- it, and a CR before it is dropped.
 use Rattle.std.specs.Prelude.{◌≡◌, ℕ, ◌≤◌, ◌⊎◌, ◌==◌, All, List, [], ◌∷◌, codes, filter, length}
-use Rattle.std.specs.List.{AllZip, flat_map, slice_split}
+use Rattle.std.specs.List.{AllZip, slice_split}
 use Rattle.std.specs.Str.Lines.{lines}
 use Rattle.schedule_text.specs.Numbers.{IsNumeral, max_number, words_of}
 use Rattle.schedule_text.specs.Texts.{counts, max_text}

@@ -66,9 +66,11 @@ pub fn inside(alloc: Global, nodes: u32, list: &NodeList) -> Result<Vec<u32>, No
     ensures { IfOk result
         (λ v. v.items ≡ filter (has_node list.now) (range_with_len 0 nodes)) }
 {
-    Ok((0..nodes)
-        .filter(|node| list.contains(*node))
-        .collect(alloc)?)
+    Ok(
+        (0..nodes)
+            .filter(|node| list.contains(*node))
+            .collect(alloc)?,
+    )
 }
 
 /// The nodes below a number that aren't in the list.
@@ -76,7 +78,9 @@ pub fn outside(alloc: Global, nodes: u32, list: &NodeList) -> Result<Vec<u32>, N
     ensures { IfOk result
         (λ v. v.items ≡ filter (λ i. not (has_node list.now i)) (range_with_len 0 nodes)) }
 {
-    Ok((0..nodes)
-        .filter(|node| !list.contains(*node))
-        .collect(alloc)?)
+    Ok(
+        (0..nodes)
+            .filter(|node| !list.contains(*node))
+            .collect(alloc)?,
+    )
 }

@@ -19,7 +19,10 @@ pub enum OmissionLine {
         sender: u32,
     },
     /// In these rounds nothing gets from the nodes of the list to the others or back.
-    Cut { nodes: NodeList, rounds: RoundRange },
+    Cut {
+        nodes: NodeList,
+        rounds: RoundRange,
+    },
     /// The node's messages of the round reach only the nodes of the list, and none of a later round
     /// reaches any.
     Crash {

@@ -14,10 +14,10 @@ use std::alloc::Global;
 
 /// What a text says.
 ///
-/// Its lines are `omit I R J`, `cut LIST R` and `crash J R LIST`, in any order and any number; lines
-/// that begin with `#` and empty ones are skipped. R is a round, or A-B for the rounds from A to B,
-/// but for `crash`, where it's one round. LIST is nodes with commas between them, or `-` for none.
-/// Lines, words and numbers are as in a schedule.
+/// Its lines are `omit I R J`, `cut LIST R` and `crash J R LIST`, in any order and any number. R is
+/// a round, or A-B for the rounds from A to B; a crash has one round. LIST is nodes with commas
+/// between them, or `-` for none. Comments, empty lines, the ends of lines, words and numbers are
+/// as in a schedule. An empty text says nothing.
 ///
 /// Refused are first a text that is too long, and then the first line at fault: one of another
 /// shape before one with too large a number. `NoMemory` means out of memory alone.

@@ -71,12 +71,6 @@ fn crash_in(line: &OmissionLine, node: u32) -> Option<u32>
             node: crashed,
             round,
             ..
-        } => {
-            if *crashed == node {
-                Some(*round)
-            } else {
-                None
-            }
-        }
+        } => { if *crashed == node { Some(*round) } else { None } }
     }
 }

@@ -106,7 +106,12 @@ fn add_crash(
     let missed = outside(alloc, setup.nodes, reached)?;
     add_block(table, missed.as_slice(), rounds_from(setup, round), &[node])?;
     let reached = inside(alloc, setup.nodes, reached)?;
-    add_block(table, reached.as_slice(), rounds_from(setup, round + 1), &[node])
+    add_block(
+        table,
+        reached.as_slice(),
+        rounds_from(setup, round + 1),
+        &[node],
+    )
 }
 
 /// The rounds of the run from this one on.

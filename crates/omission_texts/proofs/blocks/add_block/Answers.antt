@@ -1,5 +1,4 @@
-use Rattle.std.proofs.Common.{false, refl, ◌&&◌}
-use Rattle.omission_texts.proofs.Adding.{adds_nobody, from_all, from_first, from_more}
+use Rattle.omission_texts.proofs.Adding.{adds_nobody, from_all, from_more}
 use Rattle.omission_texts.proofs.blocks.add_block.Goals as goal
 
 pub loop-sender-init : goal.loop-sender-init

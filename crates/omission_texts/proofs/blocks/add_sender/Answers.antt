@@ -1,4 +1,3 @@
-use Rattle.std.proofs.Common.{arith}
 use Rattle.omission_texts.proofs.Adding.{rounds_all, rounds_more, rounds_none}
 use Rattle.omission_texts.proofs.blocks.add_sender.Goals as goal
 

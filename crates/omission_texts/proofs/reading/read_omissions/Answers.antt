@@ -1,4 +1,3 @@
-use Rattle.std.proofs.Common.{Err, rules}
 use Rattle.std.proofs.lemmas.Result.{err_from_is_err_and}
 use Rattle.omission_texts.proofs.Answered.{fault_only, fault_read, ok_only, ok_read}
 use Rattle.omission_texts.proofs.reading.read_omissions.Goals as goal

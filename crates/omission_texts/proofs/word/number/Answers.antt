@@ -1,4 +1,4 @@
-use Rattle.std.proofs.Common.{ℕ, Ok, Err, arith}
+use Rattle.std.proofs.Common.{ℕ, Ok, Err}
 use Rattle.std.proofs.lemmas.Str.Parse.{parse_digits}
 use Rattle.schedule_text.specs.Numbers.{value_of}
 use Rattle.omission_texts.proofs.Numerals.{all_digits, large_one, own, small_one, some_digit}

@@ -1,8 +1,8 @@
 use Rattle.std.specs.Borrow.{Bor}
-use Rattle.std.proofs.Common.{ℕ, ◌<◌, length, List, [], ◌+◌, ◌∙◌, ap, arith, sym, get_or}
+use Rattle.std.proofs.Common.{ℕ, ◌<◌, length, List, [], arith, get_or}
 use Rattle.std.proofs.lemmas.Result.{err_from_is_err_and}
 use Rattle.schedule_text.specs.Numbers.{value_of}
-use Rattle.omission_texts.proofs.Sizes.{Taken, length-values, number_at, taken_all, taken_fault, taken_more, value_at, values}
+use Rattle.omission_texts.proofs.Sizes.{length-values, number_at, taken_all, taken_fault, taken_more, value_at, values}
 use Rattle.omission_texts.proofs.word.numbers.Goals as goal
 
 pub number-requires : goal.number-requires
