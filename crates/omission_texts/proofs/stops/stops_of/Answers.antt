@@ -6,7 +6,8 @@ use Rattle.omission_texts.proofs.stops.stops_of.Goals as goal
 
 pub loop-node-preserved : goal.loop-node-preserved
 loop-node-preserved g c =
-    let f = steps_of (g.P.Plan.nodes c.args.plan) (g.P.Plan.start c.args.plan) c.args.setup.now c.args.lines.now in
+    let f = steps_of (g.P.Plan.nodes c.args.plan) (g.P.Plan.start c.args.plan) c.args.setup.now
+    c.args.lines.now in
     c.in_ok-push.ensures.items
     ∙ ap (λ xs. xs ++ c.steps_of.result ∷ []) c.loop-node.invariant
     ∙ ap (λ x. map f (range_with_len 0 c.loop-node.node) ++ x ∷ []) c.steps_of.ensures
@@ -14,5 +15,7 @@ loop-node-preserved g c =
 
 pub returns : goal.returns
 returns g c =
-    let f = steps_of (g.P.Plan.nodes c.args.plan) (g.P.Plan.start c.args.plan) c.args.setup.now c.args.lines.now in
-    c.loop-node.invariant ∙ ap (λ n. map f (range_with_len 0 n)) (omega (arith, c.loop-node-test.false, c.loop-node.auto.node-end))
+    let f = steps_of (g.P.Plan.nodes c.args.plan) (g.P.Plan.start c.args.plan) c.args.setup.now
+    c.args.lines.now in
+    c.loop-node.invariant ∙ ap (λ n. map f (range_with_len 0 n))
+    (omega (arith, c.loop-node-test.false, c.loop-node.auto.node-end))

@@ -9,16 +9,19 @@ returns-then-is_number c =
     let w = c.args.word.now in
     let a = c.in-Some.first.now in
     let b = c.in-Some.last.now in
-    let p = split_once_first 45 w (Some (c.in-Some.first, c.in-Some.last)) c.in-Some.ensures.cases (omega arith) in
+    let p = split_once_first 45 w (Some (c.in-Some.first, c.in-Some.last)) c.in-Some.ensures.cases
+    (omega arith) in
     let first = sym c.is_number.ensures ∙ c.if-is_number.true in
-    c.is_number-then-is_number.ensures ∙ ap (λ x. x && is_number b) (sym first) ∙ two_ends w a b p.0 p.1 p.2
+    c.is_number-then-is_number.ensures ∙ ap (λ x. x && is_number b) (sym first)
+    ∙ two_ends w a b p.0 p.1 p.2
 
 pub returns-else-is_number : goal.returns-else-is_number
 returns-else-is_number c =
     let w = c.args.word.now in
     let a = c.in-Some.first.now in
     let b = c.in-Some.last.now in
-    let p = split_once_first 45 w (Some (c.in-Some.first, c.in-Some.last)) c.in-Some.ensures.cases (omega arith) in
+    let p = split_once_first 45 w (Some (c.in-Some.first, c.in-Some.last)) c.in-Some.ensures.cases
+    (omega arith) in
     let first = sym c.is_number.ensures ∙ c.if-is_number.false in
     c.if-is_number.false ∙ ap (λ x. x && is_number b) (sym first) ∙ two_ends w a b p.0 p.1 p.2
 

@@ -5,4 +5,6 @@ use Rattle.omission_texts.proofs.word.parts.Goals as goal
 
 pub returns : goal.returns
 returns c =
-    map_from_collect {E = ℕ} (Ok c.in_ok-collect.field-0) c.in_ok-collect.ensures.ran (YieldsList-from_str_split c.args.mark c.args.text.now c.requires c.split.ensures.text c.split.ensures.has_more c.split.ensures.pattern)
+    map_from_collect {E = ℕ} (Ok c.in_ok-collect.field-0) c.in_ok-collect.ensures.ran
+    (YieldsList-from_str_split c.args.mark c.args.text.now c.requires c.split.ensures.text
+    c.split.ensures.has_more c.split.ensures.pattern)

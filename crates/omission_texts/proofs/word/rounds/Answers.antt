@@ -7,7 +7,8 @@ use Rattle.omission_texts.proofs.word.rounds.Goals as goal
 pub range-requires : goal.range-requires
 range-requires c =
     let w = c.args.word.now in
-    let p = split_once_first 45 w (Some (c.in-Some.first, c.in-Some.last)) c.in-Some.ensures.cases (omega arith) in
+    let p = split_once_first 45 w (Some (c.in-Some.first, c.in-Some.last)) c.in-Some.ensures.cases
+    (omega arith) in
     let q = two_rounds w c.in-Some.first.now c.in-Some.last.now p.0 p.1 p.2 c.requires in
     record { first = q.0; last = q.1 }
 
@@ -21,7 +22,8 @@ range-requires-in-None c =
 pub returns-in-Some : goal.returns-in-Some
 returns-in-Some c =
     let w = c.args.word.now in
-    let p = split_once_first 45 w (Some (c.in-Some.first, c.in-Some.last)) c.in-Some.ensures.cases (omega arith) in
+    let p = split_once_first 45 w (Some (c.in-Some.first, c.in-Some.last)) c.in-Some.ensures.cases
+    (omega arith) in
     let q = two_rounds w c.in-Some.first.now c.in-Some.last.now p.0 p.1 p.2 c.requires in
     c.range.ensures ∙ ap sized_rounds (sym q.2)
 
