@@ -4,5 +4,7 @@ pub mod Realised
 pub mod Typed
 pub mod Turns
 pub mod Listing
+pub mod Alike
 pub mod Shown
+pub mod Same
 pub mod OneReport

@@ -70,3 +70,11 @@ counted_more p q k h =
     one : (b : Bool) → p (q + 1) ≡ b → cond (p (q + 1)) 1 0 ≡ length (filter p ((q + 1) ∷ []))
     one true e = rw e refl
     one false e = rw e refl
+
+-- the same as a loop counts them
+pub counted_to : (p : ℕ → Bool) (r k new : ℕ) (b : Bool) → 1 ≤ r → k ≡ length (filter p (range_with_len 1 (r - 1))) → b ≡ p r → new ≡ k + cond b 1 0 → new ≡ length (filter p (range_with_len 1 (r + 1 - 1)))
+counted_to p r k new b first h test e =
+    let back : (r - 1) + 1 ≡ r = omega arith in
+    let here : b ≡ p ((r - 1) + 1) = test ∙ ap p (sym back) in
+    let again : (r - 1) + 1 ≡ r + 1 - 1 = omega arith in
+    e ∙ ap (λ x. k + cond x 1 0) here ∙ counted_more p (r - 1) k h ∙ ap (λ z. length (filter p (range_with_len 1 z))) again

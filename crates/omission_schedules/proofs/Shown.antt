@@ -6,8 +6,6 @@ use Rattle.std.specs.Prelude.{All, filter, is_some, min, nat_le, nat_lt, reverse
 use Rattle.std.specs.List.{flat_map, range_with_len}
 use Rattle.std.proofs.lemmas.Bool.{cases_lt, le-leb, le-ltb, leb-false, lt-leb, lt-ltb, ltb-true}
 use Rattle.std.proofs.lemmas.Bool.{not-true, or_parts}
-use Rattle.round_lang.specs.Sets.{set_of}
-use Rattle.round_lang.proofs.SetLaws.{bit-set_of, is-set_of, set_of-lt}
 use Rattle.round_meaning.proofs.RoundLaws.{map_same}
 use Rattle.round_meaning.specs.declared.setup.Setup.{Setup}
 use Rattle.round_meaning.specs.Rounds.{Algorithm, algorithm, algorithm_of, rounds}
@@ -30,28 +28,14 @@ use Rattle.omission_schedules.specs.Reports.{IsExplained, IsRowUnder, IsSchedule
 use Rattle.omission_schedules.specs.Reports.{ShowsRounds, count_until, ended_below, ended_rounds}
 use Rattle.omission_schedules.specs.Reports.{has_message, is_ended}
 use Rattle.omission_schedules.specs.Schedules.{has_slot, schedule_with_stops, with_stops}
+use Rattle.omission_schedules.proofs.Alike.{filter_same, filter_tests, flat_same, same_set}
 use Rattle.omission_schedules.proofs.Realised.{each_stopped, each_stopped_run, each_stops, plan_of}
 
--- ---- sets and lists
-
-same_set : (n : ℕ) (p q : ℕ → Bool) → ((j : ℕ) → j < n → p j ≡ q j) → set_of n p ≡ set_of n q
-same_set n p q same = is-set_of n (set_of n p) q (set_of-lt n p) (λ i h. bit-set_of n p i h ∙ ap (λ b. cond b 1 0) (same i h))
+-- ---- tests and numbers
 
 turned : (a b : Bool) → not a ≡ b → a ≡ not b
 turned true b h = ap not h
 turned false b h = ap not h
-
-flat_same : (f g : ℕ → List (ℕ × ℕ)) (a n : ℕ) → ((k : ℕ) → a ≤ k → k < a + n → f k ≡ g k) → flat_map f (range_with_len a n) ≡ flat_map g (range_with_len a n)
-flat_same f g a zero h = refl
-flat_same f g a (suc n) h = rw (h a (omega arith) (omega arith), flat_same f g (a + 1) n (λ k low high. h k (omega arith) (omega arith))) refl
-
-filter_tests : (p q : ℕ × ℕ → Bool) (r a n : ℕ) → ((i : ℕ) → i < a + n → p (r, i) ≡ q (r, i)) → filter p (map (λ i. (r, i)) (range_with_len a n)) ≡ filter q (map (λ i. (r, i)) (range_with_len a n))
-filter_tests p q r a zero h = refl
-filter_tests p q r a (suc n) h = rw (h a (omega arith), filter_tests p q r (a + 1) n (λ i l. h i (omega arith))) refl
-
-filter_same : (p q : ℕ → Bool) (a n : ℕ) → ((r : ℕ) → a ≤ r → r < a + n → p r ≡ q r) → filter p (range_with_len a n) ≡ filter q (range_with_len a n)
-filter_same p q a zero h = refl
-filter_same p q a (suc n) h = rw (h a (omega arith) (omega arith), filter_same p q (a + 1) n (λ r low high. h r (omega arith) (omega arith))) refl
 
 and_same : (b c s u : Bool) → b ≡ c → (c ≡ true → s ≡ u) → (b && s) ≡ (c && u)
 and_same b true s u e h = rw (e, h refl) refl
@@ -60,7 +44,7 @@ and_same b false s u e h = rw e refl
 -- how many numbers of a range come before k
 none_before : (k a n : ℕ) → k ≤ a → length (filter (λ r. nat_lt r k) (range_with_len a n)) ≡ 0
 none_before k a zero h = refl
-none_before k a (suc n) h = rw (le-ltb k a h) (none_before k (a + 1) n (omega arith))
+none_before k a (suc n) h = rw (le-ltb a k h) (none_before k (a + 1) n (omega arith))
 
 some_before : (k a n : ℕ) → a ≤ k → k ≤ a + n → length (filter (λ r. nat_lt r k) (range_with_len a n)) ≡ k - a
 some_before k a zero low high = omega arith
@@ -119,7 +103,7 @@ module _ (receives start stops : ℕ → ℕ) (omits : ℕ → ℕ → ℕ → B
           let up = up_to (r + 1) (v.setup.rounds + 1) (omega arith) (omega arith) in
           let count = run_count j b in
           lt-ltb (start r + i) (count_of v j) (omega arith) ∙ sym (lt-ltb _ _ l)
-      by (inr g) = let count = run_count j b in le-ltb (count_of v j) (start r + i) (omega arith) ∙ sym (le-ltb _ _ g)
+      by (inr g) = let count = run_count j b in le-ltb (start r + i) (count_of v j) (omega arith) ∙ sym (le-ltb _ _ g)
 
   -- and if it does, it sends what it sends in the run in rounds
   run_sends : (r i j : ℕ) → j < v.setup.nodes → 0 < r → r ≤ v.setup.rounds → has_slot start stops r i j ≡ true → sends_in start v r i j ≡ has_message own omitted r i j

@@ -54,10 +54,10 @@ unfolding set_of
 no_set p = refl
 
 -- the senders below n, separated by two tests
-pub record Sorted (h s : ℕ → Bool) (n heard silent omitted : ℕ) : Type 0 where
-  pub heard : heard ≡ set_of n h
-  pub silent : silent ≡ set_of n s
-  pub omitted : omitted ≡ set_of n (λ j. not (h j) && not (s j))
+pub record Sorted (h s : ℕ → Bool) (n x y z : ℕ) : Type 0 where
+  pub heard : x ≡ set_of n h
+  pub silent : y ≡ set_of n s
+  pub omitted : z ≡ set_of n (λ j. not (h j) && not (s j))
 
 sorted_none : (h s : ℕ → Bool) (x y z : ℕ) → x ≡ 0 → y ≡ 0 → z ≡ 0 → Sorted h s 0 x y z
 sorted_none h s x y z ex ey ez = record {
@@ -170,6 +170,10 @@ module _ (a : Algorithm) (omitted : ℕ → Bool) (states : ℕ → List Value) 
   pub all_gathered : (n : ℕ) (messages : List Received) (x y z : ℕ) → n ≡ a.nodes → Gathered a omitted states stood r i n messages x y z → messages ≡ inbox a omitted states r i
   unfolding inbox
   all_gathered n messages x y z e g = g.inbox ∙ ap (λ k. filter_map (heard a omitted states r i) (range_with_len 0 k)) e
+
+  pub all_sorted : (n k : ℕ) (messages : List Received) (x y z : ℕ) → k ≡ n → n ≤ 64 → Gathered a omitted states stood r i k messages x y z
+      → Sorted (hears a omitted states r i) (quiet a states stood r i) n x y z
+  all_sorted n k messages x y z e few g = subst (λ m. Sorted (hears a omitted states r i) (quiet a states stood r i) m x y z) e (g.sorted (omega (arith, e)))
 
 -- ---- states by round
 

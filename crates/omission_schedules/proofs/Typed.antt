@@ -18,8 +18,8 @@ use Rattle.step_machine.specs.Sealed.{KeepsTypes}
 -- what holds of each that is given holds of all
 all_given : {X : Type 0} (P : X → Type 0) (f : ℕ → Option X) (a n : ℕ)
     → ((j : ℕ) → IfSome (f j) P) → All P (filter_map f (range_with_len a n))
-all_given P f a zero h = All-nil P
-all_given P f a (suc n) h = by (f a) (h a) refl (all_given P f (a + 1) n h)
+all_given {X} P f a zero h = All-nil P
+all_given {X} P f a (suc n) h = by (f a) (h a) refl (all_given P f (a + 1) n h)
   where
     by : (o : Option X) → IfSome o P → f a ≡ o
         → All P (filter_map f (range_with_len (a + 1) n))
