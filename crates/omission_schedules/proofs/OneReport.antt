@@ -1,16 +1,14 @@
 -- One report alone shows a run in rounds.
-use Rattle.std.proofs.Common.{◌≡◌, ℕ, ◌-◌, Bool, not, List, [], ◌∷◌, map, sym, refl, ap, ◌∙◌}
+use Rattle.std.proofs.Common.{◌≡◌, ℕ, Bool, not, List, [], ◌∷◌, map, sym, refl, ap, ◌∙◌}
 use Rattle.std.specs.Prelude.{All}
 use Rattle.std.proofs.lemmas.List.Elements.{All-head, All-tail, All-weaker}
 use Rattle.round_lang.specs.Syntax.{ProgramTree}
 use Rattle.round_meaning.specs.Rounds.{Algorithm, algorithm_of, rounds}
 use Rattle.round_meaning.specs.Turn.{decision}
-use Rattle.round_meaning.specs.declared.setup.Setup.{Setup}
 use Rattle.omission_explainer.specs.Printed.{heard_set, omitted_set, silent_set}
 use Rattle.omission_explainer.specs.Reported.{place}
 use Rattle.omission_explainer.specs.Rows.{ClosedRound}
-use Rattle.omission_explainer.specs.declared.report.Report.{Report}
-use Rattle.omission_schedules.specs.Reports.{IsRowUnder, OneReportShowsRounds, ShowsRounds, has_message}
+use Rattle.omission_schedules.specs.Reports.{IsRowUnder, OneReportShowsRounds, has_message}
 use Rattle.omission_schedules.specs.Schedules.{has_slot, with_stops}
 
 module _ (p : ProgramTree) (a : Algorithm) (start stops : ℕ → ℕ) (omits : ℕ → ℕ → ℕ → Bool) where

@@ -6,8 +6,7 @@ use Rattle.std.proofs.Common.{arith, length}
 use Rattle.std.specs.Prelude.{All, filter, is_some, min, nat_le, nat_lt, replicate, slice_index_or}
 use Rattle.std.specs.List.{flat_map, range_with_len}
 use Rattle.std.proofs.lemmas.List.Elements.{All-append, All-cons, All-head, All-nil, All-tail}
-use Rattle.omission_explainer.specs.Printed.{heard_set, is_heard, is_silent, omitted_set}
-use Rattle.omission_explainer.specs.Printed.{silent_set}
+use Rattle.omission_explainer.specs.Printed.{is_heard, is_silent}
 use Rattle.omission_explainer.specs.Reported.{place}
 use Rattle.omission_explainer.specs.Rows.{ClosedRound}
 use Rattle.omission_explainer.specs.declared.report.Report.{Report}

@@ -1,9 +1,9 @@
 -- The report of the run of a schedule shows the run in rounds under its omission test.
 use Rattle.std.proofs.Common.{◌≡◌, ℕ, zero, suc, ◌+◌, ◌-◌, ◌<◌, ◌≤◌, Bool, true, false, not, ◌&&◌}
-use Rattle.std.proofs.Common.{List, [], ◌∷◌, ◌++◌, map, sym, subst, refl, ap, ◌∙◌, arith, ◌⊎◌, inl}
-use Rattle.std.proofs.Common.{inr, cond, length}
-use Rattle.std.specs.Prelude.{All, filter, is_some, min, nat_le, nat_lt, reverse, slice_index_or}
-use Rattle.std.specs.List.{flat_map, range_with_len}
+use Rattle.std.proofs.Common.{map, sym, subst, refl, ap, ◌∙◌, arith, ◌⊎◌, inl}
+use Rattle.std.proofs.Common.{inr, length}
+use Rattle.std.specs.Prelude.{filter, is_some, min, nat_le, nat_lt, reverse, slice_index_or}
+use Rattle.std.specs.List.{range_with_len}
 use Rattle.std.proofs.lemmas.Bool.{cases_lt, le-leb, le-ltb, leb-false, lt-leb, lt-ltb, ltb-true}
 use Rattle.std.proofs.lemmas.Bool.{not-true, or_parts}
 use Rattle.round_meaning.proofs.RoundLaws.{map_same}
@@ -19,7 +19,7 @@ use Rattle.step_book.specs.World.{nodes_of}
 use Rattle.step_book.proofs.Plans.{start_le}
 use Rattle.step_book.proofs.Reading.{nodes_are}
 use Rattle.omission_explainer.specs.Printed.{heard_set, is_heard, is_silent, omitted_set}
-use Rattle.omission_explainer.specs.Printed.{prints_omitted, silent_set}
+use Rattle.omission_explainer.specs.Printed.{silent_set}
 use Rattle.omission_explainer.specs.Reported.{IsReported, carried_in, closed_below, closed_rounds}
 use Rattle.omission_explainer.specs.Reported.{count_in, counts_in, is_closed, sends_in, stands_in}
 use Rattle.omission_explainer.specs.Rows.{ClosedRound}

@@ -1,11 +1,9 @@
 -- How a loop over the senders gathers what comes to a node in a round.
 use Rattle.std.proofs.Common.{◌≡◌, ℕ, ◌+◌, ◌-◌, ◌<◌, ◌≤◌, Bool, true, false, cond, List, [], ◌∷◌}
-use Rattle.std.proofs.Common.{◌++◌, Option, Some, None, refl, sym, ap, ◌∙◌, subst, arith, ◌⊎◌}
-use Rattle.std.proofs.Common.{inl, inr}
+use Rattle.std.proofs.Common.{◌++◌, Option, Some, None, refl, sym, ap, ◌∙◌, subst, arith}
 use Rattle.std.specs.Prelude.{◌&&◌, is_some, not}
 use Rattle.std.specs.List.{filter_map, range_with_len}
-use Rattle.omission_explainer.specs.Printed.{heard_set, is_heard, is_silent, omitted_set}
-use Rattle.omission_explainer.specs.Printed.{prints_omitted, silent_set}
+use Rattle.omission_explainer.specs.Printed.{is_heard, is_silent}
 use Rattle.omission_explainer.proofs.Outcomes.{added}
 use Rattle.omission_schedules.specs.Stages.{outcome_of}
 use Rattle.omission_schedules.specs.declared.rounds.Outcome.TheVariants.{Heard, Omitted, Silent}
@@ -15,7 +13,7 @@ use Rattle.round_lang.specs.declared.value.Value.{Value}
 use Rattle.round_meaning.proofs.Lists.{filter_map_push, filter_map_skip}
 use Rattle.round_meaning.proofs.RoundLaws.{rounds_more, state_in-states_after}
 use Rattle.round_meaning.specs.Rounds.{Algorithm, heard, inbox, received, rounds}
-use Rattle.round_meaning.specs.States.{next_state, state_in, states_after}
+use Rattle.round_meaning.specs.States.{state_in, states_after}
 use Rattle.round_meaning.specs.declared.received.Received.{Received}
 
 -- ---- what each outcome says

@@ -9,7 +9,7 @@ use Rattle.round_lang.specs.Syntax.{ProgramTree}
 use Rattle.round_lang.specs.Words.{kind_of}
 use Rattle.round_lang.specs.declared.value.Value.{Value}
 use Rattle.round_meaning.specs.Rounds.{algorithm, algorithm_of, heard, inbox, received, rounds}
-use Rattle.round_meaning.specs.Typed.{IsInboxOf, IsMessageOf, IsStateOf}
+use Rattle.round_meaning.specs.Typed.{IsMessageOf, IsStateOf}
 use Rattle.round_meaning.specs.declared.received.Received.{Received}
 use Rattle.round_meaning.specs.declared.setup.Setup.{Setup}
 use Rattle.step_machine.proofs.Typing.{state_of_program}

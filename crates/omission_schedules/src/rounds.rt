@@ -10,13 +10,12 @@ ghost use Rattle.round_meaning.specs.States.{initial_states, state_in, states_af
 
 use round_check::Checked;
 use round_lang::{Message, NoMemory, Vars};
-use round_meaning::{
-    Heard, NodeSet, OmissionTable, Received, Setup, end_of, initial_of, send_of,
-};
+use round_meaning::{Heard, NodeSet, OmissionTable, Received, Setup, end_of, initial_of, send_of};
 use slot_plans::Plan;
 use std::alloc::Global;
 
 /// What a run in rounds is of, which messages it omits, and after how many steps each node stops.
+#[derive(Clone, Copy)]
 pub(crate) struct Rounds<'a, P: Plan> {
     pub(crate) program: &'a Checked,
     pub(crate) setup: &'a Setup,
@@ -63,6 +62,7 @@ impl<'a, P: Plan> Rounds<'a, P> {
 }
 
 /// What came of a message for its receiver.
+#[derive(Drop)]
 enum Outcome {
     Heard(Message),
     Silent,

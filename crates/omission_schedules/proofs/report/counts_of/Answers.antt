@@ -1,8 +1,7 @@
-use Rattle.std.proofs.Common.{◌≡◌, ◌+◌, ◌∙◌, ap, length}
-use Rattle.std.specs.Prelude.{filter, min, slice_index}
-use Rattle.std.specs.List.{range_with_len}
+use Rattle.std.proofs.Common.{◌≡◌, ◌+◌, ◌∙◌, ap}
+use Rattle.std.specs.Prelude.{min, slice_index}
 use Rattle.round_meaning.proofs.Lists.{map_push}
-use Rattle.omission_schedules.specs.Reports.{count_until, is_ended}
+use Rattle.omission_schedules.specs.Reports.{count_until}
 use Rattle.omission_schedules.proofs.report.counts_of.Goals as goal
 
 pub loop-node-preserved : goal.loop-node-preserved

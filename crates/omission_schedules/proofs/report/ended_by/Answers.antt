@@ -1,4 +1,4 @@
-use Rattle.std.proofs.Common.{◌≡◌, ℕ, ◌+◌, ◌-◌, ◌≤◌, ◌∙◌, ap, sym, arith, length, true, false}
+use Rattle.std.proofs.Common.{◌≡◌, ℕ, ◌+◌, ◌-◌, ◌∙◌, ap, sym, arith, length, true, false}
 use Rattle.std.specs.Prelude.{filter, slice_index}
 use Rattle.std.specs.List.{range_with_len}
 use Rattle.omission_schedules.specs.Reports.{is_ended}
@@ -14,9 +14,9 @@ loop-round-preserved g c =
     let first = c.loop-round.auto.round in
     elim c.if-is_ended.branch [
       | then-is_ended w ↦ record {
-          counted = counted_to p r c.loop-round.ended _ true first before.counted (sym w.if-is_ended.true ∙ c.is_ended.ensures) w.ended-is;
-          few = omega (arith, before.few, w.ended-is);
-        }
+        counted = counted_to p r c.loop-round.ended _ true first before.counted (sym w.if-is_ended.true ∙ c.is_ended.ensures) w.ended-is;
+        few = omega (arith, before.few, w.ended-is);
+      }
       | else-is_ended w ↦
           let same : c.if-is_ended.ended ≡ c.loop-round.ended + 0 = omega (arith, w.ended-is) in
           record {

@@ -1,13 +1,12 @@
-use Rattle.std.proofs.Common.{◌≡◌, ◌+◌, ◌++◌, ◌∷◌, [], ◌∙◌, ap, map, sym, subst, arith, true, false}
+use Rattle.std.proofs.Common.{◌≡◌, ◌+◌, ◌∙◌, ap, map, sym, subst, arith}
 use Rattle.std.specs.Prelude.{All, slice_index}
 use Rattle.std.specs.List.{range_with_len}
 use Rattle.std.proofs.lemmas.List.Elements.{All-push}
-use Rattle.omission_explainer.specs.Reported.{place}
 use Rattle.round_meaning.specs.Rounds.{algorithm, algorithm_of, rounds}
 use Rattle.round_meaning.proofs.Lists.{map_push}
-use Rattle.omission_schedules.specs.Reports.{IsRowUnder, ended_below}
+use Rattle.omission_schedules.specs.Reports.{IsRowUnder}
 use Rattle.omission_schedules.specs.Stages.{omits_under}
-use Rattle.omission_schedules.proofs.Listing.{listed_first, listed_none, listed_row}
+use Rattle.omission_schedules.proofs.Listing.{listed_none, listed_row}
 use Rattle.omission_schedules.proofs.report.next_states.Goals as goal
 use Rattle.omission_schedules.proofs.report.next_states.Goals.{then-is_ended+in_ok-push, else-is_ended}
 

@@ -1,10 +1,8 @@
-use Rattle.std.proofs.Common.{◌≡◌, ◌+◌, ◌-◌, ◌∙◌, ap, map, sym, subst, arith, []}
+use Rattle.std.proofs.Common.{◌∙◌, ap, map, sym, subst}
 use Rattle.std.specs.Prelude.{All, slice_index}
 use Rattle.std.proofs.lemmas.List.Elements.{All-nil}
 use Rattle.omission_explainer.specs.Reported.{place}
-use Rattle.omission_explainer.specs.Rows.{ClosedRound}
 use Rattle.round_meaning.specs.Rounds.{algorithm_of}
-use Rattle.round_meaning.specs.States.{states_after}
 use Rattle.round_meaning.proofs.RoundLaws.{states_after_none}
 use Rattle.omission_schedules.specs.Reports.{IsRowUnder}
 use Rattle.omission_schedules.specs.Stages.{omits_under}

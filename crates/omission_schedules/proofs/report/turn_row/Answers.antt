@@ -1,7 +1,6 @@
 use Rattle.std.proofs.Common.{◌≡◌, ◌∙◌, ap, map, sym}
-use Rattle.std.specs.Prelude.{slice_index}
 use Rattle.round_lang.specs.Words.{kind_of}
-use Rattle.round_meaning.specs.Rounds.{algorithm, algorithm_of, rounds}
+use Rattle.round_meaning.specs.Rounds.{algorithm}
 use Rattle.round_meaning.specs.Turn.{decision}
 use Rattle.step_machine.specs.Sealed.{KeepsTypes}
 use Rattle.omission_schedules.specs.Stages.{omits_under}

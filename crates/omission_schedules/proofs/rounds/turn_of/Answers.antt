@@ -1,12 +1,11 @@
-use Rattle.std.proofs.Common.{◌≡◌, ◌+◌, ◌-◌, ◌<◌, ◌∙◌, ap, sym, arith, length, subst}
+use Rattle.std.proofs.Common.{◌≡◌, ◌-◌, ◌<◌, ◌∙◌, ap, sym, arith, length}
 use Rattle.std.specs.Prelude.{slice_index}
 use Rattle.round_meaning.specs.Rounds.{algorithm, algorithm_of, rounds}
-use Rattle.round_meaning.specs.States.{state_in}
 use Rattle.round_meaning.specs.declared.nodes.NodeSet.{NodeSet}
 use Rattle.round_meaning.proofs.RoundLaws.{length-states_after}
 use Rattle.omission_schedules.specs.Schedules.{has_slot}
 use Rattle.omission_schedules.specs.Stages.{omits_under, outcome_of}
-use Rattle.omission_schedules.proofs.Turns.{Gathered, all_gathered, gathered_heard, gathered_none}
+use Rattle.omission_schedules.proofs.Turns.{all_gathered, gathered_heard, gathered_none}
 use Rattle.omission_schedules.proofs.Turns.{gathered_omitted, gathered_silent, Sorted, state_before}
 use Rattle.omission_schedules.proofs.Turns.{all_sorted, hears, quiet}
 use Rattle.omission_schedules.proofs.rounds.turn_of.Goals as goal
