@@ -57,6 +57,7 @@ at 4: message (l: row, p: set) send when size({v : locks[v] > 0}) > 0: (locks, p
 # threads make what is printed
 Setup = collections.namedtuple("Setup", "nodes faults inputs rounds delta")
 Threads = collections.namedtuple("Threads", "setup is_ticking stops")
+Omissions = collections.namedtuple("Omissions", "setup lines")
 Row = collections.namedtuple("Row", "round node heard silent omitted state")
 Answer = collections.namedtuple("Answer", "status out err")
 
@@ -178,6 +179,75 @@ def read_schedule(text):
 def read_threads(text):
     setup, (pace, *stops) = read_text(text, THREAD_LINES)
     return Threads(setup, pace[1] == b"pace ticks", [tuple(it[2:]) for it in stops])
+
+
+# The lines of an omission file
+
+
+LIST, RANGE = rb"(-|[0-9]+(?:,[0-9]+)*)", rb"([0-9]+(?:-[0-9]+)?)"
+OMISSIONS = [
+    rb"(omit) ([0-9]+) " + RANGE + rb" ([0-9]+)",
+    rb"(cut) " + LIST + b" " + RANGE,
+    rb"(crash) ([0-9]+) ([0-9]+) " + LIST,
+]
+
+
+class Omission:
+    """A line of an omission file: the nodes and the rounds that it names, and what it omits."""
+
+    def __init__(self, kind, *parts):
+        self.kind = kind
+        if kind == "omit":
+            receiver, rounds, sender = parts
+            self.receiver, self.sender = int(receiver), int(sender)
+            self.nodes = {self.receiver, self.sender}
+        elif kind == "cut":
+            self.nodes = self.listed = numbers_of(parts[0])
+            rounds = parts[1]
+        else:
+            self.sender, rounds, self.listed = int(parts[0]), parts[1], numbers_of(parts[2])
+            self.nodes = {self.sender} | self.listed
+        first, _, last = rounds.partition("-")
+        self.first, self.last = int(first), int(last or first)
+
+    def names_messages_of(self, setup):
+        is_range = 1 <= self.first <= self.last <= setup.rounds
+        return is_range and all(it < setup.nodes for it in self.nodes)
+
+    def omits(self, receiver, number, sender):
+        if self.kind == "crash":
+            is_late = number == self.first and receiver not in self.listed
+            return sender == self.sender and (is_late or number > self.first)
+        if not self.first <= number <= self.last:
+            return False
+        if self.kind == "omit":
+            return (receiver, sender) == (self.receiver, self.sender)
+        return (receiver in self.listed) != (sender in self.listed)
+
+
+def numbers_of(text):
+    return set() if text == "-" else {int(it) for it in text.split(",")}
+
+
+def read_omissions(text):
+    found = []
+    for number, line in enumerate(lines(text), 1):
+        if not line or line.startswith(b"#"):
+            continue
+        match = next(filter(None, (re.fullmatch(it, line) for it in OMISSIONS)), None)
+        if not match:
+            raise Refused(f"schedule 1 at {number}")
+        if any(int(it) > LARGEST for it in re.findall(rb"[0-9]+", line)):
+            raise Refused(f"schedule 2 at {number}")
+        found.append(Omission(*(it.decode() for it in match.groups())))
+    return found
+
+
+def check_omissions(setup, omissions):
+    """Refuses the first line that names no message of the run."""
+    for at, it in enumerate(omissions):
+        if not it.names_messages_of(setup):
+            raise Refused(f"run 3 at {at}")
 
 
 def check_run(checked, setup, events, correct=()):
@@ -314,13 +384,19 @@ class Run:
             )
         for node in self.nodes:
             closed = sum(it.node == node for it in self.rows)
-            out.append(f"node {node} steps {len(self.steps[node])} rounds {closed}\n")
+            out.append(f"node {node} steps {self.count(node)} rounds {closed}\n")
         return "".join(out)
+
+    def count(self, node):
+        return len(self.steps[node])
 
     def decided(self):
         """Says what all decisions of the report come to."""
         found = {self.algorithm.decision(it.state) for it in self.rows} - {None}
         return "split" if len(found) > 1 else shown_decision(next(iter(found), None))
+
+    def told(self, options):
+        return f"decided {self.decided()}\n" if "decided" in options else ""
 
     def verdict(self, events, correct, delta, gst):
         lockstep = yes(self.is_lockstep(events, correct))
@@ -391,8 +467,11 @@ NEEDED = {
     "judge": ["schedule", "correct", "delta", "gst"],
     "threads": ["setup", "trace"],
     "lockstep": ["header", "correct", "delta", "gst"],
+    "realise": ["header", "omissions"],
+    "rounds": ["header", "omissions"],
 }
 ALLOWED = {"lockstep": ["delays", "orders", "ticks"]}
+DECIDED = ("run", "threads", "rounds")
 
 
 def read_words(words):
@@ -410,7 +489,7 @@ def read_words(words):
             sources.append(word)
         elif word == "--":
             is_behind = True
-        elif word == "--decided" and command in ("run", "threads") and "decided" not in options:
+        elif word == "--decided" and command in DECIDED and "decided" not in options:
             options["decided"] = ""
         elif word.startswith("--") and name in allowed and name not in options:
             if not equals and (not rest or (rest[0].startswith("-") and rest[0] != "-")):
@@ -483,7 +562,12 @@ def opened(options, files):
     """Returns what the text says that a command reads beside its source: the setup, and what
     follows the header."""
     name, read = next((options[it], READERS[it]) for it in READERS if it in options)
-    return read(text_of(files.get(name), SCHEDULE_LIMIT, "schedule 3"))
+    setup, behind = read(text_of(files.get(name), SCHEDULE_LIMIT, "schedule 3"))
+    if "omissions" in options:
+        is_read = options["omissions"] == name == "-"  # (standard input is read to its end)
+        text = b"" if is_read else files.get(options["omissions"])
+        behind = read_omissions(text_of(text, SCHEDULE_LIMIT, "schedule 3"))
+    return setup, behind
 
 
 def threads_of(text):
@@ -523,13 +607,18 @@ def carried_out(words, files):
         if "/" in options["trace"]:  # (there are no folders)
             raise Refused("write")
         return None
+    if command in ("realise", "rounds"):
+        check_run(checked, setup, [])
+        check_omissions(setup, behind)
+        run = Rounds(Algorithm(checked, setup), behind)
+        return run.schedule() if command == "realise" else run.report() + run.told(options)
     check_run(checked, setup, behind, correct)
     if command == "lockstep":
         return lockstep(Algorithm(checked, setup), correct, options)
     run = Run(Algorithm(checked, setup), behind)
     if command == "judge":
         return run.verdict(behind, correct, int(options["delta"]), int(options["gst"]))
-    return run.report() + (f"decided {run.decided()}\n" if "decided" in options else "")
+    return run.report() + run.told(options)
 
 
 # Runs by threads
@@ -547,7 +636,7 @@ def threads_complaint(words, files, out, trace):
     except Refused as why:
         return f"the trace is refused: {why}"
     run = Run(Algorithm(checked, setup), events)
-    wanted = run.report() + (f"decided {run.decided()}\n" if "decided" in options else "")
+    wanted = run.report() + run.told(options)
     stops, every = dict(threads.stops), run.start(setup.rounds + 1)
     steps = [min(every, stops.get(node, every)) for node in run.nodes]
     stayed = [node for node in run.nodes if steps[node] == every]
@@ -564,6 +653,55 @@ def threads_complaint(words, files, out, trace):
     ):
         return "the ticks weren't kept"
     return ""
+
+
+# Runs in rounds
+
+
+class Rounds(Run):
+    """A run in rounds that omits what the lines of an omission file say, with no schedule."""
+
+    def __init__(self, algorithm, omissions):
+        self.algorithm, self.setup, self.omissions = algorithm, algorithm.setup, omissions
+        self.nodes = range(self.setup.nodes)
+        self.ends = [self.end_of(it) for it in self.nodes]
+        self.states = {(node, 0): algorithm.begin(node) for node in self.nodes}
+        numbers = range(1, self.setup.rounds + 1)
+        rows = [self.close(number, node) for number in numbers for node in self.nodes]
+        self.rows = [it for it in rows if self.start(it.round + 1) <= self.ends[it.node]]
+
+    def end_of(self, node):
+        """Returns how many steps a node takes: with a crash its sends of that round are the last."""
+        crashes = [it.first for it in self.omissions if it.kind == "crash" and it.sender == node]
+        if crashes:
+            return self.start(min(crashes)) + self.setup.nodes
+        return self.start(self.setup.rounds + 1)
+
+    def count(self, node):
+        return self.ends[node]
+
+    def sent_at(self, sender, to, number):
+        step = self.start(number) + to
+        return step if step < self.ends[sender] else None
+
+    def is_carried(self, sender, to, number):
+        return not any(it.omits(to, number, sender) for it in self.omissions)
+
+    def schedule(self):
+        """Returns the schedule that goes round by round and omits the same."""
+        events = []
+        for number in range(1, self.setup.rounds + 1):
+            first, sent = self.start(number), self.start(number) + self.setup.nodes
+            events += self.steps_of(first, sent)
+            for to in self.nodes:
+                carried = (it for it in self.nodes if self.is_carried(it, to, number))
+                events += [("release", sender, to, number) for sender in carried]
+            events += self.steps_of(sent, self.start(number + 1))
+        return schedule_text(self.setup, events)
+
+    def steps_of(self, first, after):
+        for node in self.nodes:
+            yield from [("step", node)] * max(0, min(after, self.ends[node]) - first)
 
 
 # Runs in lockstep
@@ -592,6 +730,10 @@ def lockstep(algorithm, correct, options):
                 keyed.append((tick + (min(delay, delta) if tick >= gst else delay), serial, sent))
                 serial += 1
             events.append(("step", node))
+    return schedule_text(setup, events)
+
+
+def schedule_text(setup, events):
     plan = "growing" if setup.delta is None else f"known {setup.delta}"
     head = [f"nodes {setup.nodes}", f"faults {setup.faults}"]
     head += ["inputs " + " ".join(map(str, setup.inputs)), f"rounds {setup.rounds}", f"plan {plan}"]

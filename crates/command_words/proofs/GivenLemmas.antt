@@ -106,7 +106,13 @@ lack_explained words name rows (fault.Refused e) none is lack = absurd (elim lac
               ]
             ]
           ]
-          | inr other ↦ cc (other.1)
+          | inr more ↦ elim more [
+            | inl realise ↦ elim realise.1 [ inl source ↦ source | inr file ↦ elim file [ inl header ↦ header | inr omissions ↦ omissions ] ]
+            | inr more ↦ elim more [
+              | inl rounds ↦ elim rounds.1 [ inl source ↦ source | inr file ↦ elim file [ inl header ↦ header | inr omissions ↦ omissions ] ]
+              | inr other ↦ cc (other.1)
+            ]
+          ]
         ]
       ]
     ]

@@ -80,3 +80,30 @@ lockstep_delays = refl
 check_taken : takes roundc_app (codes "check" ∷ codes "a" ∷ []) ≡ true
 unfolding clap_on_literals
 check_taken = refl
+
+abbrev rounds_row : List Text
+rounds_row = codes "rounds" ∷ codes "a" ∷ codes "--omissions" ∷ codes "b" ∷ codes "--decided" ∷ codes "--header" ∷ codes "-" ∷ []
+
+rounds_taken : takes roundc_app rounds_row ≡ true
+unfolding clap_on_literals
+rounds_taken = refl
+
+rounds_omissions : option_map (λ p. first_of (codes "omissions") p.1) (subcommand_of roundc_app rounds_row) ≡ Some (Some (codes "b"))
+unfolding clap_on_literals
+rounds_omissions = refl
+
+rounds_decided : option_map (λ p. first_of (codes "decided") p.1) (subcommand_of roundc_app rounds_row) ≡ Some (Some (codes "true"))
+unfolding clap_on_literals
+rounds_decided = refl
+
+realise_taken : takes roundc_app (codes "realise" ∷ codes "a" ∷ codes "--header" ∷ codes "b" ∷ codes "--omissions" ∷ codes "-" ∷ []) ≡ true
+unfolding clap_on_literals
+realise_taken = refl
+
+no_omissions_refused : fault_of roundc_app (codes "realise" ∷ codes "a" ∷ codes "--header" ∷ codes "b" ∷ []) ≡ kind.MissingRequiredArgument ∷ []
+unfolding clap_on_literals
+no_omissions_refused = refl
+
+no_flag_refused : fault_of roundc_app (codes "realise" ∷ codes "a" ∷ codes "--header" ∷ codes "b" ∷ codes "--omissions" ∷ codes "c" ∷ codes "--decided" ∷ []) ≡ kind.UnknownArgument ∷ []
+unfolding clap_on_literals
+no_flag_refused = refl

@@ -59,6 +59,18 @@ lockstep_app =
     with_rule (with_rule (with_rule required_lockstep_app (optional_rule (codes "delays")))
     (optional_rule (codes "orders"))) (optional_rule (codes "ticks"))
 
+-- `realise SOURCE --header FILE --omissions FILE`
+abbrev pub realise_app : App
+realise_app =
+    with_rule (with_rule (with_rule (new_app (codes "realise")) source_rule)
+    (text_rule (codes "header"))) (text_rule (codes "omissions"))
+
+-- `rounds SOURCE --header FILE --omissions FILE [--decided]`
+abbrev pub rounds_app : App
+rounds_app =
+    with_rule (with_rule (with_rule (with_rule (new_app (codes "rounds")) source_rule)
+    (text_rule (codes "header"))) (text_rule (codes "omissions"))) decided_rule
+
 -- the command line with no command in it yet; its version is that of each command
 abbrev pub bare_app : App
 bare_app = let new = new_app (codes "roundc") in record new {
@@ -72,9 +84,9 @@ bare_app = let new = new_app (codes "roundc") in record new {
 
 -- the whole command line
 abbrev pub roundc_app : App
-roundc_app = with_subcommand (with_subcommand (with_subcommand
+roundc_app = with_subcommand (with_subcommand (with_subcommand (with_subcommand (with_subcommand
     (with_subcommand (with_subcommand bare_app check_app.top) run_app.top) threads_app.top)
-    judge_app.top) lockstep_app.top
+    judge_app.top) lockstep_app.top) realise_app.top) rounds_app.top
 
 -- what a parse reads of the command is this, and none of its arguments is global
 abbrev pub IsCommandOf : App → Command → Type 0

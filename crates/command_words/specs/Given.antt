@@ -10,8 +10,8 @@ use Rattle.command_words.specs.Values.{IsNoList, ListText, NumberText, SourceTex
 use Rattle.command_words.specs.Values.{max_delta}
 use Rattle.command_words.specs.declared.values.Source.{Source}
 use Rattle.command_words.specs.declared.words.Words.{Words}
-use Rattle.command_words.specs.declared.words.Words.TheVariants.{Check, Judge, Lockstep, Run}
-use Rattle.command_words.specs.declared.words.Words.TheVariants.{Threads}
+use Rattle.command_words.specs.declared.words.Words.TheVariants.{Check, Judge, Lockstep, Realise}
+use Rattle.command_words.specs.declared.words.Words.TheVariants.{Rounds, Run, Threads}
 use Rattle.command_words.specs.declared.words.WordsFault.{WordsFault}
 use Rattle.command_words.specs.declared.words.WordsFault.TheVariants.{Refused, Missing, NoMemory}
 use Rattle.command_words.specs.declared.words.WordsFault.TheVariants as fault
@@ -70,6 +70,12 @@ Gives name rows (Lockstep source header correct delta gst delays orders ticks) =
     × GivesSource rows source × (first_of (codes "header") rows ≡ Some header.now)
     × GivesTerms rows correct.items delta gst × GivesTable (codes "delays") rows delays.items
     × GivesTable (codes "orders") rows orders.items × GivesTicks rows ticks
+Gives name rows (Realise source header omissions) = (name ≡ codes "realise")
+    × GivesSource rows source × (first_of (codes "header") rows ≡ Some header.now)
+    × (first_of (codes "omissions") rows ≡ Some omissions.now)
+Gives name rows (Rounds source header omissions decided) = (name ≡ codes "rounds")
+    × GivesSource rows source × (first_of (codes "header") rows ≡ Some header.now)
+    × (first_of (codes "omissions") rows ≡ Some omissions.now) × (IsTrue decided ↔ HasFlag rows)
 
 -- the words name a command, and give it its values
 abbrev pub Means : List Text → Words → Type 0
@@ -152,6 +158,11 @@ FailsByLockstep rows fault =
     ⊎ (FailsByTable (codes "delays") rows fault
     ⊎ (FailsByTable (codes "orders") rows fault ⊎ FailsByTicks rows fault))))
 
+-- the fault of a value of `realise` or `rounds`
+abbrev pub FailsByOmissions : List Row → WordsFault → Type 0
+FailsByOmissions rows fault = FailsBySource rows fault
+    ⊎ (FailsByFile (codes "header") rows fault ⊎ FailsByFile (codes "omissions") rows fault)
+
 -- the fault of a command's values; a command of another name lacks all
 abbrev pub FailsByValue : Text → List Row → WordsFault → Type 0
 FailsByValue name rows fault =
@@ -160,8 +171,11 @@ FailsByValue name rows fault =
     ⊎ (((name ≡ codes "threads") × FailsByThreads rows fault)
     ⊎ (((name ≡ codes "judge") × FailsByJudge rows fault)
     ⊎ (((name ≡ codes "lockstep") × FailsByLockstep rows fault)
+    ⊎ (((name ≡ codes "realise") × FailsByOmissions rows fault)
+    ⊎ (((name ≡ codes "rounds") × FailsByOmissions rows fault)
     ⊎ (((name ≢ codes "check") × (name ≢ codes "run") × (name ≢ codes "threads")
-    × (name ≢ codes "judge") × (name ≢ codes "lockstep")) × (fault ≡ Missing))))))
+    × (name ≢ codes "judge") × (name ≢ codes "lockstep") × (name ≢ codes "realise")
+    × (name ≢ codes "rounds")) × (fault ≡ Missing))))))))
 
 -- `clap` finds no mistake in the words, and a value of the command that they name has the fault
 abbrev pub HasBadValue : List Text → WordsFault → Type 0

@@ -3,8 +3,9 @@ ghost use Rattle.std.specs.Prelude.{◌≡◌, IfOk, codes, false};
 ghost use Rattle.clap.specs.Words.{rule_of};
 ghost use Rattle.command_words.specs.Commands.{IsCommandOf, bare_app, check_app, decided_rule};
 ghost use Rattle.command_words.specs.Commands.{judge_app, lockstep_app, optional_rule};
-ghost use Rattle.command_words.specs.Commands.{required_lockstep_app, roundc_app, run_app};
-ghost use Rattle.command_words.specs.Commands.{source_rule, text_rule, threads_app};
+ghost use Rattle.command_words.specs.Commands.{realise_app, required_lockstep_app, roundc_app};
+ghost use Rattle.command_words.specs.Commands.{rounds_app, run_app, source_rule, text_rule};
+ghost use Rattle.command_words.specs.Commands.{threads_app};
 
 use clap::{Arg, ArgAction, Command};
 use std::alloc::{AllocError, Global};
@@ -213,6 +214,42 @@ fn threads_command<'a>(alloc: Global) -> Result<Command<'a>, AllocError>
         .arg(decided_arg(alloc))
 }
 
+/// `--omissions FILE`.
+fn omissions_arg<'a>(alloc: Global) -> Arg<'a>
+    ensures rule { rule_of result ≡ text_rule (codes "omissions") }
+    ensures local { result.global ≡ false }
+{
+    value_arg(
+        alloc,
+        "omissions",
+        "FILE",
+        "The file of the omitted messages, or - for standard input",
+    )
+}
+
+/// `realise SOURCE --header FILE --omissions FILE`.
+fn realise_command<'a>(alloc: Global) -> Result<Command<'a>, AllocError>
+    ensures { IfOk result (IsCommandOf realise_app) }
+{
+    Command::new(alloc, "realise")
+        .about("Writes a schedule that omits just the messages of a file")
+        .arg(source_arg(alloc))?
+        .arg(header_arg(alloc))?
+        .arg(omissions_arg(alloc))
+}
+
+/// `rounds SOURCE --header FILE --omissions FILE [--decided]`.
+fn rounds_command<'a>(alloc: Global) -> Result<Command<'a>, AllocError>
+    ensures { IfOk result (IsCommandOf rounds_app) }
+{
+    Command::new(alloc, "rounds")
+        .about("Runs a program in rounds that omit the messages of a file")
+        .arg(source_arg(alloc))?
+        .arg(header_arg(alloc))?
+        .arg(omissions_arg(alloc))?
+        .arg(decided_arg(alloc))
+}
+
 /// The command line with no command in it yet.
 fn bare_command<'a>(alloc: Global) -> Result<Command<'a>, AllocError>
     ensures { IfOk result (IsCommandOf bare_app) }
@@ -220,7 +257,7 @@ fn bare_command<'a>(alloc: Global) -> Result<Command<'a>, AllocError>
     Ok(
         Command::new(alloc, "roundc")
             .bin_name("roundc")?
-            .version("0.1.0")
+            .version("0.2.0, proved with rattle-kit-13f")
             .propagate_version(true)
             .about("Runs algorithms written in rounds, step by step")
             .no_binary_name(true)
@@ -237,5 +274,7 @@ pub(crate) fn roundc_command<'a>(alloc: Global) -> Result<Command<'a>, AllocErro
         .subcommand(run_command(alloc)?)?
         .subcommand(threads_command(alloc)?)?
         .subcommand(judge_command(alloc)?)?
-        .subcommand(lockstep_command(alloc)?)
+        .subcommand(lockstep_command(alloc)?)?
+        .subcommand(realise_command(alloc)?)?
+        .subcommand(rounds_command(alloc)?)
 }

@@ -7,6 +7,8 @@
 //! roundc judge SOURCE --schedule FILE --correct LIST --delta D --gst G
 //! roundc lockstep SOURCE --header FILE --correct LIST --delta D --gst G [--delays LIST]
 //!     [--orders LIST] [--ticks T]
+//! roundc realise SOURCE --header FILE --omissions FILE
+//! roundc rounds SOURCE --header FILE --omissions FILE [--decided]
 //! ```
 //!
 //! SOURCE is a file's name, or `@NAME:VALUES`, a program of the library. FILE is a file's name, or

@@ -3,9 +3,11 @@ ghost use Rattle.std.specs.Prelude.{◌≡◌, ◌≢◌, ◌⊎◌, ◌↔◌, 
 ghost use Rattle.std.specs.Prelude.{codes, map, option_map};
 ghost use Rattle.clap.specs.Words.{fault_of, first_of, found_of, kind_of, rows_of};
 ghost use Rattle.command_words.specs.Commands.{roundc_app};
-ghost use Rattle.command_words.specs.Given.{Explains, FailsByDelta, FailsByGst, FailsByJudge};
-ghost use Rattle.command_words.specs.Given.{FailsByList, FailsByLockstep, FailsBySource};
-ghost use Rattle.command_words.specs.Given.{FailsByTable, FailsByThreads, FailsByTicks};
+ghost use Rattle.command_words.specs.Given.{Explains, FailsByDelta, FailsByFile, FailsByGst};
+ghost use Rattle.command_words.specs.Given.{FailsByJudge, FailsByList, FailsByLockstep};
+ghost use Rattle.command_words.specs.Given.{FailsByOmissions};
+ghost use Rattle.command_words.specs.Given.{FailsBySource, FailsByTable, FailsByThreads};
+ghost use Rattle.command_words.specs.Given.{FailsByTicks};
 ghost use Rattle.command_words.specs.Given.{FailsByValue, Gives, GivesDelta, GivesGst, GivesList};
 ghost use Rattle.command_words.specs.Given.{GivesSource, GivesTable, GivesTicks, HasFlag};
 ghost use Rattle.command_words.specs.Given.{IsMistake, Means};
@@ -62,6 +64,21 @@ pub enum Words<'a> {
         delays: Vec<u32>,
         orders: Vec<u32>,
         ticks: Option<u32>,
+    },
+    /// `realise SOURCE --header FILE --omissions FILE`; `header` and `omissions` are each FILE as
+    /// it was written, `-` included.
+    Realise {
+        source: Source<'a>,
+        header: &'a str,
+        omissions: &'a str,
+    },
+    /// `rounds SOURCE --header FILE --omissions FILE [--decided]`; `header` and `omissions` are as
+    /// in `Realise`.
+    Rounds {
+        source: Source<'a>,
+        header: &'a str,
+        omissions: &'a str,
+        decided: bool,
     },
 }
 
@@ -196,6 +213,24 @@ fn text_of<'a>(matches: &ArgMatches<'a>, id: &str) -> Result<&'a str, WordsFault
     matches.get_str(id).ok_or(WordsFault::Missing)
 }
 
+/// The FILE of the header.
+fn header_of<'a>(matches: &ArgMatches<'a>) -> Result<&'a str, WordsFault>
+    ensures ok { IfOk result (λ t.
+        first_of (codes "header") (rows_of (found_of matches.now)) ≡ Some t.now) }
+    ensures err { IfErr result (FailsByFile (codes "header") (rows_of (found_of matches.now))) }
+{
+    text_of(matches, "header")
+}
+
+/// The FILE of the omissions.
+fn omissions_of<'a>(matches: &ArgMatches<'a>) -> Result<&'a str, WordsFault>
+    ensures ok { IfOk result (λ t.
+        first_of (codes "omissions") (rows_of (found_of matches.now)) ≡ Some t.now) }
+    ensures err { IfErr result (FailsByFile (codes "omissions") (rows_of (found_of matches.now))) }
+{
+    text_of(matches, "omissions")
+}
+
 /// The value of an argument that may be left out.
 fn optional_text<'a>(matches: &ArgMatches<'a>, id: &str) -> Option<&'a str>
     ensures { first_of id.now (rows_of (found_of matches.now)) ≡ option_map (λ t. t.now) result }
@@ -313,13 +348,39 @@ fn lockstep_of<'a>(alloc: Global, matches: &ArgMatches<'a>) -> Result<Words<'a>,
 {
     Ok(Words::Lockstep {
         source: source_of(matches)?,
-        header: text_of(matches, "header")?,
+        header: header_of(matches)?,
         correct: correct_of(alloc, matches)?,
         delta: delta_of(matches)?,
         gst: gst_of(matches)?,
         delays: table_of(alloc, matches, "delays")?,
         orders: table_of(alloc, matches, "orders")?,
         ticks: ticks_of(matches)?,
+    })
+}
+
+/// The values of the command `realise`.
+fn realise_of<'a>(matches: &ArgMatches<'a>) -> Result<Words<'a>, WordsFault>
+    ensures ok { IfOk result (Gives (codes "realise") (rows_of (found_of matches.now))) }
+    ensures err { IfErr result (FailsByOmissions (rows_of (found_of matches.now))) }
+{
+    Ok(Words::Realise {
+        source: source_of(matches)?,
+        header: header_of(matches)?,
+        omissions: omissions_of(matches)?,
+    })
+}
+
+/// The values of the command `rounds`.
+fn rounds_of<'a>(matches: &ArgMatches<'a>) -> Result<Words<'a>, WordsFault>
+    ensures ok { IfOk result (Gives (codes "rounds") (rows_of (found_of matches.now))) }
+    ensures err { IfErr result (FailsByOmissions (rows_of (found_of matches.now))) }
+{
+    let decided = is_decided(matches);
+    Ok(Words::Rounds {
+        source: source_of(matches)?,
+        header: header_of(matches)?,
+        omissions: omissions_of(matches)?,
+        decided,
     })
 }
 
@@ -344,6 +405,8 @@ fn command_of<'a>(
         "threads" => threads_of(matches),
         "judge" => judge_of(alloc, matches),
         "lockstep" => lockstep_of(alloc, matches),
+        "realise" => realise_of(matches),
+        "rounds" => rounds_of(matches),
         _ => Err(WordsFault::Missing),
     }
 }

@@ -8,4 +8,6 @@ returns c =
     let second = subcommand_added _ _ _ _ _ c.in_ok-subcommand-2.ensures first c.in_ok-run_command.ensures in
     let third = subcommand_added _ _ _ _ _ c.in_ok-subcommand-3.ensures second c.in_ok-threads_command.ensures in
     let fourth = subcommand_added _ _ _ _ _ c.in_ok-subcommand-4.ensures third c.in_ok-judge_command.ensures in
-    IfOk-weaker c.subcommand-5.result _ _ (λ r h. subcommand_added _ _ _ _ _ h fourth c.in_ok-lockstep_command.ensures) c.subcommand-5.ensures
+    let fifth = subcommand_added _ _ _ _ _ c.in_ok-subcommand-5.ensures fourth c.in_ok-lockstep_command.ensures in
+    let sixth = subcommand_added _ _ _ _ _ c.in_ok-subcommand-6.ensures fifth c.in_ok-realise_command.ensures in
+    IfOk-weaker c.subcommand-7.result _ _ (λ r h. subcommand_added _ _ _ _ _ h sixth c.in_ok-rounds_command.ensures) c.subcommand-7.ensures

@@ -1,0 +1,10 @@
+pub mod Each
+pub mod Histories
+pub mod Realised
+pub mod Typed
+pub mod Turns
+pub mod Listing
+pub mod Alike
+pub mod Shown
+pub mod Same
+pub mod OneReport
