@@ -1,0 +1,73 @@
+//! Programs, setups and questions in words.
+use crate::fault::Fault;
+use algorithm_library::{count_votes, dls1, gather};
+use round_check::{Checked, check};
+use round_explorer::{AskedInputs, FaultKind, Question};
+use round_lang::parse;
+use round_meaning::{Inputs, Setup};
+use std::alloc::Global;
+
+pub fn number(text: &str) -> Result<u32, Fault> {
+    text.parse().map_err(|_| Fault::Unreadable)
+}
+
+/// A setup: nodes, faults and rounds, and then the inputs, or none if each list is asked about.
+pub fn setup_of(alloc: Global, words: &[&str]) -> Result<(Setup, AskedInputs), Fault> {
+    let [nodes, faults, rounds, words @ ..] = words else {
+        return Err(Fault::Unreadable);
+    };
+    let nodes = number(nodes)?;
+    let mut inputs = Vec::new(alloc);
+    for word in words {
+        inputs.push(number(word)?)?;
+    }
+    let asked = if inputs.is_empty() {
+        AskedInputs::Any
+    } else {
+        AskedInputs::Header
+    };
+    for _node in inputs.len()..nodes as usize {
+        inputs.push(0)?;
+    }
+    let setup = Setup {
+        nodes,
+        faults: number(faults)?,
+        inputs: Inputs::new(inputs),
+        rounds: number(rounds)?,
+    };
+    Ok((setup, asked))
+}
+
+/// How nodes fail, the clear round or `-`, and how many nodes are heard.
+pub fn question_of(faults: &str, clear: &str, hears: &str) -> Result<Question, Fault> {
+    let faults = match faults {
+        "none" => FaultKind::Nobody,
+        "omission" => FaultKind::Omission,
+        "crash" => FaultKind::Crash,
+        _ => return Err(Fault::Unreadable),
+    };
+    let clear = match clear {
+        "-" => None,
+        _ => Some(number(clear)?),
+    };
+    Ok(Question {
+        clear,
+        faults,
+        hears: number(hears)?,
+    })
+}
+
+/// The checked program that a text is.
+pub fn checked_of(alloc: Global, text: &str) -> Result<Checked, Fault> {
+    Ok(check(alloc, parse(alloc, text)?)?)
+}
+
+/// The program of the library with this name, over two values and for the nodes of a setup.
+pub fn offered(alloc: Global, name: &str, setup: &Setup) -> Result<Checked, Fault> {
+    match name {
+        "gather" => Ok(gather(alloc, 2)?),
+        "count_votes" => Ok(count_votes(alloc, 2)?),
+        "dls1" => Ok(dls1(alloc, setup.nodes, setup.faults, 2)?),
+        _ => Err(Fault::Unreadable),
+    }
+}
