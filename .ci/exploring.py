@@ -149,15 +149,26 @@ def by_tables(algorithm, question, pattern, names):
 
 
 def explore(checked, setup, question, names, is_any, by=by_levels):
-    """Returns the first round in which each property fails in any run that is asked about."""
+    """Returns the first round in which each property fails, and the inputs and failures of the
+    first run in which it does."""
     every = itertools.product(range(checked.values), repeat=setup.nodes)
     first = {}
     for inputs in every if is_any else [setup.inputs]:
         algorithm = reading.Algorithm(checked, setup._replace(inputs=list(inputs)))
         for pattern in patterns(setup, question):
             for name, number in by(algorithm, question, pattern, names).items():
-                first[name] = min(first.get(name, number), number)
+                if name not in first or number < first[name][0]:
+                    first[name] = number, inputs, pattern
     return first
+
+
+def shown(answer):
+    """Returns the words on a property, from the earliest run in which it fails, if there is one."""
+    if answer is None:
+        return "yes"
+    number, inputs, pattern = answer
+    failures = ["-" if it is None else str(it) for it in pattern]
+    return f"no in round {number} inputs {' '.join(map(str, inputs))} failures {' '.join(failures)}"
 
 
 def main():
@@ -167,7 +178,7 @@ def main():
     options.add_argument("--faults", default="none", choices=("none", "omission", "crash"))
     options.add_argument("--clear", type=int)
     options.add_argument("--hears", type=int, default=0)
-    options.add_argument("--check", default="agreement,validity,final")
+    options.add_argument("--check", default=",".join(PROPERTIES))
     options.add_argument("--tables", action="store_true")
     given = options.parse_args()
     nodes, faults, rounds, *inputs = given.numbers
@@ -183,7 +194,7 @@ def main():
     first = explore(checked, setup, question, names, not inputs, by)
     for name in PROPERTIES:
         if name in names:
-            print(name, f"no in round {first[name]}" if name in first else "yes")
+            print(name, shown(first.get(name)))
 
 
 if __name__ == "__main__":

@@ -8,7 +8,7 @@
 //! `none`, `omission` or `crash`, CLEAR the clear round or `-`, and HEARS the number of nodes that
 //! each node hears at least. Without inputs each list of inputs is asked about. A line for each
 //! property says whether it holds of all runs, or the first round in which it fails in a run, that
-//! run's inputs, how its nodes fail, and how many of its messages are omitted.
+//! run's inputs, and how its nodes fail: `-` for not at all, `omits`, or the round of a crash.
 #![tactic(auto)]
 
 mod fault;
@@ -33,21 +33,6 @@ const PROPERTIES: [(Property, &str); 4] = [
     (Property::Termination, "termination"),
 ];
 
-/// How many messages of a run are omitted.
-fn omitted(setup: &Setup, found: &Counterexample) -> u32 {
-    let mut count: u32 = 0;
-    for round in 1..=setup.rounds {
-        for receiver in 0..setup.nodes {
-            for sender in 0..setup.nodes {
-                if found.omissions.is_omitted(receiver, round, sender) {
-                    count = count.saturating_add(1);
-                }
-            }
-        }
-    }
-    count
-}
-
 fn tell_failure(out: &mut String, failure: Failure) -> Result<(), Fault> {
     match failure {
         Failure::Never => write!(out, " -")?,
@@ -58,7 +43,7 @@ fn tell_failure(out: &mut String, failure: Failure) -> Result<(), Fault> {
 }
 
 /// A run in which a property fails.
-fn tell(out: &mut String, setup: &Setup, found: &Counterexample) -> Result<(), Fault> {
+fn tell(out: &mut String, found: &Counterexample) -> Result<(), Fault> {
     write!(out, " no in round {} inputs", found.round)?;
     for input in found.inputs.as_slice() {
         write!(out, " {input}")?;
@@ -67,7 +52,7 @@ fn tell(out: &mut String, setup: &Setup, found: &Counterexample) -> Result<(), F
     for failure in &found.failures {
         tell_failure(out, *failure)?;
     }
-    writeln!(out, " omitted {}", omitted(setup, found))?;
+    out.push_str("\n")?;
     Ok(())
 }
 
@@ -87,7 +72,7 @@ fn tell_all(
         out.push_str(name)?;
         match explore(alloc, program, setup, question, asked, property)? {
             Answer::Holds => out.push_str(" yes\n")?,
-            Answer::Fails(found) => tell(out, setup, &found)?,
+            Answer::Fails(found) => tell(out, &found)?,
         }
     }
     Ok(())
