@@ -151,7 +151,7 @@ fn tell_of_receive<P: Plan, B: Beat>(beat: &B, plan: P, round: u32, steps: u64, 
     if offset == u64::from(plan.nodes()) {
         beat.sent(round);
     }
-    if steps + 1 == u64::from(plan.start(round + 1)) {
+    if steps.saturating_add(1) == u64::from(plan.start(round + 1)) {
         beat.gather(round);
     }
 }

@@ -8,7 +8,7 @@ ghost use Rattle.step_book.specs.Agreed.{JournalAgrees};
 ghost use Rattle.step_book.specs.Log.{mark_in, waiting_in};
 ghost use Rattle.node_threads.specs.Bodies.{SeatsEnded};
 ghost use Rattle.node_threads.specs.Ends.{HasOneDecision, HaveEnded, IsFitForThreads};
-ghost use Rattle.node_threads.specs.Faults.{IsOfThreads};
+ghost use Rattle.node_threads.specs.Faults.{IsOfThreads, with_least};
 ghost use Rattle.node_threads.specs.declared.ended.Ended.TheVariants as ended;
 
 use crate::clock::Clock;
@@ -68,7 +68,9 @@ fn jobs<'a, P: Plan>(
 }
 
 /// The fault that is told where another one comes up: the one that stands first in [`ThreadFault`].
-fn with_fault(fault: Option<ThreadFault>, other: ThreadFault) -> Option<ThreadFault> {
+fn with_fault(fault: Option<ThreadFault>, other: ThreadFault) -> Option<ThreadFault>
+    ensures { result ≡ with_least fault other }
+{
     match fault {
         Some(fault) => Some(fault.or(other)),
         None => Some(other),
