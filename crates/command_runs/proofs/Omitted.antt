@@ -9,7 +9,8 @@ use Rattle.std.proofs.lemmas.List.FromFn.{get_or-map-range_with_len}
 use Rattle.adversary.specs.declared.fault.RunFault.{RunFault}
 use Rattle.adversary.specs.declared.fault.RunFault.TheVariants as run
 use Rattle.command_runs.specs.InLockstep.{IsWritten}
-use Rattle.command_runs.specs.InOmissions.{OmissionCause, ShowsOmitting, realised_by}
+use Rattle.command_runs.specs.InOmissions.{OmissionCause, RunsReportRounds, ShowsOmitting}
+use Rattle.command_runs.specs.InOmissions.{realised_by}
 use Rattle.command_runs.specs.Refused.{IsNotOpened, IsNotRealised, IsPlan, IsRefusedCommand}
 use Rattle.command_runs.specs.Refused.{IsUnrealised, IsUnserved, fault_in, of_run, of_schedule}
 use Rattle.command_runs.specs.Refused.{omission_fault}
@@ -27,8 +28,11 @@ use Rattle.command_words.specs.declared.values.Source.TheVariants as source
 use Rattle.command_words.specs.declared.words.Words.{Words}
 use Rattle.command_words.specs.declared.words.Words.TheVariants as words
 use Rattle.omission_explainer.specs.declared.report.Report.{Report}
+use Rattle.omission_explainer.specs.Reported.{declared_names, declared_types}
+use Rattle.omission_schedules.proofs.OneReport.{one_report}
 use Rattle.omission_schedules.proofs.Same.{schedule_same, shows_same}
-use Rattle.omission_schedules.specs.Reports.{ShowsRounds}
+use Rattle.omission_schedules.proofs.Shown.{schedules_show_rounds}
+use Rattle.omission_schedules.specs.Reports.{IsExplained, IsScheduleRun, ShowsRounds}
 use Rattle.omission_schedules.specs.Schedules.{schedule_with_stops}
 use Rattle.omission_texts.specs.Meaning.{IsTableOf, is_message, omits}
 use Rattle.omission_texts.specs.Readings.{IsRead, IsReading}
@@ -165,3 +169,26 @@ module _ (nodes : ℕ) (start : ℕ → ℕ) (s : Setup) (ls : List OmissionLine
 
   pub shown : (p : ProgramTree) (report : Report) → ShowsRounds start p s (slice_index stops) (is_omitted table) report → ShowsOmitting start p s ls report
   shown p report h = shows_same start (slice_index stops) (steps_of s.nodes start s ls) p s (is_omitted table) (omits ls) report stopped_so omitted_so h
+
+-- ---- the run of the schedule
+
+pub runs_report_rounds : RunsReportRounds
+runs_report_rounds receives start p s ls report again laws shows x =
+    let stops = steps_of s.nodes start s ls in
+    let run : IsScheduleRun receives start p s stops (omits ls) x.run = record {
+      program = x.program;
+      setup = x.setup;
+      trace = x.trace;
+      agrees = x.agrees;
+      closed = x.closed;
+    } in
+    let explained : IsExplained start x.run again = record {
+      values = x.values ∙ ap (λ (q : ProgramTree). q.values) (sym x.program);
+      names = x.names ∙ ap declared_names (sym x.program);
+      types = x.types ∙ ap declared_types (sym x.program);
+      listed = x.listed;
+      reported = x.reported;
+      counted = x.counted;
+    } in
+    one_report start stops p s (omits ls) report again shows
+    (schedules_show_rounds receives start stops p s (omits ls) laws x.run again run explained)

@@ -359,8 +359,8 @@ fn run_rounds<'a, D: Desk, O: Write>(
     ensures written { D.written desk.new ≡ D.written desk.old }
 {
     let report = omitting.report(alloc, desk)?;
-    let answer = Answer::Report { report, decided };
-    written(write_answer(&answer, out), out)
+    let told = Answer::Report { report, decided };
+    written(write_answer(&told, out), out)
 }
 
 /// What a program declares: the number of its values, its period and the number of its variables.
