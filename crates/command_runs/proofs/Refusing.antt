@@ -8,14 +8,14 @@ use Rattle.adversary.specs.Reading.{IsNotRead, IsReadAs}
 use Rattle.adversary.specs.declared.fault.ReadFault.{ReadFault}
 use Rattle.adversary.specs.declared.fault.ReadFault.TheVariants as read
 use Rattle.adversary.specs.declared.fault.RunFault.TheVariants as run
-use Rattle.command_runs.specs.Refused.{IsBadText, IsMissing, IsNoProgram, IsNoSource}
+use Rattle.command_runs.specs.Refused.{Fault, HasNoText, IsBadText, IsMissing, IsNoProgram, IsNoSource}
 use Rattle.command_runs.specs.Refused.{IsNotOffered, IsOpened as IsSourceOpened, IsUnanswered}
 use Rattle.command_runs.specs.Refused.{IsNotRun, IsPlan, IsRunnable, of_check, of_read, of_schedule}
 use Rattle.command_runs.specs.Refused.{of_source, of_text}
 use Rattle.command_runs.specs.Served.{IsCheckedSource, IsOfKind, IsProgramOf, IsSchedule}
 use Rattle.command_runs.specs.Stages.{IsBadSchedule, IsNoProgramIn, IsNoProgramOf, IsNoReadIn}
 use Rattle.command_runs.specs.Stages.{IsNoReadOf, IsNotRunAs, IsProgramIn, IsReadIn, IsToldAfter}
-use Rattle.command_runs.specs.Stages.{StopsSchedule}
+use Rattle.command_runs.specs.Stages.{IsUnread, IsUnreadIn, StopsSchedule}
 use Rattle.command_runs.specs.Texts.{Files, IsTextOf}
 use Rattle.command_runs.specs.declared.refusal.Refusal.{Refusal}
 use Rattle.command_runs.specs.declared.refusal.Refusal.TheVariants as refusal
@@ -164,36 +164,36 @@ file_text kind (Some held) (text.Whole bytes) s k tail is has = record {
 }
 file_text kind (Some held) (text.Longer bytes) s k tail is has = absurd has
 
-text_read : (kind : Kind) (bytes held : List ℕ) (f : ScheduleFault) → length held ≤ max_schedule → bytes ≡ held → IsUtf8 bytes → IsNoReadOf kind bytes (refusal.Schedule f)
-    → IsBadText kind held f
-text_read kind bytes held (schedule.BadLine n) short same utf8 none =
-    (whole_text max_schedule held bytes short same utf8, subst (λ h. IsReadingOf kind h (Err (schedule.BadLine n))) same none)
-text_read kind bytes held (schedule.NumberTooLarge n) short same utf8 none =
-    (whole_text max_schedule held bytes short same utf8, subst (λ h. IsReadingOf kind h (Err (schedule.NumberTooLarge n))) same none)
-text_read kind bytes held schedule.TooLong short same utf8 none =
+text_read : (HasFault : Fault) (bytes held : List ℕ) (f : ScheduleFault) → length held ≤ max_schedule → bytes ≡ held → IsUtf8 bytes → IsUnread HasFault bytes (refusal.Schedule f)
+    → IsBadText HasFault held f
+text_read HasFault bytes held (schedule.BadLine n) short same utf8 none =
+    (whole_text max_schedule held bytes short same utf8, subst (λ h. HasFault h (schedule.BadLine n)) same none)
+text_read HasFault bytes held (schedule.NumberTooLarge n) short same utf8 none =
+    (whole_text max_schedule held bytes short same utf8, subst (λ h. HasFault h (schedule.NumberTooLarge n)) same none)
+text_read HasFault bytes held schedule.TooLong short same utf8 none =
     let long : max_schedule < length held = subst (λ h. max_schedule < length h) same none in absurd (omega arith)
-text_read kind bytes held schedule.NoMemory short same utf8 none = absurd none
+text_read HasFault bytes held schedule.NoMemory short same utf8 none = absurd none
 
--- why a file has no text of a kind, from why there is none in what was read of it
-pub no_file_text : (kind : Kind) (file : Option (List ℕ)) (t : Text) (r : Refusal) → IfSome file (IsTextOf max_schedule t) → IsNoReadIn kind t r → IsMissing kind file r
-no_file_text kind file (text.Whole bytes) (refusal.Words fault) is none = absurd none.1
-no_file_text kind file (text.Whole bytes) (refusal.Source fault) is none = absurd none.1
-no_file_text kind file (text.Whole bytes) (refusal.Check fault) is none = absurd none.1
-no_file_text kind file (text.Whole bytes) (refusal.Library fault) is none = absurd none.1
-no_file_text kind file (text.Whole bytes) refusal.NoSuchProgram is none = absurd none.1
-no_file_text kind file (text.Whole bytes) (refusal.Run fault) is none = absurd none.1
-no_file_text kind file (text.Whole bytes) refusal.Write is none = absurd none.1
-no_file_text kind file (text.Whole bytes) refusal.NodeNoMemory is none = absurd none.1
-no_file_text kind file (text.Whole bytes) refusal.NoMemory is none = tt
-no_file_text kind None (text.Whole bytes) refusal.File is none = tt
-no_file_text kind (Some held) (text.Whole bytes) refusal.File is none = no_whole_text max_schedule held bytes.items is.0 is.1 none
-no_file_text kind None (text.Whole bytes) (refusal.Schedule fault) is none = tt
-no_file_text kind (Some held) (text.Whole bytes) (refusal.Schedule fault) is none = text_read kind bytes.items held fault is.0 is.1 none.0 none.1
-no_file_text kind None (text.Longer bytes) refusal.File is none = tt
-no_file_text kind (Some held) (text.Longer bytes) refusal.File is none = no_long_text max_schedule held bytes.items is.0 is.1 none
-no_file_text kind None (text.Longer bytes) (refusal.Schedule schedule.TooLong) is none = tt
-no_file_text kind (Some held) (text.Longer bytes) (refusal.Schedule schedule.TooLong) is none = long_text max_schedule held bytes.items is.0 is.1 none
-no_file_text kind file (text.Longer bytes) r is none = absurd none
+-- why there is no text in a file, from why there is none in what was read of it
+pub no_text : (HasFault : Fault) (file : Option (List ℕ)) (t : Text) (r : Refusal) → IfSome file (IsTextOf max_schedule t) → IsUnreadIn HasFault t r → HasNoText HasFault file r
+no_text HasFault file (text.Whole bytes) (refusal.Words fault) is none = absurd none.1
+no_text HasFault file (text.Whole bytes) (refusal.Source fault) is none = absurd none.1
+no_text HasFault file (text.Whole bytes) (refusal.Check fault) is none = absurd none.1
+no_text HasFault file (text.Whole bytes) (refusal.Library fault) is none = absurd none.1
+no_text HasFault file (text.Whole bytes) refusal.NoSuchProgram is none = absurd none.1
+no_text HasFault file (text.Whole bytes) (refusal.Run fault) is none = absurd none.1
+no_text HasFault file (text.Whole bytes) refusal.Write is none = absurd none.1
+no_text HasFault file (text.Whole bytes) refusal.NodeNoMemory is none = absurd none.1
+no_text HasFault file (text.Whole bytes) refusal.NoMemory is none = tt
+no_text HasFault None (text.Whole bytes) refusal.File is none = tt
+no_text HasFault (Some held) (text.Whole bytes) refusal.File is none = no_whole_text max_schedule held bytes.items is.0 is.1 none
+no_text HasFault None (text.Whole bytes) (refusal.Schedule fault) is none = tt
+no_text HasFault (Some held) (text.Whole bytes) (refusal.Schedule fault) is none = text_read HasFault bytes.items held fault is.0 is.1 none.0 none.1
+no_text HasFault None (text.Longer bytes) refusal.File is none = tt
+no_text HasFault (Some held) (text.Longer bytes) refusal.File is none = no_long_text max_schedule held bytes.items is.0 is.1 none
+no_text HasFault None (text.Longer bytes) (refusal.Schedule schedule.TooLong) is none = tt
+no_text HasFault (Some held) (text.Longer bytes) (refusal.Schedule schedule.TooLong) is none = long_text max_schedule held bytes.items is.0 is.1 none
+no_text HasFault file (text.Longer bytes) r is none = absurd none
 
 -- why a file has no schedule, from why its reading piece by piece gave none
 pub no_schedule : (file left : Option (List ℕ)) (f : TextFault) → left ≡ file → IsNoSchedule left f → IsMissing schedules file (of_text f)

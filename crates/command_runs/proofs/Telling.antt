@@ -6,7 +6,7 @@ use Rattle.std.specs.Global.{Vec}
 use Rattle.std.specs.Io.KnownBytes.{Keeps}
 use Rattle.command_runs.specs.Refused.{IsMissing, IsNoOffer, IsNoProgram, IsNotOffered, IsNotRun}
 use Rattle.command_runs.specs.Refused.{IsOpened, IsRefusedCommand, IsRefusedInTurn, IsSilent, IsUnanswered}
-use Rattle.command_runs.specs.Refused.{Later}
+use Rattle.command_runs.specs.Refused.{Fault, HasNoText, Later, fault_in}
 use Rattle.command_runs.specs.Served.{IsCheckedSource, JudgesRun, Opens}
 use Rattle.command_runs.specs.Served.{file_name, told_text}
 use Rattle.command_runs.specs.Stages.{IsHeldBack, IsRefusedAnswer}
@@ -72,16 +72,23 @@ held_back (source.File name) files (opened.Library m k) n t r h none = absurd h
 held_back (source.Library name values) files (opened.File p) n t r h none = absurd h
 
 -- what isn't told of a file, of the library or of a text
-pub record IsLast (r : Refusal) : Type 0 where
+pub record IsLast (r : Refusal) : Type 1 where
   pub program : (file : Option (List ℕ)) → IsNoProgram file r → ⊥
   pub offer : (name : List ℕ) (values n t : ℕ) → IsNoOffer name values n t r → ⊥
-  pub text : (kind : Kind) (file : Option (List ℕ)) → IsMissing kind file r → ⊥
+  pub text : (HasFault : Fault) (file : Option (List ℕ)) → HasNoText HasFault file r → ⊥
 
 pub last_nodes : IsLast refusal.NodeNoMemory
 last_nodes = record {
   program = λ file h. h;
   offer = λ name values n t h. h;
-  text = λ kind file h. h;
+  text = λ HasFault file h. h;
+}
+
+pub last_write : IsLast refusal.Write
+last_write = record {
+  program = λ file h. h;
+  offer = λ name values n t h. h;
+  text = λ HasFault file h. h;
 }
 
 -- nor is it what refuses a run, before anything is written
@@ -89,7 +96,7 @@ pub not_in_turn : (kind : Kind) (NotRun : Later kind) (s : Source) (files : File
     → IsRefusedInTurn kind NotRun s files file r → ⊥
 not_in_turn kind NotRun (source.File name) files file r last never (inl h) = last.program (files (file_name name.now)) h
 not_in_turn kind NotRun (source.Library name values) files file r last never (inl h) = h
-not_in_turn kind NotRun s files file r last never (inr (inl h)) = last.text kind file h.1
+not_in_turn kind NotRun s files file r last never (inr (inl h)) = last.text (fault_in kind) file h.1
 not_in_turn kind NotRun (source.File name) files file r last never (inr (inr (opened, (u, k, t, read, inl none)))) = none
 not_in_turn kind NotRun (source.Library name values) files file r last never (inr (inr (opened, (u, k, t, read, inl none)))) =
     last.offer name.now values u.nodes u.faults none

@@ -1,5 +1,6 @@
 pub mod Explained
 pub mod InLockstep
+pub mod InOmissions
 pub mod ByThreads
 pub mod Library
 pub mod Texts

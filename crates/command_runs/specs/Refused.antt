@@ -11,8 +11,9 @@ use Rattle.algorithm_library.specs.declared.fault.LibraryFault.{LibraryFault}
 use Rattle.algorithm_library.specs.declared.fault.LibraryFault.TheVariants as library
 use Rattle.command_runs.specs.InLockstep.{AreTerms}
 use Rattle.command_runs.specs.Lines.{status_of}
-use Rattle.command_runs.specs.Served.{AsksForHelp, IsCheckedSource, IsOfKind, IsProgramOf}
-use Rattle.command_runs.specs.Served.{IsThreadSetup, Prints, file_name}
+use Rattle.command_runs.specs.Served.{AsksForHelp, IsCheckedSource, IsHeader, IsOfKind}
+use Rattle.command_runs.specs.Served.{IsOmissionText, IsProgramOf, IsThreadSetup, Prints}
+use Rattle.command_runs.specs.Served.{file_name}
 use Rattle.command_runs.specs.Texts.{Files}
 use Rattle.schedule_text.specs.Bytes.{IsLongText, IsNoText, IsText}
 use Rattle.schedule_text.specs.declared.source.TextFault.{TextFault}
@@ -25,8 +26,8 @@ use Rattle.command_words.specs.Given.{Explains, Means}
 use Rattle.command_words.specs.declared.values.Source.{Source}
 use Rattle.command_words.specs.declared.values.Source.TheVariants.{File, Library}
 use Rattle.command_words.specs.declared.words.Words.{Words}
-use Rattle.command_words.specs.declared.words.Words.TheVariants.{Check, Judge, Lockstep, Run}
-use Rattle.command_words.specs.declared.words.Words.TheVariants.{Threads}
+use Rattle.command_words.specs.declared.words.Words.TheVariants.{Check, Judge, Lockstep, Realise}
+use Rattle.command_words.specs.declared.words.Words.TheVariants.{Rounds, Run, Threads}
 use Rattle.node_threads.specs.Ends.{IsFitForThreads}
 use Rattle.command_words.specs.declared.words.WordsFault.{WordsFault}
 use Rattle.command_words.specs.declared.words.WordsFault.TheVariants as words
@@ -40,6 +41,9 @@ use Rattle.round_lang.specs.declared.fault.LangFault.{LangFault}
 use Rattle.round_lang.specs.declared.fault.LangFault.TheVariants as lang
 use Rattle.round_meaning.specs.Setups.{IsLawful}
 use Rattle.round_meaning.specs.declared.setup.Setup.{Setup}
+use Rattle.omission_texts.specs.Meaning.{IsFirstUnknown}
+use Rattle.omission_texts.specs.Readings.{IsReading as IsOmissionReading}
+use Rattle.omission_texts.specs.declared.line.OmissionLine.{OmissionLine}
 use Rattle.policies.specs.declared.bounded.Bounded.{Bounded}
 use Rattle.schedule_text.specs.Readings.{IsReadingOf}
 use Rattle.schedule_text.specs.Texts.{Tail, max_text as max_schedule}
@@ -123,18 +127,31 @@ IsOpened (File name) files =
     IfSome (files (file_name name.now)) (λ held. (p : ProgramTree) × IsCheckedSource held p)
 IsOpened (Library name values) files = ⊤
 
--- a text is too long to be one of this kind, or this is the first line at fault
-abbrev pub IsBadText : Kind → List ℕ → ScheduleFault → Type 0
-IsBadText kind held schedule.TooLong = IsLongText max_schedule held
-IsBadText kind held schedule.NoMemory = ⊥
-IsBadText kind held fault = IsText max_schedule held × IsReadingOf kind held (Err fault)
+-- which line of a text is the first at fault, and which fault it has
+abbrev pub Fault : Type 1
+Fault = List ℕ → ScheduleFault → Type 0
+
+-- a text is too long to be read, or this is the first line at fault
+abbrev pub IsBadText : Fault → List ℕ → ScheduleFault → Type 0
+IsBadText HasFault held schedule.TooLong = IsLongText max_schedule held
+IsBadText HasFault held schedule.NoMemory = ⊥
+IsBadText HasFault held fault = IsText max_schedule held × HasFault held fault
+
+-- why there is no text in a file that has no such fault
+abbrev pub HasNoText : Fault → Option (List ℕ) → Refusal → Type 0
+HasNoText HasFault file refusal.File = IfSome file (IsNoText max_schedule)
+HasNoText HasFault file (refusal.Schedule fault) =
+    IfSome file (λ held. IsBadText HasFault held fault)
+HasNoText HasFault file refusal.NoMemory = ⊤
+HasNoText HasFault file _ = ⊥
+
+-- the first line at fault of a text that is to be of this kind
+abbrev pub fault_in : Kind → Fault
+fault_in kind held fault = IsReadingOf kind held (Err fault)
 
 -- why there is no text of this kind in a file
 abbrev pub IsMissing : Kind → Option (List ℕ) → Refusal → Type 0
-IsMissing kind file refusal.File = IfSome file (IsNoText max_schedule)
-IsMissing kind file (refusal.Schedule fault) = IfSome file (λ held. IsBadText kind held fault)
-IsMissing kind file refusal.NoMemory = ⊤
-IsMissing kind file _ = ⊥
+IsMissing kind file r = HasNoText (fault_in kind) file r
 
 -- a program of the library that needs no more than values, or Algorithm 1
 abbrev pub IsPlain : List ℕ → Type 0
@@ -198,6 +215,15 @@ IsNotMade p s k list b (refusal.Run run.BadSetup) = ¬ (AreTerms p s list b × I
 IsNotMade p s k list b refusal.NoMemory = ⊤
 IsNotMade p s k list b _ = ⊥
 
+-- why nothing is made of omissions: a number is past its limits, or else this is the first line that
+-- names no message of the run
+abbrev pub IsNotRealised : ProgramTree → Setup → PlanKind → List OmissionLine → Refusal → Type 0
+IsNotRealised p s k ls (refusal.Run run.BadSetup) = ¬ (IsLawful p.values s × IsPlan k)
+IsNotRealised p s k ls (refusal.Run (run.UnknownMessage n)) =
+    IsLawful p.values s × IsPlan k × IsFirstUnknown s ls (Some n)
+IsNotRealised p s k ls refusal.NoMemory = ⊤
+IsNotRealised p s k ls _ = ⊥
+
 -- why a program isn't run under a text of a kind
 abbrev pub Later : Kind → Type 1
 Later kind = ProgramTree → Setup → PlanKind → Tail kind → Refusal → Type 0
@@ -241,6 +267,37 @@ abbrev pub IsUnthreaded : Source → Files → Option (List ℕ) → Refusal →
 IsUnthreaded source files file r =
     IsRefusedInTurn kinds.Threads (λ p s k t r. IsNotThreaded p s k t.1 r) source files file r
 
+-- the first line at fault of a text that is to say omissions
+abbrev pub omission_fault : Fault
+omission_fault held fault = IsOmissionReading held (Err fault)
+
+-- why a file says no omissions
+abbrev pub HasNoOmissions : Option (List ℕ) → Refusal → Type 0
+HasNoOmissions file r = HasNoText omission_fault file r
+
+-- there is a header
+abbrev pub HasHeader : Option (List ℕ) → Type 0
+HasHeader header =
+    (s : Setup) × (k : PlanKind) × IfSome header (λ held. IsHeader held s k)
+
+-- a header and omissions are there, and there is no program for them, or nothing is made of it
+abbrev pub IsRefusedOmitting : Source → Files → (header omissions : Option (List ℕ)) → Refusal
+    → Type 0
+IsRefusedOmitting source files header omissions r =
+    (s : Setup) × (k : PlanKind) × (ls : List OmissionLine)
+    × IfSome header (λ held. IsHeader held s k) × IfSome omissions (λ held. IsOmissionText held ls)
+    × (IsNotOffered source s.nodes s.faults r
+    ⊎ ((p : ProgramTree) × IsProgramOf source files s.nodes s.faults p × IsNotRealised p s k ls r))
+
+-- why nothing is made of a source, a header and omissions: first the source's file, then the
+-- header's text, then that of the omissions, then the library, then the run
+abbrev pub IsUnrealised : Source → Files → (header omissions : Option (List ℕ)) → Refusal → Type 0
+IsUnrealised source files header omissions r =
+    IsNotOpened source files r
+    ⊎ ((IsOpened source files × IsMissing kinds.Header header r)
+    ⊎ ((IsOpened source files × HasHeader header × HasNoOmissions omissions r)
+    ⊎ (IsOpened source files × IsRefusedOmitting source files header omissions r)))
+
 -- a source is run by threads under the setup in a file
 abbrev pub StartsThreads : Source → Files → Option (List ℕ) → Type 0
 StartsThreads source files file =
@@ -263,6 +320,10 @@ IsUnserved (Judge source schedule correct delta gst) files r =
 IsUnserved (Lockstep source header correct delta gst delays orders ticks) files r =
     IsUnmade source files (files header.now) correct.items
     (record { delta = delta; gst = gst; delays = delays.items; orders = orders.items }) r
+IsUnserved (Realise source header omissions) files r =
+    IsUnrealised source files (files header.now) (files omissions.now) r
+IsUnserved (Rounds source header omissions told) files r =
+    IsUnrealised source files (files header.now) (files omissions.now) r
 
 -- the words are `threads`, and their run is one
 abbrev pub IsThreaded : Words → Files → Type 0

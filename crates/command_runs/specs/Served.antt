@@ -4,6 +4,8 @@ use Rattle.std.specs.Prelude.{if◌then◌else◌}
 use Rattle.std.specs.Fmt.{decimal}
 use Rattle.std.specs.Io.KnownBytes.{Appends}
 use Rattle.std.specs.Str.{bytes_eq}
+use Rattle.omission_texts.specs.Texts.{Says as SaysOmissions}
+use Rattle.omission_texts.specs.declared.line.OmissionLine.{OmissionLine}
 use Rattle.policies.specs.declared.bounded.Bounded.{Bounded}
 use Rattle.schedule_text.specs.Texts.{SaysOf, Tail, max_text as max_schedule}
 use Rattle.schedule_text.specs.declared.kind.Kind.{Kind}
@@ -19,6 +21,7 @@ use Rattle.command_runs.specs.declared.sources.Opened.TheVariants as opened
 use Rattle.command_runs.specs.ByThreads.{IsThreadRun}
 use Rattle.command_runs.specs.Explained.{IsReportOf, IsVerdictOf}
 use Rattle.command_runs.specs.InLockstep.{IsLockstepText, IsWritten}
+use Rattle.command_runs.specs.InOmissions.{ShowsOmitting, realised_by}
 use Rattle.command_runs.specs.Library.{Offers}
 use Rattle.command_runs.specs.Texts.{Files}
 use Rattle.schedule_text.specs.Bytes.{IsText}
@@ -29,8 +32,8 @@ use Rattle.command_words.specs.Given.{Means}
 use Rattle.command_words.specs.declared.values.Source.{Source}
 use Rattle.command_words.specs.declared.values.Source.TheVariants.{File, Library}
 use Rattle.command_words.specs.declared.words.Words.{Words}
-use Rattle.command_words.specs.declared.words.Words.TheVariants.{Check, Judge, Lockstep, Run}
-use Rattle.command_words.specs.declared.words.Words.TheVariants.{Threads}
+use Rattle.command_words.specs.declared.words.Words.TheVariants.{Check, Judge, Lockstep, Realise}
+use Rattle.command_words.specs.declared.words.Words.TheVariants.{Rounds, Run, Threads}
 use Rattle.omission_explainer.specs.Decided.{decided_line, summary_of}
 use Rattle.omission_explainer.specs.Report.{report_text}
 use Rattle.omission_explainer.specs.Verdict.{verdict_text}
@@ -103,6 +106,11 @@ IsHeader text s k = IsOfKind kinds.Header text s k tt
 abbrev pub IsThreadSetup : List ℕ → Setup → PlanKind → Pace → List Stop → Type 0
 IsThreadSetup text s k pace stops = IsOfKind kinds.Threads text s k (pace, stops)
 
+-- the text says of which messages a run is without
+pub record IsOmissionText (text : List ℕ) (ls : List OmissionLine) : Type 0 where
+  pub fits : IsText max_schedule text
+  pub says : SaysOmissions text ls
+
 -- `ok values K period P variables M`
 abbrev pub summary_text : ProgramTree → List ℕ
 summary_text p =
@@ -130,6 +138,28 @@ MakesLockstep source files file list b asked made =
     IfSome file (λ text. (s : Setup) × (k : PlanKind) × (p : ProgramTree) × IsHeader text s k
     × IsProgramOf source files s.nodes s.faults p
     × IsLockstepText (start_of k s.nodes) p s k list b asked made)
+
+-- the source's program, the header in one file, and the omissions in another
+pub record IsAsked (source : Source) (files : Files) (header_file omission_file : Option (List ℕ))
+    (p : ProgramTree) (s : Setup) (k : PlanKind) (ls : List OmissionLine) : Type 0 where
+  pub header : IfSome header_file (λ text. IsHeader text s k)
+  pub omissions : IfSome omission_file (λ text. IsOmissionText text ls)
+  pub program : IsProgramOf source files s.nodes s.faults p
+
+-- the text is the schedule that omits what the lines of a file say, under the header in another
+abbrev pub RealisesOmissions : Source → Files → (header omissions : Option (List ℕ)) → List ℕ → Type 0
+RealisesOmissions source files header omissions made =
+    (s : Setup) × (k : PlanKind) × (ls : List OmissionLine) × (p : ProgramTree)
+    × IsAsked source files header omissions p s k ls
+    × IsWritten s k (realised_by (receives_of k) (start_of k s.nodes) s ls) made
+
+-- the report of the run in rounds that omits what the lines of a file say, under the header in
+-- another
+abbrev pub ReportsRounds : Source → Files → (header omissions : Option (List ℕ)) → Report → Type 0
+ReportsRounds source files header omissions report =
+    (s : Setup) × (k : PlanKind) × (ls : List OmissionLine) × (p : ProgramTree)
+    × IsAsked source files header omissions p s k ls
+    × ShowsOmitting (start_of k s.nodes) p s ls report
 
 -- the report of the source's run by threads under the setup in a file, and the other file is the
 -- trace of that run as a schedule
@@ -185,6 +215,12 @@ Prints (Judge source schedule correct delta gst) files after text =
 Prints (Lockstep source header correct delta gst delays orders ticks) files after text =
     MakesLockstep source files (files header.now) correct.items
     (record { delta = delta; gst = gst; delays = delays.items; orders = orders.items }) ticks text
+Prints (Realise source header omissions) files after text =
+    RealisesOmissions source files (files header.now) (files omissions.now) text
+Prints (Rounds source header omissions told) files after text =
+    (report : Report)
+    × ReportsRounds source files (files header.now) (files omissions.now) report
+    × (text ≡ told_text report told)
 
 -- `out` gained what the command prints
 abbrev pub Serves : Words → (files after : Files) → (old new : Option (List ℕ)) → Type 0

@@ -7,8 +7,9 @@ use Rattle.adversary.specs.Driving.{IsUnknownAt}
 use Rattle.adversary.specs.Reading.{IsReadAs}
 use Rattle.adversary.specs.declared.fault.RunFault.TheVariants as run
 use Rattle.command_runs.specs.InLockstep.{AreTerms}
-use Rattle.command_runs.specs.Refused.{IsNoOffer, IsUnanswered, IsUnmade, IsUnthreaded}
-use Rattle.command_runs.specs.Refused.{StartsThreads, of_text}
+use Rattle.command_runs.specs.InOmissions.{OmissionCause}
+use Rattle.command_runs.specs.Refused.{Fault, IsNoOffer, IsUnanswered, IsUnmade, IsUnthreaded}
+use Rattle.command_runs.specs.Refused.{StartsThreads, fault_in, of_text, omission_fault}
 use Rattle.command_runs.specs.Served.{Answered, AnswersRun, MakesLockstep, ReportsThreads}
 use Rattle.command_runs.specs.Served.{answer_text, told_text}
 use Rattle.command_runs.specs.Texts.{Files}
@@ -24,6 +25,8 @@ use Rattle.command_runs.specs.declared.texts.Text.{Text}
 use Rattle.command_runs.specs.declared.texts.Text.TheVariants as text
 use Rattle.command_words.specs.declared.values.Source.{Source}
 use Rattle.node_threads.specs.Ends.{IsFitForThreads}
+use Rattle.omission_texts.specs.Texts.{Says as SaysOmissions}
+use Rattle.omission_texts.specs.declared.line.OmissionLine.{OmissionLine}
 use Rattle.policies.specs.declared.bounded.Bounded.{Bounded}
 use Rattle.omission_explainer.specs.declared.report.Report.{Report}
 use Rattle.round_check.specs.Causes.{fault_of, is_typed}
@@ -68,25 +71,41 @@ IsNoProgramIn (text.Longer bytes) refusal.File = ¬ (BeginsUtf8 bytes.items)
 IsNoProgramIn (text.Longer bytes) (refusal.Source lang.TooLong) = BeginsUtf8 bytes.items
 IsNoProgramIn (text.Longer bytes) _ = ⊥
 
+-- why a text in UTF-8 isn't read, whose first line at fault is told so
+abbrev pub IsUnread : Fault → List ℕ → Refusal → Type 0
+IsUnread HasFault held (refusal.Schedule schedule.TooLong) = max_schedule < length held
+IsUnread HasFault held (refusal.Schedule schedule.NoMemory) = ⊥
+IsUnread HasFault held (refusal.Schedule fault) = HasFault held fault
+IsUnread HasFault held refusal.NoMemory = ⊤
+IsUnread HasFault held _ = ⊥
+
 -- why a text in UTF-8 is none of this kind
 abbrev pub IsNoReadOf : Kind → List ℕ → Refusal → Type 0
-IsNoReadOf kind held (refusal.Schedule schedule.TooLong) = max_schedule < length held
-IsNoReadOf kind held (refusal.Schedule schedule.NoMemory) = ⊥
-IsNoReadOf kind held (refusal.Schedule fault) = IsReadingOf kind held (Err fault)
-IsNoReadOf kind held refusal.NoMemory = ⊤
-IsNoReadOf kind held _ = ⊥
+IsNoReadOf kind held r = IsUnread (fault_in kind) held r
 
 -- what was read says this as a text of this kind, and why it says nothing
 abbrev pub IsReadIn : (kind : Kind) → Text → Setup → PlanKind → Tail kind → Type 0
 IsReadIn kind (text.Whole bytes) s k t = IsUtf8 bytes.items × SaysOf kind bytes.items s k t
 IsReadIn kind (text.Longer bytes) s k t = ⊥
 
+abbrev pub IsUnreadIn : Fault → Text → Refusal → Type 0
+IsUnreadIn HasFault (text.Whole bytes) refusal.File = ¬ (IsUtf8 bytes.items)
+IsUnreadIn HasFault (text.Whole bytes) r = IsUtf8 bytes.items × IsUnread HasFault bytes.items r
+IsUnreadIn HasFault (text.Longer bytes) refusal.File = ¬ (BeginsUtf8 bytes.items)
+IsUnreadIn HasFault (text.Longer bytes) (refusal.Schedule schedule.TooLong) =
+    BeginsUtf8 bytes.items
+IsUnreadIn HasFault (text.Longer bytes) _ = ⊥
+
 abbrev pub IsNoReadIn : Kind → Text → Refusal → Type 0
-IsNoReadIn kind (text.Whole bytes) refusal.File = ¬ (IsUtf8 bytes.items)
-IsNoReadIn kind (text.Whole bytes) r = IsUtf8 bytes.items × IsNoReadOf kind bytes.items r
-IsNoReadIn kind (text.Longer bytes) refusal.File = ¬ (BeginsUtf8 bytes.items)
-IsNoReadIn kind (text.Longer bytes) (refusal.Schedule schedule.TooLong) = BeginsUtf8 bytes.items
-IsNoReadIn kind (text.Longer bytes) _ = ⊥
+IsNoReadIn kind t r = IsUnreadIn (fault_in kind) t r
+
+-- the omissions of what was read, and why there are none
+abbrev pub AreOmissionsIn : Text → List OmissionLine → Type 0
+AreOmissionsIn (text.Whole bytes) ls = IsUtf8 bytes.items × SaysOmissions bytes.items ls
+AreOmissionsIn (text.Longer bytes) ls = ⊥
+
+abbrev pub HasNoOmissionsIn : Text → Refusal → Type 0
+HasNoOmissionsIn t r = IsUnreadIn omission_fault t r
 
 -- the header and the thread setup of what was read
 abbrev pub IsHeaderIn : Text → Setup × PlanKind → Type 0
@@ -163,6 +182,13 @@ abbrev pub IsNotMadeAs : ProgramTree → Setup → List ℕ → Bounded → Refu
 IsNotMadeAs p s list b (refusal.Run run.BadSetup) = ¬ (AreTerms p s list b)
 IsNotMadeAs p s list b refusal.NoMemory = ⊤
 IsNotMadeAs p s list b _ = ⊥
+
+-- why nothing is made of omissions under a plan
+abbrev pub IsNotRealisedAs : ProgramTree → Setup → List OmissionLine → Refusal → Type 0
+IsNotRealisedAs p s ls (refusal.Run run.NoMemory) = ⊥
+IsNotRealisedAs p s ls (refusal.Run fault) = OmissionCause p s ls fault
+IsNotRealisedAs p s ls refusal.NoMemory = ⊤
+IsNotRealisedAs p s ls _ = ⊥
 
 -- why an answer isn't told
 abbrev pub IsRefusedAnswer : Source → Files → Option (List ℕ) → Question → Refusal → Type 0

@@ -1,6 +1,7 @@
 //! What holds of reports.
 ghost use Rattle.std.specs.Prelude.{◌≡◌, ℕ, List};
 ghost use Rattle.command_runs.specs.Explained.{IsReportOf};
+ghost use Rattle.command_runs.specs.InOmissions.{RunsReportRounds};
 ghost use Rattle.omission_explainer.specs.declared.report.Report.{Report as Reported};
 ghost use Rattle.round_lang.specs.Syntax.{ProgramTree};
 ghost use Rattle.round_meaning.specs.declared.setup.Setup.{Setup as SetupView};
@@ -12,4 +13,10 @@ pub fn one_report()
     ensures { (start : ℕ → ℕ) (p : ProgramTree) (s : SetupView) (events : List EventView)
         (report again : Reported) → IsReportOf start p s events report
         → IsReportOf start p s events again → again ≡ report }
+{}
+
+/// Nothing at run time: what `rounds` prints is what `run` prints of the schedule that `realise`
+/// writes for the same program, header and omissions.
+pub fn runs_report_rounds()
+    ensures { RunsReportRounds }
 {}

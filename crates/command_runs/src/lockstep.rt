@@ -1,5 +1,6 @@
 //! The schedule of a run in lockstep.
-ghost use Rattle.std.specs.Prelude.{◌≡◌, ◌≤◌, ◌⊎◌, ◌↔◌, Err, IfErr, IfOk, IfSome, string_bytes};
+ghost use Rattle.std.specs.Prelude.{◌≡◌, ◌≤◌, ◌⊎◌, ◌↔◌, ℕ, Err, IfErr, IfOk, IfSome, List};
+ghost use Rattle.std.specs.Prelude.{string_bytes};
 ghost use Rattle.command_runs.specs.InLockstep.{AreTerms, IsLockstepText, ticks_of};
 ghost use Rattle.command_runs.specs.Refused.{IsMissing, IsNotMade, IsUnmade};
 ghost use Rattle.command_runs.specs.Served.{IsHeader, MakesLockstep, start_of};
@@ -63,10 +64,15 @@ impl<'a> Paced<'a> {
 }
 
 /// The header in a file.
-fn header_in<D: Desk>(alloc: Global, name: &str, desk: &mut D) -> Result<(Setup, PlanKind), Refusal>
+pub(crate) fn header_in<D: Desk>(
+    alloc: Global,
+    name: &str,
+    desk: &mut D,
+) -> Result<(Setup, PlanKind), Refusal>
     ensures header { IfOk result (λ h. IfSome (D.files desk.old name.now)
         (λ text. IsHeader text h.0 h.1)) }
     ensures refused { IfErr result (IsMissing kinds.Header (D.files desk.old name.now)) }
+    ensures files { (other : List ℕ) → D.files desk.new other ≡ D.files desk.old other }
     ensures written { D.written desk.new ≡ D.written desk.old }
 {
     let text = Text::read(alloc, name, MAX_TEXT, desk)?;

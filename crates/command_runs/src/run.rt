@@ -13,6 +13,7 @@ use crate::asking::{Answer, Question, Run};
 use crate::desk::{Desk, DeskFault};
 use crate::explained::Terms;
 use crate::lockstep::{Paced, Pacing};
+use crate::omitting::Omitting;
 use crate::refusal::Refusal;
 use crate::sources::Opened;
 use crate::threads::{ThreadRun, Threaded};
@@ -177,6 +178,31 @@ fn carry_out<'a, R: Threads + Wait + Sync, D: Desk, O: Write>(
             };
             pace(alloc, Paced { source, header }, pacing, desk, out)
         }
+        Words::Realise {
+            source,
+            header,
+            omissions,
+        } => {
+            let omitting = Omitting {
+                source,
+                header,
+                omissions,
+            };
+            realise(alloc, omitting, desk, out)
+        }
+        Words::Rounds {
+            source,
+            header,
+            omissions,
+            decided,
+        } => {
+            let omitting = Omitting {
+                source,
+                header,
+                omissions,
+            };
+            run_rounds(alloc, omitting, decided, desk, out)
+        }
     }
 }
 
@@ -291,6 +317,50 @@ fn pace<'a, D: Desk, O: Write>(
 {
     let text = paced.schedule(alloc, pacing, desk)?;
     written(out.write_all(text.as_bytes()), out)
+}
+
+/// Writes the schedule that omits what a file says.
+#[tactic(auto, using(crate::proofs::Telling::silent_same))]
+fn realise<'a, D: Desk, O: Write>(
+    alloc: Global,
+    omitting: Omitting<'a>,
+    desk: &mut D,
+    out: &mut O,
+) -> Result<(), Refusal>
+    ensures served { OnOk result (Serves
+        (Words.Realise omitting.entry.source omitting.entry.header omitting.entry.omissions)
+        (D.files desk.old) (D.files desk.new) (O.contents out.old) (O.contents out.new)) }
+    ensures refused { IfErr result (IsRefusedCommand
+        (Words.Realise omitting.entry.source omitting.entry.header omitting.entry.omissions)
+        (D.files desk.old)) }
+    ensures silent { IfErr result (IsSilent (O.contents out.old) (O.contents out.new)) }
+    ensures written { D.written desk.new ≡ D.written desk.old }
+{
+    let text = omitting.schedule(alloc, desk)?;
+    written(out.write_all(text.as_bytes()), out)
+}
+
+/// Writes the report of a run in rounds.
+#[tactic(auto, using(crate::proofs::Telling::silent_same))]
+fn run_rounds<'a, D: Desk, O: Write>(
+    alloc: Global,
+    omitting: Omitting<'a>,
+    decided: bool,
+    desk: &mut D,
+    out: &mut O,
+) -> Result<(), Refusal>
+    ensures served { OnOk result (Serves
+        (Words.Rounds omitting.entry.source omitting.entry.header omitting.entry.omissions decided)
+        (D.files desk.old) (D.files desk.new) (O.contents out.old) (O.contents out.new)) }
+    ensures refused { IfErr result (IsRefusedCommand
+        (Words.Rounds omitting.entry.source omitting.entry.header omitting.entry.omissions decided)
+        (D.files desk.old)) }
+    ensures silent { IfErr result (IsSilent (O.contents out.old) (O.contents out.new)) }
+    ensures written { D.written desk.new ≡ D.written desk.old }
+{
+    let report = omitting.report(alloc, desk)?;
+    let told = Answer::Report { report, decided };
+    written(write_answer(&told, out), out)
 }
 
 /// What a program declares: the number of its values, its period and the number of its variables.

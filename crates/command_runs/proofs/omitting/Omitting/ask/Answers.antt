@@ -1,0 +1,22 @@
+use Rattle.std.proofs.Common.{◌≡◌, ◌∙◌, inl, inr, subst, sym}
+use Rattle.std.specs.Prelude.{IfSome}
+use Rattle.command_runs.specs.Refused.{IsUnrealised}
+use Rattle.command_runs.specs.Served.{IsHeader, IsOmissionText}
+use Rattle.command_runs.proofs.Refusing.{err_then}
+use Rattle.command_runs.proofs.Serving.{program_of}
+use Rattle.command_runs.proofs.Telling.{held_back, opened_is}
+use Rattle.command_runs.proofs.omitting.Omitting.ask.Goals as goal
+
+pub returns-clause-asked : goal.returns-clause-asked
+returns-clause-asked g c =
+    let asking = c.args.self.now in
+    let files = g.D.Desk.files c.args.desk.now in
+    let s = c.in_ok-setup.setup in
+    let k = c.in_ok-setup.plan in
+    let ls = c.in_ok-omissions.omissions in
+    let p = c.in_ok-program.program in
+    record {
+      header = subst (λ file. IfSome file (λ text. IsHeader text s k)) (c.open.ensures.files asking.header.now) c.in_ok-setup.ensures.header;
+      omissions = subst (λ file. IfSome file (λ text. IsOmissionText text ls)) (c.header_in.ensures.files asking.omissions.now ∙ c.open.ensures.files asking.omissions.now) c.in_ok-omissions.ensures.said;
+      program = program_of asking.source files c.in_ok-opened.opened s.nodes s.faults p c.in_ok-opened.ensures.opened c.in_ok-program.ensures.program;
+    }
