@@ -1,7 +1,8 @@
 -- The least round in which lines have a node crash.
 use Rattle.std.proofs.Common.{◌≡◌, ℕ, ◌+◌, ◌<◌, ◌≤◌, Bool, true, false, cond, eqb, List, [], ◌∷◌}
-use Rattle.std.proofs.Common.{◌++◌, length, take, get_or, min, Some, None, sym, ap, ◌∙◌, arith}
-use Rattle.std.specs.List.{cons_option, filter_map, fold}
+use Rattle.std.proofs.Common.{◌++◌, length, take, get_or, map, min, Some, None, sym, ap, ◌∙◌, arith}
+use Rattle.std.specs.List.{cons_option, filter_map, fold, range_with_len}
+use Rattle.std.proofs.lemmas.List.FromFn.{map-range_with_len_more}
 use Rattle.std.proofs.lemmas.List.{take_more}
 use Rattle.std.proofs.lemmas.List.Elements.{filter_map-append}
 use Rattle.std.proofs.lemmas.List.Sums.{fold-append}
@@ -52,3 +53,14 @@ module _ (s : Setup) (ls : List OmissionLine) (node k first : ℕ) (l : Omission
     least = x.least ∙ sym (one_more [] (ap (λ o. cons_option o []) (sym e)));
     some = x.some;
   }
+
+-- the numbers of steps of one node more
+pub one_stop_more : (f : ℕ → ℕ) (n x : ℕ) (old new : List ℕ) → old ≡ map f (range_with_len 0 n)
+    → x ≡ f n → new ≡ old ++ x ∷ [] → new ≡ map f (range_with_len 0 (n + 1))
+one_stop_more f n x old new e d a =
+    a ∙ ap (λ xs. xs ++ x ∷ []) e ∙ ap (λ y. map f (range_with_len 0 n) ++ y ∷ []) d
+    ∙ sym (map-range_with_len_more f 0 n n (omega arith))
+
+pub all_stops : (f : ℕ → ℕ) (n m : ℕ) (stops : List ℕ) → n ≡ m
+    → stops ≡ map f (range_with_len 0 n) → stops ≡ map f (range_with_len 0 m)
+all_stops f n m stops e d = d ∙ ap (λ k. map f (range_with_len 0 k)) e
