@@ -6,7 +6,8 @@ use crate::showing::{show_number, show_value, show_vars};
 use round_check::Checked;
 use round_lang::{Message, Shape, Value, Vars};
 use round_meaning::{
-    Env, Heard, Received, Scope, Setup, decision_of, end_of, eval, initial_of, is_inbox, send_of,
+    Env, Heard, Received, Scope, Setup, decision_of, end_of, eval, finish_of, initial_of, is_inbox,
+    send_of, take_of,
 };
 use std::alloc::Global;
 
@@ -87,6 +88,26 @@ impl<'a> Node<'a> {
         Ok(())
     }
 
+    /// The end of a round, message by message.
+    fn end_in_steps(&mut self, alloc: Global, round: u32) -> Result<(), Fault> {
+        let mut state = self.state.copy(alloc)?;
+        for received in &self.inbox {
+            let heard = Heard::new(received.from, &received.message);
+            state = take_of(
+                alloc,
+                self.program,
+                self.setup,
+                round,
+                self.me,
+                &heard,
+                &state,
+            )?;
+        }
+        self.state = finish_of(alloc, self.program, self.setup, round, self.me, &state)?;
+        self.inbox = Vec::new(alloc);
+        Ok(())
+    }
+
     /// What is sent in a round, as `2 0` to node 0 in round 2.
     fn show_sent(&self, alloc: Global, text: &str, out: &mut String) -> Result<(), Fault> {
         let (round, dest) = cut(text);
@@ -144,6 +165,7 @@ impl<'a> Answers for Node<'a> {
             "be" => self.state = vars(alloc, rest, &Shape::empty())?,
             "hear" => self.hear(alloc, rest)?,
             "end" => self.end(alloc, number(rest)?)?,
+            "steps" => self.end_in_steps(alloc, number(rest)?)?,
             _ => return Err(Fault::Unreadable),
         }
         show_vars(out, &self.state)

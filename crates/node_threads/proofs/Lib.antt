@@ -4,3 +4,4 @@ pub mod Dropped
 pub mod Ending
 pub mod Crossing
 pub mod Chosen
+mod Copies

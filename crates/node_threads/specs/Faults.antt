@@ -1,5 +1,5 @@
 -- Why a run by threads has no journal.
-use Rattle.std.specs.Prelude.{◌≡◌, ◌⊎◌}
+use Rattle.std.specs.Prelude.{◌≡◌, ◌⊎◌, Option, None, Some}
 use Rattle.adversary.specs.declared.fault.RunFault.{RunFault}
 use Rattle.adversary.specs.declared.fault.RunFault.TheVariants as run
 use Rattle.node_threads.specs.declared.body.Halt.{Halt}
@@ -13,6 +13,11 @@ least_of NoMemory g = NoMemory
 least_of NoThread NoMemory = NoMemory
 least_of NoThread _ = NoThread
 least_of Unmatched g = g
+
+-- what is told once another fault comes up
+abbrev pub with_least : Option ThreadFault → ThreadFault → Option ThreadFault
+with_least None g = Some g
+with_least (Some f) g = Some (least_of f g)
 
 -- the fault of a run in which a thread halted
 abbrev pub thread_fault : Halt → ThreadFault

@@ -3,3 +3,4 @@ pub mod Bodies
 pub mod Choices
 pub mod Ends
 pub mod Faults
+pub mod Flights

@@ -70,6 +70,12 @@ pub trait Beat {
     /// Waits for the next step, after so many.
     fn next(&self, steps: u64);
 
+    /// All messages of the round are sent.
+    fn sent(&self, round: u32);
+
+    /// Waits for the round's last receive.
+    fn gather(&self, round: u32);
+
     /// There is no step more.
     fn leave(&self);
 }
@@ -138,10 +144,23 @@ fn close_round<P: Plan, M: Mail<P>, G: Gate>(
     Ok(())
 }
 
+/// Tells of a receive that comes next: of the round's first and of its last one.
+fn tell_of_receive<P: Plan, B: Beat>(beat: &B, plan: P, round: u32, steps: u64, offset: u64)
+    requires { round ≤ max_rounds }
+{
+    if offset == u64::from(plan.nodes()) {
+        beat.sent(round);
+    }
+    if steps.saturating_add(1) == u64::from(plan.start(round + 1)) {
+        beat.gather(round);
+    }
+}
+
 /// The next step of the round: to another node, or a receive.
-fn next_step<P: Plan, M: Mail<P>, G: Gate>(
+fn next_step<P: Plan, M: Mail<P>, G: Gate, B: Beat>(
     mail: &M,
     gate: &G,
+    beat: &B,
     plan: P,
     seat: &mut Seat,
     node: &mut Node,
@@ -159,14 +178,16 @@ fn next_step<P: Plan, M: Mail<P>, G: Gate>(
     if offset < u64::from(plan.nodes()) {
         send_step(mail, gate, seat, node, offset as u32)
     } else {
+        tell_of_receive(beat, plan, node.round(), seat.steps(), offset);
         receive_step(mail, seat, node)
     }
 }
 
 /// One step, and the end of the round where it makes that due.
-fn step<P: Plan, M: Mail<P>, G: Gate>(
+fn step<P: Plan, M: Mail<P>, G: Gate, B: Beat>(
     mail: &M,
     gate: &G,
+    beat: &B,
     plan: P,
     seat: &mut Seat,
     node: &mut Node,
@@ -180,7 +201,7 @@ fn step<P: Plan, M: Mail<P>, G: Gate>(
     ensures steps { OnOk result (seat.new.steps ≡ seat.old.steps + 1) }
 {
     let round = node.round();
-    next_step(mail, gate, plan, seat, node)?;
+    next_step(mail, gate, beat, plan, seat, node)?;
     if seat.steps() == u64::from(plan.start(round + 1)) {
         close_round(mail, gate, seat, node)?;
     }
@@ -209,7 +230,7 @@ pub fn run_steps<P: Plan, M: Mail<P>, G: Gate, B: Beat>(
             return (seat, Some(Ended::Stopped));
         }
         beat.next(seat.steps());
-        match step(mail, gate, plan, &mut seat, &mut node) {
+        match step(mail, gate, beat, plan, &mut seat, &mut node) {
             Ok(()) => {}
             Err(Halt::NoMemory) => return (seat, Some(Ended::NoMemory)),
             Err(Halt::Refused) => return (seat, None),

@@ -1,6 +1,9 @@
 //! What the threads of a run wait by.
 use crate::body::Beat;
+use crate::progress::Progress;
+use round_lang::NoMemory;
 use schedule_text::Pace;
+use std::alloc::Global;
 use std::sync::atomic::{AtomicBool, Ordering};
 use std::sync::{Condvar, Mutex, Wait};
 
@@ -45,12 +48,14 @@ pub(crate) struct Clock {
     begun: Condvar,
     /// A node took a step or ended.
     moved: Condvar,
+    progress: Progress,
 }
 
 impl Clock {
     /// A clock for so many nodes, before their first step.
-    pub(crate) fn new(pace: Pace, nodes: u32) -> Clock {
-        Clock {
+    pub(crate) fn new(alloc: Global, pace: Pace, nodes: u32) -> Result<Clock, NoMemory> {
+        let progress = Progress::new(alloc, nodes)?;
+        Ok(Clock {
             pace,
             count: Mutex::new(Count {
                 running: nodes,
@@ -61,7 +66,8 @@ impl Clock {
             is_new: AtomicBool::new(true),
             begun: Condvar::new(),
             moved: Condvar::new(),
-        }
+            progress,
+        })
     }
 
     /// A node that took so many steps waits for its next; under the free pace it goes on at once.
@@ -97,8 +103,26 @@ impl Clock {
             .wait_while(rt, count, |it| it.ticks <= steps && !it.is_over);
     }
 
+    /// A node has sent all its messages of a round.
+    fn note_sent(&self, node: u32, round: u32) {
+        self.progress.note_sent(node, round);
+    }
+
+    /// Before a node ends its round. Under the free pace it gives way until the messages of the
+    /// round are sent and the network has had a turn since.
+    fn gather<R: Wait>(&self, rt: &R, round: u32) {
+        if self.pace == Pace::Ticks {
+            return;
+        }
+        self.progress.await_sends(rt, round);
+        let turn = self.progress.turn();
+        self.tell(rt, 1);
+        self.progress.await_turn(rt, turn);
+    }
+
     /// A node ended.
-    pub(crate) fn leave<R: Wait>(&self, rt: &R) {
+    pub(crate) fn leave<R: Wait>(&self, rt: &R, node: u32) {
+        self.progress.note_end(node);
         let mut count = self.count.lock(rt);
         count.note_end();
         self.is_new.store(true, Ordering::SeqCst);
@@ -107,6 +131,7 @@ impl Clock {
 
     /// The network ended: no node waits for it any more.
     pub(crate) fn close<R: Wait>(&self, rt: &R) {
+        self.progress.note_over();
         let mut count = self.count.lock(rt);
         count.is_over = true;
         self.begun.notify_all();
@@ -123,6 +148,7 @@ impl Clock {
             !self.is_new.load(Ordering::SeqCst) && it.running > 0
         });
         self.is_new.store(false, Ordering::SeqCst);
+        self.progress.begin_turn();
         count.running > 0
     }
 
@@ -130,6 +156,7 @@ impl Clock {
     /// each has taken one or has ended.
     pub(crate) fn end_turn<R: Wait>(&self, rt: &R) {
         if self.pace == Pace::Free {
+            self.progress.end_turn();
             return;
         }
         let mut count = self.count.lock(rt);
@@ -145,11 +172,12 @@ impl Clock {
     }
 }
 
-/// A clock, with what its calls wait by.
+/// A clock, with the node whose thread waits by it.
 #[derive(Clone, Copy)]
 pub(crate) struct ClockBeat<'a, R: Wait> {
     pub(crate) rt: &'a R,
     pub(crate) clock: &'a Clock,
+    pub(crate) node: u32,
 }
 
 impl<'a, R: Wait> Beat for ClockBeat<'a, R> {
@@ -157,7 +185,15 @@ impl<'a, R: Wait> Beat for ClockBeat<'a, R> {
         self.clock.next(self.rt, steps)
     }
 
+    fn sent(&self, round: u32) {
+        self.clock.note_sent(self.node, round)
+    }
+
+    fn gather(&self, round: u32) {
+        self.clock.gather(self.rt, round)
+    }
+
     fn leave(&self) {
-        self.clock.leave(self.rt)
+        self.clock.leave(self.rt, self.node)
     }
 }

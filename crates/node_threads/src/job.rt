@@ -7,6 +7,7 @@ ghost use Rattle.round_meaning.specs.Setups.{IsLawful};
 ghost use Rattle.node_threads.specs.Bodies.{IsEnded, IsInPlace, IsPlanned, IsTogether};
 
 use crate::body::{Beat, Halt, run_steps};
+use crate::clock::{Clock, ClockBeat};
 use crate::ended::Ended;
 use locked_buffers::{Gate, Post, PostMail, Seat};
 use round_check::Checked;
@@ -75,8 +76,13 @@ impl<'a, P: Plan> Job<'a, P> {
         })
     }
 
+    /// The number of the node.
+    pub(crate) fn node(&self) -> u32 {
+        self.seat.node()
+    }
+
     /// The node's thread.
-    pub(crate) fn run<R: Wait, G: Gate, B: Beat>(self, rt: &R, gate: &G, beat: &B) -> ThreadEnd<P> {
+    pub(crate) fn run<R: Wait, G: Gate>(self, rt: &R, gate: &G, clock: &Clock) -> ThreadEnd<P> {
         let Job {
             post,
             plan,
@@ -86,7 +92,12 @@ impl<'a, P: Plan> Job<'a, P> {
             node,
         } = self;
         let mail = PostMail { rt, post, gate };
-        let (seat, ended) = run_steps(&mail, gate, beat, plan, rounds, stop, seat, node);
+        let beat = ClockBeat {
+            rt,
+            clock,
+            node: seat.node(),
+        };
+        let (seat, ended) = run_steps(&mail, gate, &beat, plan, rounds, stop, seat, node);
         beat.leave();
         ThreadEnd {
             plan,

@@ -9,6 +9,7 @@ mod flight;
 mod job;
 mod laws;
 mod network;
+mod progress;
 mod run;
 mod stops;
 

@@ -1,8 +1,10 @@
 //! The network's thread.
-ghost use Rattle.std.specs.Prelude.{◌≡◌, ◌+◌, ◌<◌, ◌≤◌, IfOk, OnErr, Option, length};
+ghost use Rattle.std.specs.Prelude.{◌≡◌, ◌+◌, ◌-◌, ◌^◌, ◌<◌, ◌≤◌, ◌++◌, ◌∷◌, [], IfOk, IfSome};
+ghost use Rattle.std.specs.Prelude.{OnErr, OnOk, Option, length, min, slice_get};
 ghost use Rattle.locked_buffers.specs.Commits.{told_with};
 ghost use Rattle.round_meaning.specs.Setups.{max_rounds};
 ghost use Rattle.node_threads.specs.Choices.{ComesToInOne, IsCopyInOne, halt_of};
+ghost use Rattle.node_threads.specs.Flights.{AreCopies, IsNoted, sent_as};
 
 use crate::body::Halt;
 use crate::clock::Clock;
@@ -45,18 +47,19 @@ impl From<RelayFault> for Halt {
     }
 }
 
-/// How many entries from a place on are copies of one message.
-fn copies_from(messages: &[InFlight], place: usize) -> usize
+/// The end of the entries from a place on that are copies of one message.
+fn end_of_copies(messages: &[InFlight], place: usize) -> usize
     requires { place < length messages.now }
-    ensures low { 0 < result }
-    ensures high { place + result ≤ length messages.now }
+    ensures copies { IfSome (slice_get messages.now place)
+        (λ message. AreCopies messages.now message.serial place result) }
+    ensures high { result ≤ length messages.now }
 {
     let serial = messages[place].serial;
     let mut end = place + 1;
     while end < messages.len() && messages[end].serial == serial {
         end += 1;
     }
-    end - place
+    end
 }
 
 impl<'a, P: Plan> Network<'a, P> {
@@ -96,6 +99,10 @@ impl<'a, P: Plan> Network<'a, P> {
 
     /// Adds a message that was sent.
     fn add(&mut self, name: Name) -> Result<(), Halt>
+        ensures flight { OnOk result (self.new.flight
+            ≡ self.old.flight ++ sent_as (P.start self.old.plan) self.old.known name ∷ []) }
+        ensures known { OnOk result (self.new.known ≡ min (self.old.known + 1) (2 ^ 64 - 1)) }
+        ensures plan { self.new.plan ≡ self.old.plan }
         ensures relay { self.new.relay ≡ self.old.relay }
         ensures sent { self.new.sent.items ≡ self.old.sent.items }
     {
@@ -168,7 +175,8 @@ impl<'a, P: Plan> Network<'a, P> {
 
     /// Notes what is in flight after an event that came of a choice.
     fn note(&mut self, choice: Choice, event: Event) -> Result<(), Halt>
-        ensures { self.new.relay ≡ self.old.relay }
+        ensures noted { OnOk result (IsNoted choice event self.old.flight self.new.flight) }
+        ensures relay { self.new.relay ≡ self.old.relay }
     {
         match (choice, event) {
             (Choice::Copy(place), Event::Copy(name)) if place < self.flight.messages().len() => {
@@ -177,7 +185,7 @@ impl<'a, P: Plan> Network<'a, P> {
                     name,
                     ..messages[place]
                 };
-                let after = place + copies_from(messages, place);
+                let after = end_of_copies(messages, place);
                 self.flight.insert(after, copied)?;
             }
             (Choice::Release(place) | Choice::Drop(place), _)

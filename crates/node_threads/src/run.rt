@@ -8,10 +8,10 @@ ghost use Rattle.step_book.specs.Agreed.{JournalAgrees};
 ghost use Rattle.step_book.specs.Log.{mark_in, waiting_in};
 ghost use Rattle.node_threads.specs.Bodies.{SeatsEnded};
 ghost use Rattle.node_threads.specs.Ends.{HasOneDecision, HaveEnded, IsFitForThreads};
-ghost use Rattle.node_threads.specs.Faults.{IsOfThreads};
+ghost use Rattle.node_threads.specs.Faults.{IsOfThreads, with_least};
 ghost use Rattle.node_threads.specs.declared.ended.Ended.TheVariants as ended;
 
-use crate::clock::{Clock, ClockBeat};
+use crate::clock::Clock;
 use crate::ended::Ended;
 use crate::fault::ThreadFault;
 use crate::job::{Job, ThreadEnd};
@@ -68,7 +68,9 @@ fn jobs<'a, P: Plan>(
 }
 
 /// The fault that is told where another one comes up: the one that stands first in [`ThreadFault`].
-fn with_fault(fault: Option<ThreadFault>, other: ThreadFault) -> Option<ThreadFault> {
+fn with_fault(fault: Option<ThreadFault>, other: ThreadFault) -> Option<ThreadFault>
+    ensures { result ≡ with_least fault other }
+{
     match fault {
         Some(fault) => Some(fault.or(other)),
         None => Some(other),
@@ -97,14 +99,15 @@ where
         let mut thread_ends = Vec::new(alloc);
         let mut fault = None;
         for job in jobs {
-            match scope.spawn(move || job.run(rt, gate, &ClockBeat { rt, clock })) {
+            let node = job.node();
+            match scope.spawn(move || job.run(rt, gate, clock)) {
                 Ok(handle) => {
                     if handles.push(handle).is_err() {
                         fault = with_fault(fault, ThreadFault::NoMemory);
                     }
                 }
                 Err(_) => {
-                    clock.leave(rt);
+                    clock.leave(rt, node);
                     fault = with_fault(fault, ThreadFault::NoThread);
                 }
             }
@@ -229,7 +232,7 @@ where
 {
     let (post, seats, relay) = Post::open(alloc, program, setup, plan)?;
     let jobs = jobs(alloc, &post, program, setup, plan, stops, seats)?;
-    let clock = Clock::new(pace, setup.nodes);
+    let clock = Clock::new(alloc, pace, setup.nodes)?;
     let network = Network::new(alloc, &post, setup, plan, relay);
     let joined = run_all(rt, alloc, &clock, gate, jobs, network, policy)?;
     journal_of(alloc, post, plan, setup.rounds, stops, joined)

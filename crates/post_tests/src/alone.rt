@@ -24,6 +24,14 @@ impl Beat for NoBeat {
         let _steps = steps;
     }
 
+    fn sent(&self, round: u32) {
+        let _round = round;
+    }
+
+    fn gather(&self, round: u32) {
+        let _round = round;
+    }
+
     fn leave(&self) {}
 }
 

@@ -1,0 +1,43 @@
+-- What the network knows to be in flight, event by event.
+use Rattle.std.specs.Prelude.{◌≡◌, ◌⊎◌, ℕ, ◌+◌, ◌-◌, ◌^◌, ◌<◌, ◌≤◌, List, Some, insert, length, min}
+use Rattle.std.specs.Prelude.{remove, slice_get}
+use Rattle.policies.specs.declared.policy.Choice.{Choice}
+use Rattle.policies.specs.declared.policy.Choice.TheVariants as choice
+use Rattle.step_machine.specs.declared.event.Event.{Event}
+use Rattle.step_machine.specs.declared.event.Event.TheVariants.{Copy}
+use Rattle.step_machine.specs.declared.event.InFlight.{InFlight}
+use Rattle.step_machine.specs.declared.event.Name.{Name}
+
+-- a message that was sent, if the network knew so many before it
+abbrev pub sent_as : (start : ℕ → ℕ) → (known : ℕ) → Name → InFlight
+sent_as start known n =
+    record { name = n; sent_at = min (start n.round + n.to) (2 ^ 32 - 1); serial = known }
+
+-- at this place is a copy of the message with this serial
+abbrev pub IsCopyAt : List InFlight → (serial place : ℕ) → Type 0
+IsCopyAt flight serial place =
+    (message : InFlight) × (slice_get flight place ≡ Some message) × (message.serial ≡ serial)
+
+-- the entries from place k on that come before the end are all copies of one message that follow
+-- each other there
+pub record AreCopies (flight : List InFlight) (serial k end : ℕ) : Type 0 where
+  pub some : k < end
+  pub known : end ≤ length flight
+  pub same : (place : ℕ) → k ≤ place → place < end → IsCopyAt flight serial place
+  pub last : (end ≡ length flight) ⊎ ((IsCopyAt flight serial end) → ⊥)
+
+-- a copy of the message at place k goes behind the last of its copies
+pub record IsCopied (old : List InFlight) (k : ℕ) (copied : Name) (new : List InFlight) : Type 0 where
+  pub message : InFlight
+  pub at : slice_get old k ≡ Some message
+  pub end : ℕ
+  pub copies : AreCopies old message.serial k end
+  pub put : new ≡ insert old end (record message { name = copied })
+
+-- what is in flight after an event that came of a choice: what was released or dropped is gone, and
+-- a copy is there
+abbrev pub IsNoted : Choice → Event → (old new : List InFlight) → Type 0
+IsNoted (choice.Release k) e old new = k < length old → new ≡ remove old k
+IsNoted (choice.Drop k) e old new = k < length old → new ≡ remove old k
+IsNoted (choice.Copy k) (Copy m) old new = k < length old → IsCopied old k m new
+IsNoted (choice.Copy k) e old new = new ≡ old
