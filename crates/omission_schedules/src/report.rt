@@ -10,8 +10,9 @@ ghost use Rattle.omission_schedules.specs.Stages.{omits_under};
 ghost use Rattle.round_check.specs.Types.{kind_type};
 ghost use Rattle.round_meaning.specs.Omissions.{is_omitted};
 ghost use Rattle.round_meaning.specs.Rounds.{algorithm_of, rounds};
-ghost use Rattle.round_meaning.specs.Setups.{IsLawful, IsSetup, max_rounds};
+ghost use Rattle.round_meaning.specs.Setups.{IsLawful, IsSetup};
 ghost use Rattle.round_meaning.specs.States.{states_after};
+ghost use Rattle.slot_plans.specs.Limits.{max_rounds};
 
 use crate::rounds::{Rounds, end_state, initial_states, turn_of};
 use adversary::RunFault;

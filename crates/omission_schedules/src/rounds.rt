@@ -5,7 +5,7 @@ ghost use Rattle.omission_schedules.specs.Reports.{has_message, is_ended};
 ghost use Rattle.omission_schedules.specs.Schedules.{has_slot};
 ghost use Rattle.omission_schedules.specs.Stages.{omits_under, outcome_of};
 ghost use Rattle.round_meaning.specs.Rounds.{algorithm_of, inbox, rounds};
-ghost use Rattle.round_meaning.specs.Setups.{max_nodes, max_rounds};
+ghost use Rattle.slot_plans.specs.Limits.{max_nodes, max_rounds};
 ghost use Rattle.round_meaning.specs.States.{initial_states, state_in, states_after};
 
 use round_check::Checked;

@@ -2,7 +2,7 @@
 ghost use Rattle.std.specs.Prelude.{◌≡◌, ◌<◌, ◌≤◌, ◌++◌, ◌+◌, IfOk, OnOk, length, replicate};
 ghost use Rattle.std.specs.Prelude.{slice_index};
 ghost use Rattle.round_meaning.specs.Omissions.{is_omitted};
-ghost use Rattle.round_meaning.specs.Setups.{max_nodes, max_rounds};
+ghost use Rattle.slot_plans.specs.Limits.{max_nodes, max_rounds};
 ghost use Rattle.step_machine.specs.declared.event.Event.TheVariants.{Step};
 ghost use Rattle.omission_schedules.specs.Schedules.{all_step, each_below, release_of, releases};
 ghost use Rattle.omission_schedules.specs.Schedules.{round_events, schedule_of};

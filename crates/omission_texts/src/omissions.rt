@@ -1,7 +1,7 @@
 //! What a text says.
 ghost use Rattle.std.specs.Prelude.{◌≡◌, ◌≤◌, All, IfOk, map};
 ghost use Rattle.std.specs.List.{range_with_len};
-ghost use Rattle.round_meaning.specs.Setups.{max_rounds};
+ghost use Rattle.slot_plans.specs.Limits.{max_rounds};
 ghost use Rattle.omission_texts.specs.Meaning.{IsFirstUnknown, IsKnown, IsTableOf};
 ghost use Rattle.omission_texts.specs.Stops.{steps_of};
 

@@ -1,7 +1,7 @@
 //! How many steps each node takes.
 ghost use Rattle.std.specs.Prelude.{◌≡◌, ◌+◌, ◌≤◌, All, IfOk, map};
 ghost use Rattle.std.specs.List.{range_with_len};
-ghost use Rattle.round_meaning.specs.Setups.{max_rounds};
+ghost use Rattle.slot_plans.specs.Limits.{max_rounds};
 ghost use Rattle.omission_texts.specs.Meaning.{IsKnown};
 ghost use Rattle.omission_texts.specs.Stops as spec;
 

@@ -1,6 +1,6 @@
 //! The table of the messages that lines omit.
 ghost use Rattle.std.specs.Prelude.{◌≡◌, ◌≤◌, IfOk, OnOk};
-ghost use Rattle.round_meaning.specs.Setups.{max_rounds};
+ghost use Rattle.slot_plans.specs.Limits.{max_rounds};
 ghost use Rattle.omission_texts.specs.Meaning.{IsTableOf};
 ghost use Rattle.omission_texts.specs.Tables as spec;
 ghost use Rattle.omission_texts.specs.Tables.{Adds, of_line};
