@@ -3,18 +3,24 @@
 # What a value completes with: that of an option, or of the argument at a place.
 _roundc_choices() {
     case $1 in
-        ' 1') choices='check run threads judge lockstep help' ;;
+        ' 1') choices='check run threads judge lockstep realise rounds help' ;;
         'check 1' | \
         'run 1' | \
         'threads 1' | \
         'judge 1' | \
-        'lockstep 1') choices='@gather: @count_votes: @dls1:' files=yes ;;
+        'lockstep 1' | \
+        'realise 1' | \
+        'rounds 1') choices='@gather: @count_votes: @dls1:' files=yes ;;
         'run --schedule' | \
         'threads --setup' | \
         'threads --trace' | \
         'judge --schedule' | \
-        'lockstep --header') files=yes ;;
-        'help 1') choices='check run threads judge lockstep' ;;
+        'lockstep --header' | \
+        'realise --header' | \
+        'realise --omissions' | \
+        'rounds --header' | \
+        'rounds --omissions') files=yes ;;
+        'help 1') choices='check run threads judge lockstep realise rounds' ;;
         *) return 1 ;;
     esac
 }
@@ -27,6 +33,8 @@ _roundc_options() {
         'threads') options='--setup --trace --decided -h --help -V --version' ;;
         'judge') options='--schedule --correct --delta --gst -h --help -V --version' ;;
         'lockstep') options='--header --correct --delta --gst --delays --orders --ticks -h --help -V --version' ;;
+        'realise') options='--header --omissions -h --help -V --version' ;;
+        'rounds') options='--header --omissions --decided -h --help -V --version' ;;
         'help') options='' ;;
         *) return 1 ;;
     esac
@@ -47,7 +55,11 @@ _roundc_takes_value() {
         'lockstep --gst' | \
         'lockstep --delays' | \
         'lockstep --orders' | \
-        'lockstep --ticks') return 0 ;;
+        'lockstep --ticks' | \
+        'realise --header' | \
+        'realise --omissions' | \
+        'rounds --header' | \
+        'rounds --omissions') return 0 ;;
         *) return 1 ;;
     esac
 }
@@ -59,6 +71,8 @@ _roundc_is_command() {
         'threads' | \
         'judge' | \
         'lockstep' | \
+        'realise' | \
+        'rounds' | \
         'help') return 0 ;;
         *) return 1 ;;
     esac

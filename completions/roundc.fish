@@ -1,7 +1,7 @@
 # Completions of roundc for fish, made by .ci/manual from what `roundc help` says.
 
 # The options that take a value.
-set -g __roundc_valued --correct --delays --delta --gst --header --orders --schedule --setup --ticks --trace
+set -g __roundc_valued --correct --delays --delta --gst --header --omissions --orders --schedule --setup --ticks --trace
 
 # The words of the line behind `roundc`, without options and their values.
 function __roundc_words
@@ -34,6 +34,8 @@ complete -c roundc -n "__roundc_at '' 0" -a run -d 'Runs a schedule and reports 
 complete -c roundc -n "__roundc_at '' 0" -a threads -d 'Runs a program by a thread for each node, and explains the run'
 complete -c roundc -n "__roundc_at '' 0" -a judge -d 'Says whether a schedule keeps lockstep and the delay bound'
 complete -c roundc -n "__roundc_at '' 0" -a lockstep -d 'Writes the schedule of a run in lockstep'
+complete -c roundc -n "__roundc_at '' 0" -a realise -d 'Writes a schedule that omits just the messages of a file'
+complete -c roundc -n "__roundc_at '' 0" -a rounds -d 'Runs a program in rounds that omit the messages of a file'
 complete -c roundc -n "__roundc_at '' 0" -a help -d 'Print this message or the help of the given subcommand(s)'
 complete -c roundc -n "__roundc_at '' 0" -s h -l help -d 'Print help'
 complete -c roundc -n "__roundc_at '' 0" -s V -l version -d 'Print version'
@@ -74,4 +76,17 @@ complete -c roundc -n "__roundc_at 'lockstep'" -s h -l help -d 'Print help'
 complete -c roundc -n "__roundc_at 'lockstep'" -s V -l version -d 'Print version'
 complete -c roundc -n "__roundc_at 'lockstep' 0" -F -a '@gather: @count_votes: @dls1:'
 
-complete -c roundc -n "__roundc_at 'help' 0" -a 'check run threads judge lockstep'
+complete -c roundc -n "__roundc_at 'realise'" -l header -r -F -d 'The file of the five header lines, or - for standard input'
+complete -c roundc -n "__roundc_at 'realise'" -l omissions -r -F -d 'The file of the omitted messages, or - for standard input'
+complete -c roundc -n "__roundc_at 'realise'" -s h -l help -d 'Print help'
+complete -c roundc -n "__roundc_at 'realise'" -s V -l version -d 'Print version'
+complete -c roundc -n "__roundc_at 'realise' 0" -F -a '@gather: @count_votes: @dls1:'
+
+complete -c roundc -n "__roundc_at 'rounds'" -l header -r -F -d 'The file of the five header lines, or - for standard input'
+complete -c roundc -n "__roundc_at 'rounds'" -l omissions -r -F -d 'The file of the omitted messages, or - for standard input'
+complete -c roundc -n "__roundc_at 'rounds'" -l decided -d 'Adds a line that says what all decisions come to'
+complete -c roundc -n "__roundc_at 'rounds'" -s h -l help -d 'Print help'
+complete -c roundc -n "__roundc_at 'rounds'" -s V -l version -d 'Print version'
+complete -c roundc -n "__roundc_at 'rounds' 0" -F -a '@gather: @count_votes: @dls1:'
+
+complete -c roundc -n "__roundc_at 'help' 0" -a 'check run threads judge lockstep realise rounds'
