@@ -156,9 +156,7 @@ fn schedule_under<P: Plan>(alloc: Global, asked: &Asked, plan: P) -> Result<Stri
         plan: kind,
         omissions,
     } = asked;
-    Ok(realised_schedule(
-        alloc, program, setup, *kind, plan, omissions,
-    )?)
+    Ok(realised_schedule(alloc, program, setup, *kind, plan, omissions)?)
 }
 
 /// The report of the run in rounds under its plan.
@@ -187,13 +185,7 @@ fn report_under<P: Plan>(alloc: Global, asked: &Asked, plan: P) -> Result<Report
     ensures refused { IfErr result (IsNotRealisedAs asked.now.program asked.now.setup
         asked.now.omissions) }
 {
-    Ok(rounds_omitting(
-        alloc,
-        &asked.program,
-        &asked.setup,
-        plan,
-        &asked.omissions,
-    )?)
+    Ok(rounds_omitting(alloc, &asked.program, &asked.setup, plan, &asked.omissions)?)
 }
 
 /// The text of the schedule that goes round by round, omits just what the lines say, and in which a
@@ -223,9 +215,9 @@ pub fn realised_schedule<P: Plan>(
     Ok(text)
 }
 
-/// The report of the run in rounds that omits just what the lines say, and in which a node that they
-/// have crash stops. It makes no schedule, and is the report that `explained_run` gives of the one
-/// that [`realised_schedule`] makes.
+/// The report of the run in rounds that omits just what the lines say, and in which a node that
+/// they have crash stops. It makes no schedule, and is the report that `explained_run` gives of the
+/// one that [`realised_schedule`] makes.
 ///
 /// Refusals are as there.
 pub fn rounds_omitting<P: Plan>(
