@@ -390,6 +390,20 @@ class Generator:
         others = ["step 0", "pace ticks", "pace slow", "stop 0", "stop 0 0 0", "stop 0 -1", "stop"]
         return self.spoiled(lines, 6, others), nodes
 
+    def omissions(self, nodes, rounds):
+        """Returns the bytes of an omission file."""
+        lines = []
+        for _ in range(self.one([0, 1, 2, 3, 5, 9])):
+            node = lambda: self.one([*range(nodes)] * 40 + [nodes])
+            number = lambda: self.one([*range(1, rounds + 1)] * 40 + [0, rounds + 1])
+            span = f"{number()}-{number()}" if self.often(0.3) else f"{number()}"
+            listed = ",".join(str(node()) for _ in range(self.one([0, 1, 1, 2, 3]))) or "-"
+            forms = [f"omit {node()} {span} {node()}"] * 3
+            forms += [f"cut {listed} {span}", f"crash {node()} {number()} {listed}"]
+            lines.append(self.one(forms))
+        others = ["step 0", "omit 0 1", "omit 0 1 0 0", "cut 0", "cut - 1", "crash 0 1-2 -", "omit"]
+        return self.spoiled(lines, 6, others) if lines else self.one([b"", b"\n", b"#\r\n"])
+
     def change_line(self, lines, head, kind):
         # (an earlier change may have taken one of the header's lines away)
         at = self.random.randrange(min(head, len(lines)) if self.often(0.5) else len(lines))
@@ -466,6 +480,7 @@ class Generator:
             if self.often(0.01):
                 del files["s.rounds"]
         kinds = ["check"] + ["run"] * 4 + ["judge"] * 2 + ["threads"] * 2 + ["lockstep"]
+        kinds += ["realise", "rounds", "rounds"]
         command = self.one(kinds)
         options = getattr(self, f"{command}_options")(files)
         return Given([command, *self.ordered(source, options)], files)
@@ -498,6 +513,17 @@ class Generator:
             ticks = self.number(list(range(40)), ["", "x", "-1", "4294967296"])
             options.append(("--ticks", ticks))
         return options
+
+    def realise_options(self, files):
+        setup = self.short_setup(self.values)
+        lines = self.header(*setup)
+        header = self.spoiled(lines, len(lines), ["step 0", "pace free", "nodes 1"])
+        option, nodes = self.file("header", header, setup[0], files)
+        other, _ = self.file("omissions", self.omissions(nodes, setup[3]), nodes, files)
+        return [option, other]
+
+    def rounds_options(self, files):
+        return self.realise_options(files) + [("--decided",)] * self.often(0.4)
 
     def terms(self, nodes):
         """Writes the options of what is asked of a run."""

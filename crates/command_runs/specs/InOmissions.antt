@@ -23,7 +23,8 @@ realised_by receives start s ls =
 
 -- the report shows the run in rounds that omits what the lines say, and in which a node that they
 -- have crash stops
-abbrev pub ShowsOmitting : (start : ℕ → ℕ) → ProgramTree → Setup → List OmissionLine → Report → Type 0
+abbrev pub ShowsOmitting :
+    (start : ℕ → ℕ) → ProgramTree → Setup → List OmissionLine → Report → Type 0
 ShowsOmitting start p s ls report =
     ShowsRounds start p s (steps_of s.nodes start s ls) (omits ls) report
 

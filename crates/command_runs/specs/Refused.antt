@@ -215,8 +215,8 @@ IsNotMade p s k list b (refusal.Run run.BadSetup) = ¬ (AreTerms p s list b × I
 IsNotMade p s k list b refusal.NoMemory = ⊤
 IsNotMade p s k list b _ = ⊥
 
--- why nothing is made of omissions: a number is past its limits, or else this is the first line that
--- names no message of the run
+-- why nothing is made of omissions: a number is past its limits, or else this is the first line
+-- that names no message of the run
 abbrev pub IsNotRealised : ProgramTree → Setup → PlanKind → List OmissionLine → Refusal → Type 0
 IsNotRealised p s k ls (refusal.Run run.BadSetup) = ¬ (IsLawful p.values s × IsPlan k)
 IsNotRealised p s k ls (refusal.Run (run.UnknownMessage n)) =

@@ -147,7 +147,8 @@ pub record IsAsked (source : Source) (files : Files) (header_file omission_file 
   pub program : IsProgramOf source files s.nodes s.faults p
 
 -- the text is the schedule that omits what the lines of a file say, under the header in another
-abbrev pub RealisesOmissions : Source → Files → (header omissions : Option (List ℕ)) → List ℕ → Type 0
+abbrev pub RealisesOmissions : Source → Files → (header omissions : Option (List ℕ)) → List ℕ
+    → Type 0
 RealisesOmissions source files header omissions made =
     (s : Setup) × (k : PlanKind) × (ls : List OmissionLine) × (p : ProgramTree)
     × IsAsked source files header omissions p s k ls

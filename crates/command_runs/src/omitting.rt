@@ -215,9 +215,9 @@ pub fn realised_schedule<P: Plan>(
     Ok(text)
 }
 
-/// The report of the run in rounds that omits just what the lines say, and in which a node that they
-/// have crash stops. It makes no schedule, and is the report that `explained_run` gives of the one
-/// that [`realised_schedule`] makes.
+/// The report of the run in rounds that omits just what the lines say, and in which a node that
+/// they have crash stops. It makes no schedule, and is the report that `explained_run` gives of the
+/// one that [`realised_schedule`] makes.
 ///
 /// Refusals are as there.
 pub fn rounds_omitting<P: Plan>(

@@ -17,9 +17,12 @@ module _ (p : ProgramTree) (a : Algorithm) (start stops : ℕ → ℕ) (omits : 
   row_at here = record {
     round = here.0;
     node = here.1;
-    heard = heard_set a.nodes (λ j. not (omits here.1 here.0 j)) (has_message a omits here.0 here.1);
-    silent = silent_set a.nodes (has_message a omits here.0 here.1) (has_slot start stops here.0 here.1);
-    omitted = omitted_set a.nodes (λ j. not (omits here.1 here.0 j)) (has_message a omits here.0 here.1) (has_slot start stops here.0 here.1);
+    heard = heard_set a.nodes (λ j. not (omits here.1 here.0 j))
+        (has_message a omits here.0 here.1);
+    silent = silent_set a.nodes (has_message a omits here.0 here.1)
+        (has_slot start stops here.0 here.1);
+    omitted = omitted_set a.nodes (λ j. not (omits here.1 here.0 j))
+        (has_message a omits here.0 here.1) (has_slot start stops here.0 here.1);
     state = rounds a omits here.0 here.1;
     decision = decision p (rounds a omits here.0 here.1);
   }
@@ -33,14 +36,18 @@ module _ (p : ProgramTree) (a : Algorithm) (start stops : ℕ → ℕ) (omits : 
       ∙ ap (λ k. record y { state = x.state; decision = k }) h.decided
       ∙ ap (λ k. record y { state = k; decision = decision p k }) h.stated
 
-  are_rows : (xs : List ClosedRound) → All (λ x. x ≡ row_at (place x)) xs → xs ≡ map row_at (map place xs)
+  are_rows : (xs : List ClosedRound) → All (λ x. x ≡ row_at (place x)) xs
+      → xs ≡ map row_at (map place xs)
   are_rows [] h = refl
   are_rows (x ∷ xs) h =
       let P : ClosedRound → Type 0 = λ y. y ≡ row_at (place y) in
-      ap (λ y. y ∷ xs) (All-head P x xs h) ∙ ap (λ ys. row_at (place x) ∷ ys) (are_rows xs (All-tail P x xs h))
+      ap (λ y. y ∷ xs) (All-head P x xs h)
+      ∙ ap (λ ys. row_at (place x) ∷ ys) (are_rows xs (All-tail P x xs h))
 
-  rows_are : (xs : List ClosedRound) → All (IsRowUnder p a start stops omits) xs → xs ≡ map row_at (map place xs)
-  rows_are xs h = are_rows xs (All-weaker (IsRowUnder p a start stops omits) (λ x. x ≡ row_at (place x)) is_row xs h)
+  rows_are : (xs : List ClosedRound) → All (IsRowUnder p a start stops omits) xs
+      → xs ≡ map row_at (map place xs)
+  rows_are xs h = are_rows xs (All-weaker (IsRowUnder p a start stops omits)
+      (λ x. x ≡ row_at (place x)) is_row xs h)
 
 pub one_report : OneReportShowsRounds
 one_report start stops p s omits a b x y =

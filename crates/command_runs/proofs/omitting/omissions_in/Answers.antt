@@ -9,4 +9,5 @@ returns-clause-refused g c =
     let file = g.D.Desk.files c.args.desk.now c.args.name.now in
     let text = c.in_ok-text.text in
     IfErr-weaker c.omissions_of.result (HasNoOmissionsIn text) (HasNoOmissions file)
-    (λ r none. no_text omission_fault file text r c.in_ok-text.ensures.held none) c.omissions_of.ensures.refused
+    (λ r none. no_text omission_fault file text r c.in_ok-text.ensures.held none)
+    c.omissions_of.ensures.refused

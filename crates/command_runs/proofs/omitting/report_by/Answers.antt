@@ -12,13 +12,19 @@ returns-in-Some-clause-made c =
     let a = c.args.asked.now in
     let s = a.setup in
     let made = c.in-Some.ensures.made in
-    IfOk-weaker c.report_under.result _ _ (λ x h. subst (λ (k : PlanKind). ShowsOmitting (start_of k s.nodes) a.program s a.omissions x) (sym c.in-Known.is)
-    (subst (λ f. ShowsOmitting f a.program s a.omissions x) (ap₂ known_start made.0 made.1) h)) c.report_under.ensures.made
+    IfOk-weaker c.report_under.result _ _
+    (λ x h. subst (λ (k : PlanKind). ShowsOmitting (start_of k s.nodes) a.program s a.omissions x)
+    (sym c.in-Known.is)
+    (subst (λ f. ShowsOmitting f a.program s a.omissions x) (ap₂ known_start made.0 made.1) h))
+    c.report_under.ensures.made
 
 pub returns-in-Some-new-clause-made : goal.returns-in-Some-new-clause-made
 returns-in-Some-new-clause-made c =
     let a = c.args.asked.now in
     let s = a.setup in
     let made = c.in-Some-new.ensures.made in
-    IfOk-weaker c.report_under-in-Some-new.result _ _ (λ x h. subst (λ (k : PlanKind). ShowsOmitting (start_of k s.nodes) a.program s a.omissions x) (sym c.in-Growing.is)
-    (subst (λ f. ShowsOmitting f a.program s a.omissions x) (ap growing_start made) h)) c.report_under-in-Some-new.ensures.made
+    IfOk-weaker c.report_under-in-Some-new.result _ _
+    (λ x h. subst (λ (k : PlanKind). ShowsOmitting (start_of k s.nodes) a.program s a.omissions x)
+    (sym c.in-Growing.is)
+    (subst (λ f. ShowsOmitting f a.program s a.omissions x) (ap growing_start made) h))
+    c.report_under-in-Some-new.ensures.made

@@ -14,14 +14,24 @@ returns-in-Some-clause-made c =
     let a = c.args.asked.now in
     let s = a.setup in
     let made = c.in-Some.ensures.made in
-    IfOk-weaker c.schedule_under.result _ _ (λ x h. subst (λ (k : PlanKind). IsWritten s a.plan (realised_by (receives_of k) (start_of k s.nodes) s a.omissions) (string_bytes x)) (sym c.in-Known.is)
-    (subst (λ f. IsWritten s a.plan (realised_by f (known_start s.nodes c.in-Known.delta) s a.omissions) (string_bytes x)) (ap (λ d r. d) made.1)
-    (subst (λ f. IsWritten s a.plan (realised_by (λ r. c.in-Some.plan.delta) f s a.omissions) (string_bytes x)) (ap₂ known_start made.0 made.1) h))) c.schedule_under.ensures.made
+    IfOk-weaker c.schedule_under.result _ _
+    (λ x h. subst (λ (k : PlanKind). IsWritten s a.plan
+    (realised_by (receives_of k) (start_of k s.nodes) s a.omissions) (string_bytes x))
+    (sym c.in-Known.is)
+    (subst (λ f. IsWritten s a.plan
+    (realised_by f (known_start s.nodes c.in-Known.delta) s a.omissions) (string_bytes x))
+    (ap (λ d r. d) made.1)
+    (subst (λ f. IsWritten s a.plan (realised_by (λ r. c.in-Some.plan.delta) f s a.omissions)
+    (string_bytes x)) (ap₂ known_start made.0 made.1) h))) c.schedule_under.ensures.made
 
 pub returns-in-Some-new-clause-made : goal.returns-in-Some-new-clause-made
 returns-in-Some-new-clause-made c =
     let a = c.args.asked.now in
     let s = a.setup in
     let made = c.in-Some-new.ensures.made in
-    IfOk-weaker c.schedule_under-in-Some-new.result _ _ (λ x h. subst (λ (k : PlanKind). IsWritten s a.plan (realised_by (receives_of k) (start_of k s.nodes) s a.omissions) (string_bytes x)) (sym c.in-Growing.is)
-    (subst (λ f. IsWritten s a.plan (realised_by (λ r. r) f s a.omissions) (string_bytes x)) (ap growing_start made) h)) c.schedule_under-in-Some-new.ensures.made
+    IfOk-weaker c.schedule_under-in-Some-new.result _ _
+    (λ x h. subst (λ (k : PlanKind). IsWritten s a.plan
+    (realised_by (receives_of k) (start_of k s.nodes) s a.omissions) (string_bytes x))
+    (sym c.in-Growing.is)
+    (subst (λ f. IsWritten s a.plan (realised_by (λ r. r) f s a.omissions) (string_bytes x))
+    (ap growing_start made) h)) c.schedule_under-in-Some-new.ensures.made

@@ -11,4 +11,5 @@ returns-clause-refused g c =
     let files = g.D.Desk.files c.args.desk.now in
     let w = Realise c.args.omitting.source c.args.omitting.header c.args.omitting.omissions in
     IfErr-weaker c.written.result (λ r. r ≡ Write) (IsRefusedCommand w files)
-    (λ r e. subst (IsRefusedCommand w files) (sym e) (files, string_bytes c.in_ok-text.text, c.in_ok-text.ensures.made)) c.written.ensures.refused
+    (λ r e. subst (IsRefusedCommand w files) (sym e)
+    (files, string_bytes c.in_ok-text.text, c.in_ok-text.ensures.made)) c.written.ensures.refused

@@ -11,13 +11,17 @@ pub returns-clause-served : goal.returns-clause-served
 returns-clause-served g c =
     let report = c.in_ok-report.report in
     let text = told_text report c.args.decided in
-    printed c.written.result c.write_answer.result _ _ _ text c.written.ensures.done c.write_answer.ensures c.written.ensures.kept
+    printed c.written.result c.write_answer.result _ _ _ text c.written.ensures.done
+    c.write_answer.ensures c.written.ensures.kept
     (λ wrote. (text, (report, c.in_ok-report.ensures.made, refl), wrote))
 
 pub returns-clause-refused : goal.returns-clause-refused
 returns-clause-refused g c =
     let files = g.D.Desk.files c.args.desk.now in
     let report = c.in_ok-report.report in
-    let w = Rounds c.args.omitting.source c.args.omitting.header c.args.omitting.omissions c.args.decided in
+    let w = Rounds c.args.omitting.source c.args.omitting.header c.args.omitting.omissions
+    c.args.decided in
     IfErr-weaker c.written.result (λ r. r ≡ Write) (IsRefusedCommand w files)
-    (λ r e. subst (IsRefusedCommand w files) (sym e) (files, told_text report c.args.decided, (report, c.in_ok-report.ensures.made, refl))) c.written.ensures.refused
+    (λ r e. subst (IsRefusedCommand w files) (sym e)
+    (files, told_text report c.args.decided, (report, c.in_ok-report.ensures.made, refl)))
+    c.written.ensures.refused

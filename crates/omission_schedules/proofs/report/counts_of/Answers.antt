@@ -10,7 +10,10 @@ loop-node-preserved g c =
     let stops = slice_index c.args.run.now.stops.now in
     let rounds = c.args.run.now.setup.now.rounds in
     let i = c.loop-node.node in
-    let steps : c.from.result ≡ min (start (rounds + 1)) (stops i) = c.from.ensures ∙ c.min-steps.ensures ∙ ap (λ k. min k (stops i)) c.start-all.ensures in
-    map_push (count_until start stops rounds) c.loop-node.counts.items _ i (c.from.result, c.ended_by.result) c.loop-node.invariant
-    (ap (λ k. (k, c.ended_by.result)) steps ∙ ap (λ k. (min (start (rounds + 1)) (stops i), k)) c.ended_by.ensures)
+    let steps : c.from.result ≡ min (start (rounds + 1)) (stops i) =
+    c.from.ensures ∙ c.min-steps.ensures ∙ ap (λ k. min k (stops i)) c.start-all.ensures in
+    map_push (count_until start stops rounds) c.loop-node.counts.items _ i
+    (c.from.result, c.ended_by.result) c.loop-node.invariant
+    (ap (λ k. (k, c.ended_by.result)) steps
+    ∙ ap (λ k. (min (start (rounds + 1)) (stops i), k)) c.ended_by.ensures)
     c.in_ok-push.ensures.items

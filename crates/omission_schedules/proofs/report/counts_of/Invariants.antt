@@ -6,4 +6,5 @@ use Rattle.omission_schedules.proofs.report.counts_of.Given as goal
 
 abbrev pub invariant-loop-node : goal.invariant-loop-node
 invariant-loop-node g l =
-    l.counts.items ≡ map (count_until (g.P.Plan.start l.run.plan) (slice_index l.run.stops.now) l.run.setup.now.rounds) (range_with_len 0 l.node)
+    l.counts.items ≡ map (count_until (g.P.Plan.start l.run.plan) (slice_index l.run.stops.now)
+    l.run.setup.now.rounds) (range_with_len 0 l.node)

@@ -6,6 +6,8 @@ use Rattle.omission_schedules.proofs.report.ended_by.Given as goal
 
 abbrev pub invariant-loop-round : goal.invariant-loop-round
 invariant-loop-round g l = record {
-  counted : l.ended ≡ length (filter (λ r. is_ended (g.P.Plan.start l.run.plan) (slice_index l.run.stops.now) (r, l.node)) (range_with_len 1 (l.round - 1)));
+  counted : l.ended ≡ length (filter
+      (λ r. is_ended (g.P.Plan.start l.run.plan) (slice_index l.run.stops.now) (r, l.node))
+      (range_with_len 1 (l.round - 1)));
   few : l.ended ≤ l.round - 1;
 }

@@ -16,6 +16,7 @@ invariant-loop-node g l =
     let shown = IsRowUnder l.run.program.now a start stops omits in
     record {
       next : l.next.items ≡ map (rounds a omits l.round) (range_with_len 0 l.node);
-      listed : map place l.rows.items ≡ map place l.fn.rows.items ++ ended_below start stops l.node l.round;
+      listed : map place l.rows.items ≡ map place l.fn.rows.items ++ ended_below start stops l.node
+          l.round;
       rowed : All shown l.fn.rows.items → All shown l.rows.items;
     }

@@ -30,6 +30,7 @@ loop-done-preserved g c =
     let made = c.in_ok-next.ensures in
     record {
       states = made.next;
-      listed = listed_round start stops c.args.run.now.setup.now.nodes c.loop-done.done c.loop-done.rows.items c.next_states.new.rows.items made.listed before.listed;
+      listed = listed_round start stops c.args.run.now.setup.now.nodes c.loop-done.done
+          c.loop-done.rows.items c.next_states.new.rows.items made.listed before.listed;
       rowed = made.rowed before.rowed;
     }

@@ -4,4 +4,5 @@ use Rattle.round_meaning.specs.Rounds.{algorithm_of}
 use Rattle.omission_schedules.proofs.rounds.initial_states.Given as goal
 
 abbrev pub invariant-loop-node : goal.invariant-loop-node
-invariant-loop-node l = l.states.items ≡ map (algorithm_of l.program l.setup).init (range_with_len 0 l.node)
+invariant-loop-node l = l.states.items ≡ map (algorithm_of l.program l.setup).init
+    (range_with_len 0 l.node)

@@ -5,4 +5,5 @@ use Rattle.omission_schedules.proofs.schedule.schedule_of.Given as goal
 
 abbrev pub invariant-loop-before : goal.invariant-loop-before
 invariant-loop-before g l =
-    l.events.items ≡ schedule_of l.setup.nodes (g.P.Plan.receives l.plan) (is_omitted l.omissions) l.before
+    l.events.items ≡ schedule_of l.setup.nodes (g.P.Plan.receives l.plan) (is_omitted l.omissions)
+    l.before

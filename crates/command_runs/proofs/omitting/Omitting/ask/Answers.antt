@@ -16,7 +16,11 @@ returns-clause-asked g c =
     let ls = c.in_ok-omissions.omissions in
     let p = c.in_ok-program.program in
     record {
-      header = subst (λ file. IfSome file (λ text. IsHeader text s k)) (c.open.ensures.files asking.header.now) c.in_ok-setup.ensures.header;
-      omissions = subst (λ file. IfSome file (λ text. IsOmissionText text ls)) (c.header_in.ensures.files asking.omissions.now ∙ c.open.ensures.files asking.omissions.now) c.in_ok-omissions.ensures.said;
-      program = program_of asking.source files c.in_ok-opened.opened s.nodes s.faults p c.in_ok-opened.ensures.opened c.in_ok-program.ensures.program;
+      header = subst (λ file. IfSome file (λ text. IsHeader text s k))
+          (c.open.ensures.files asking.header.now) c.in_ok-setup.ensures.header;
+      omissions = subst (λ file. IfSome file (λ text. IsOmissionText text ls))
+          (c.header_in.ensures.files asking.omissions.now
+          ∙ c.open.ensures.files asking.omissions.now) c.in_ok-omissions.ensures.said;
+      program = program_of asking.source files c.in_ok-opened.opened s.nodes s.faults p
+          c.in_ok-opened.ensures.opened c.in_ok-program.ensures.program;
     }
