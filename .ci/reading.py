@@ -671,7 +671,7 @@ class Rounds(Run):
         self.rows = [it for it in rows if self.start(it.round + 1) <= self.ends[it.node]]
 
     def end_of(self, node):
-        """Returns how many steps a node takes: with a crash its sends of that round are the last."""
+        """Returns how many steps a node takes: with a crash, its sends of that round are last."""
         crashes = [it.first for it in self.omissions if it.kind == "crash" and it.sender == node]
         if crashes:
             return self.start(min(crashes)) + self.setup.nodes
