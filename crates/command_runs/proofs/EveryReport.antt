@@ -1,12 +1,14 @@
 -- A yes to an open question holds of every report.
-use Rattle.std.proofs.Common.{◌≡◌, ◌≢◌, ◌∙◌, ◌⊎◌, ℕ, zero, suc, ◌+◌, ◌<◌, ◌≤◌, Bool, false, true, List, [], ◌∷◌, ◌++◌, map, Some, refl, sym, subst, ap, arith, inl, inr}
+use Rattle.std.proofs.Common.{◌≡◌, ◌≢◌, ◌∙◌, ℕ, zero, suc, ◌+◌, ◌<◌, ◌≤◌, true, List, [], ◌∷◌, map}
+use Rattle.std.proofs.Common.{Some, sym, subst, ap, arith, inl, inr}
 use Rattle.std.specs.Prelude.{All, Contains}
 use Rattle.std.specs.List.{flat_map, range_with_len}
 use Rattle.std.proofs.lemmas.List.Elements.{All-append, All-cons, All-contains, All-contains_itself}
 use Rattle.std.proofs.lemmas.List.Elements.{All-filter, All-head, All-map, All-nil, All-tail}
 use Rattle.omission_explainer.specs.Decided.{IsDecided}
 use Rattle.omission_explainer.specs.InRounds.{IsOfRounds, printed_omits}
-use Rattle.omission_explainer.specs.Reported.{IsReported, closed_below, closed_rounds, is_closed, place}
+use Rattle.omission_explainer.specs.Reported.{IsReported, closed_below, closed_rounds, is_closed}
+use Rattle.omission_explainer.specs.Reported.{place}
 use Rattle.omission_explainer.specs.Rows.{ClosedRound}
 use Rattle.omission_explainer.specs.declared.report.Report.{Report}
 use Rattle.round_explorer.specs.Answers.{AllHoldUpTo}
@@ -14,7 +16,8 @@ use Rattle.round_explorer.specs.OpenQuestions.{IsOpen, IsSetupOf, run_under}
 use Rattle.round_explorer.specs.Properties.{Counts, Decides, HoldsUpTo, Run, is_true}
 use Rattle.round_explorer.specs.Questions.{failure_of}
 use Rattle.round_explorer.specs.declared.property.Property.{Property}
-use Rattle.round_explorer.specs.declared.property.Property.TheVariants.{Agreement, Always, Final, Termination, Validity}
+use Rattle.round_explorer.specs.declared.property.Property.TheVariants.{Agreement, Always, Final}
+use Rattle.round_explorer.specs.declared.property.Property.TheVariants.{Termination, Validity}
 use Rattle.round_explorer.specs.declared.question.AskedInputs.{AskedInputs}
 use Rattle.round_explorer.specs.declared.question.Question.{Question}
 use Rattle.round_explorer.proofs.OpenQuestions.{never_fails, yes_is_of_every_run}

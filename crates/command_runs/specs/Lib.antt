@@ -1,4 +1,5 @@
 pub mod Explained
+pub mod EveryReport
 pub mod InLockstep
 pub mod InOmissions
 pub mod ByThreads

@@ -1,5 +1,6 @@
 //! What holds of reports.
 ghost use Rattle.std.specs.Prelude.{◌≡◌, ℕ, List};
+ghost use Rattle.command_runs.specs.EveryReport.{YesIsOfEveryReport};
 ghost use Rattle.command_runs.specs.Explained.{IsReportOf};
 ghost use Rattle.command_runs.specs.InOmissions.{RunsReportRounds};
 ghost use Rattle.omission_explainer.specs.declared.report.Report.{Report as Reported};
@@ -19,4 +20,10 @@ pub fn one_report()
 /// writes for the same program, header and omissions.
 pub fn runs_report_rounds()
     ensures { RunsReportRounds }
+{}
+
+/// Nothing at run time: if any message may be missed, a yes of `explore` is one for every report: of
+/// every schedule under every plan, and of every run by threads.
+pub fn yes_is_of_every_report()
+    ensures { YesIsOfEveryReport }
 {}

@@ -18,7 +18,7 @@ mod written;
 
 pub use desk::{Desk, DeskFault};
 pub use explained::{Terms, explained_run, judged_run};
-pub use laws::{one_report, runs_report_rounds};
+pub use laws::{one_report, runs_report_rounds, yes_is_of_every_report};
 pub use limits::limits_agree;
 pub use lockstep::{Pacing, lockstep_text};
 pub use memory_desk::{MemoryDesk, MemoryFile};
