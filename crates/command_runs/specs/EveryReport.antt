@@ -34,8 +34,9 @@ HoldsOfRows (Always f) p s rows =
     All (λ (row : ClosedRound).
     is_true p s.nodes s.faults f.now row.round row.node row.state ≡ true) rows
 
--- If any message may be missed, a yes holds of every report: of every schedule under every plan, and
--- of every run by threads, of the program, of inputs that were asked about and of no more rounds.
+-- If any message may be missed, a yes holds of every report: of every schedule under every plan,
+-- and of every run by threads, of the program, of inputs that were asked about and of no more
+-- rounds.
 abbrev pub YesIsOfEveryReport : Type 0
 YesIsOfEveryReport =
     (start : ℕ → ℕ) (p : ProgramTree) (s like : Setup) (question : Question) (asked : AskedInputs)

@@ -22,8 +22,8 @@ pub fn runs_report_rounds()
     ensures { RunsReportRounds }
 {}
 
-/// Nothing at run time: if any message may be missed, a yes of `explore` is one for every report: of
-/// every schedule under every plan, and of every run by threads.
+/// Nothing at run time: if any message may be missed, a yes of `explore` is one for every report:
+/// of every schedule under every plan, and of every run by threads.
 pub fn yes_is_of_every_report()
     ensures { YesIsOfEveryReport }
 {}
