@@ -1,5 +1,5 @@
 -- The loop over the names between commas.
-use Rattle.std.proofs.Common.{◌≡◌, ◌∙◌, ◌<◌, ◌≤◌, ◌+◌, ◌&&◌, ◌||◌, ℕ, Bool, List, [], ◌∷◌, ap}
+use Rattle.std.proofs.Common.{◌≡◌, ◌∙◌, ◌<◌, ◌≤◌, ◌+◌, ◌&&◌, ◌||◌, ℕ, Bool, List, ◌∷◌, ap}
 use Rattle.std.proofs.Common.{drop, false, get_or, length, refl, sym, true, codes}
 use Rattle.std.specs.List.{list_all}
 use Rattle.std.specs.Str.{bytes_eq}
@@ -37,7 +37,7 @@ and_false true b h = absurd (cc h)
 and_false false b h = refl
 
 module _ (texts : List Text) (i : ℕ) (text : Text) (lt : i < length texts)
-  (is : text ≡ get_or texts i text) where
+    (is : text ≡ get_or texts i text) where
   front : drop i texts ≡ text ∷ drop (i + 1) texts
   front = let d = drop_more texts i text lt in rw (← is) at d
 
@@ -66,7 +66,11 @@ module _ (texts : List Text) (i : ℕ) (text : Text) (lt : i < length texts)
 
 pub mark_nothing : (texts : List Text) → AreMarkedTo texts 0 no_checks
 mark_nothing texts = record {
-  named = refl; agreement = refl; validity = refl; finality = refl; termination = refl;
+  named = refl;
+  agreement = refl;
+  validity = refl;
+  finality = refl;
+  termination = refl;
 }
 
 module _ (texts : List Text) (i : ℕ) (all : length texts ≤ i) where

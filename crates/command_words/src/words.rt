@@ -149,9 +149,7 @@ impl fmt::Display for WordsFault {
             WordsFault::Gst => writeln!(f, "error: G is a number of 0 to 4294967295"),
             WordsFault::Ticks => writeln!(f, "error: T is a number of 0 to 4294967295"),
             WordsFault::Inputs => writeln!(f, "error: INPUTS is `header` or `any`"),
-            WordsFault::Faults => {
-                writeln!(f, "error: FAULTS is `none`, `omission` or `crash`")
-            }
+            WordsFault::Faults => { writeln!(f, "error: FAULTS is `none`, `omission` or `crash`") }
             WordsFault::Clear => writeln!(f, "error: C is a number of 1 to 4294967295"),
             WordsFault::Hears => writeln!(f, "error: M is a number of 0 to 4294967295"),
             WordsFault::Checks => {
