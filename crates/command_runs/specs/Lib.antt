@@ -1,6 +1,7 @@
 pub mod Explained
 pub mod InLockstep
 pub mod InOmissions
+pub mod InRounds
 pub mod ByThreads
 pub mod Library
 pub mod Texts

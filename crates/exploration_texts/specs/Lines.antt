@@ -36,6 +36,11 @@ told_line t = told_text t ++ codes "\n"
 abbrev pub answers_text : List Told → List ℕ
 answers_text told = flat_map told_line told
 
+-- the comment of a schedule that shows a property failing
+abbrev pub comment_text : PropertyName → (round : ℕ) → List ℕ
+comment_text name round =
+    codes "# " ++ name_text name ++ codes " fails in round " ++ decimal round
+
 -- a text that is no expression, with the place of what is wrong
 abbrev pub source_text : LangFault → List ℕ
 source_text (lang.BadToken span) =
