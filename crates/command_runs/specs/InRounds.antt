@@ -1,5 +1,6 @@
 -- What is found in all runs in rounds, and how a command ends that was carried out.
-use Rattle.std.specs.Prelude.{◌≡◌, ◌++◌, ◌∷◌, ◌≤◌, ℕ, Bor, List, None, Option, Some, length, true}
+use Rattle.std.specs.Borrow.{Bor}
+use Rattle.std.specs.Prelude.{◌≡◌, ◌++◌, ◌∷◌, ◌≤◌, ℕ, List, None, Option, Some, length, true}
 use Rattle.std.specs.Prelude.{if◌then◌else◌, option_map, string_bytes}
 use Rattle.command_runs.specs.declared.exploring.Found.{Found}
 use Rattle.command_runs.specs.declared.outcome.Outcome.{Outcome}

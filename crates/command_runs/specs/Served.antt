@@ -1,5 +1,6 @@
 -- What the program writes, as a relation of its words to the files on the desk.
-use Rattle.std.specs.Prelude.{◌≡◌, ◌++◌, ◌⊎◌, ⊤, ℕ, Bool, Bor, List, None, Option, Some, IfSome}
+use Rattle.std.specs.Borrow.{Bor}
+use Rattle.std.specs.Prelude.{◌≡◌, ◌++◌, ◌⊎◌, ⊤, ℕ, Bool, List, None, Option, Some, IfSome}
 use Rattle.std.specs.Prelude.{codes, length, true}
 use Rattle.std.specs.Prelude.{if◌then◌else◌}
 use Rattle.std.specs.Fmt.{decimal}

@@ -230,8 +230,9 @@ impl From<ConditionFault> for Refusal {
 
 impl From<NoMemory> for Refusal {
     ghost use Rattle.std.specs.Prelude.{◌≡◌};
+    ghost use Rattle.command_runs.specs.declared.refusal.Refusal.TheVariants as refusal;
 
-    ghost from_gives = { λ _ r. r ≡ Refusal.NoMemory };
+    ghost from_gives = { λ _ r. r ≡ refusal.NoMemory };
 
     fn from(_error: NoMemory) -> Refusal {
         Refusal::NoMemory

@@ -1,1 +1,4 @@
-
+pub mod EachTold
+pub mod Refusing
+pub mod Stopping
+pub mod Writing

@@ -1,5 +1,6 @@
 -- When a text is a condition on the states of a program, and why it is none.
-use Rattle.std.specs.Prelude.{◌≡◌, ◌<◌, ⊤, ℕ, Bor, List, None, Option, Some, length}
+use Rattle.std.specs.Borrow.{Bor}
+use Rattle.std.specs.Prelude.{◌≡◌, ◌<◌, ⊤, ℕ, List, None, Option, Some, length}
 use Rattle.exploration_texts.specs.declared.condition.ConditionFault.{ConditionFault}
 use Rattle.exploration_texts.specs.declared.condition.ConditionFault.TheVariants as fault
 use Rattle.round_check.specs.Conditions.{condition_fault}

@@ -1,5 +1,6 @@
 -- What is told of the properties that the options of `explore` ask.
-use Rattle.std.specs.Prelude.{◌≡◌, ◌++◌, ◌∷◌, ◌&&◌, ◌⊎◌, [], ⊤, All, Bool, List, None, Option, Some}
+use Rattle.std.specs.Borrow.{Bor}
+use Rattle.std.specs.Prelude.{◌≡◌, ◌++◌, ◌∷◌, ◌&&◌, ◌⊎◌, [], All, Bool, List, None, Option, Some}
 use Rattle.std.specs.Prelude.{false, is_some, map, true}
 use Rattle.command_words.specs.declared.exploring.Checks.{Checks}
 use Rattle.command_words.specs.declared.exploring.Exploring.{Exploring}
@@ -88,6 +89,11 @@ AddsAnswer w property old new =
 abbrev pub Adds : Search → Bool → Property → (old new : List Told) → Type 0
 Adds w true property old new = AddsAnswer w property old new
 Adds w false property old new = new ≡ old
+
+-- the same of a condition, if there is one
+abbrev pub AddsAlways : Search → Option (Bor Tree) → (old new : List Told) → Type 0
+AddsAlways w (Some f) old new = AddsAnswer w (Always f) old new
+AddsAlways w None old new = new ≡ old
 
 -- these are the answers of a search
 pub record AreAnswersOf (w : Search) (c : Checks) (condition : Option Tree) (told : List Told)

@@ -2,7 +2,7 @@
 ghost use Rattle.std.specs.Prelude.{IfErr, IfOk, OnOk, option_map, true};
 ghost use Rattle.round_meaning.specs.Setups.{IsLawful};
 ghost use Rattle.exploration_texts.specs.Conditions.{IsConditionFor, IsFaultFor};
-ghost use Rattle.exploration_texts.specs.Told.{Adds, AreAnswers, AreAnswersOf};
+ghost use Rattle.exploration_texts.specs.Told.{Adds, AddsAlways, AreAnswers, AreAnswersOf};
 
 use crate::asking::{inputs_of, question_of};
 use crate::condition::{ConditionFault, read_condition};
@@ -77,9 +77,7 @@ fn answers(
     search.add_if(alloc, checks.validity, Property::Validity, &mut told)?;
     search.add_if(alloc, checks.finality, Property::Final, &mut told)?;
     search.add_if(alloc, checks.termination, Property::Termination, &mut told)?;
-    if let Some(formula) = always {
-        search.add(alloc, Property::Always(formula), &mut told)?;
-    }
+    search.add_always(alloc, always, &mut told)?;
     Ok(told)
 }
 
@@ -100,6 +98,23 @@ impl<'a> Search<'a> {
             self.add(alloc, property, told)?;
         }
         Ok(())
+    }
+
+    /// Adds the answer of a condition, if there is one.
+    fn add_always(
+        &self,
+        alloc: Global,
+        always: Option<&Formula>,
+        told: &mut Vec<Told>,
+    ) -> Result<(), NoMemory>
+        requires { IsLawful self.now.program.now.values self.now.setup.now }
+        ensures { OnOk result
+            (AddsAlways self.now always.entry told.old.items told.new.items) }
+    {
+        match always {
+            Some(formula) => self.add(alloc, Property::Always(formula), told),
+            None => Ok(()),
+        }
     }
 
     /// Adds the answer of a property.

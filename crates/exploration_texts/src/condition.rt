@@ -113,8 +113,9 @@ impl From<CheckFault> for ConditionFault {
 
 impl From<NoMemory> for ConditionFault {
     ghost use Rattle.std.specs.Prelude.{◌≡◌};
+    ghost use Rattle.exploration_texts.specs.declared.condition.ConditionFault.TheVariants as fault;
 
-    ghost from_gives = { λ _ e. e ≡ ConditionFault.NoMemory };
+    ghost from_gives = { λ _ e. e ≡ fault.NoMemory };
 
     fn from(_error: NoMemory) -> ConditionFault {
         ConditionFault::NoMemory

@@ -5,9 +5,8 @@ ghost use Rattle.exploration_texts.specs.Lines.{answers_text, name_text, told_li
 ghost use Rattle.exploration_texts.specs.Told.{IsFirstNo, all_hold, name_of};
 
 use round_explorer::{Answer, Counterexample, Property};
-use std::fmt;
-use std::io;
 use std::io::Write;
+use std::{fmt, io};
 
 /// Which property is told of.
 #[derive(Clone, Copy, Debug, PartialEq, Eq)]
