@@ -29,17 +29,13 @@ use Rattle.command_runs.specs.declared.texts.Text.TheVariants as text
 use Rattle.command_words.specs.declared.exploring.Exploring.{Exploring}
 use Rattle.command_words.specs.declared.values.Source.{Source}
 use Rattle.exploration_texts.specs.Conditions.{IsFaultFor}
-use Rattle.exploration_texts.specs.Stops.{AreWithin}
 use Rattle.exploration_texts.specs.declared.condition.ConditionFault.TheVariants as condition
-use Rattle.exploration_texts.specs.declared.told.Told.{Told}
 use Rattle.node_threads.specs.Ends.{IsFitForThreads}
 use Rattle.omission_texts.specs.Texts.{Says as SaysOmissions}
 use Rattle.omission_texts.specs.declared.line.OmissionLine.{OmissionLine}
 use Rattle.policies.specs.declared.bounded.Bounded.{Bounded}
 use Rattle.omission_explainer.specs.declared.report.Report.{Report}
 use Rattle.round_check.specs.Causes.{fault_of, is_typed}
-use Rattle.round_explorer.specs.declared.answer.Answer.{Answer}
-use Rattle.round_explorer.specs.declared.answer.Answer.TheVariants.{Fails, Holds}
 use Rattle.round_lang.specs.Limits.{max_text}
 use Rattle.round_lang.specs.Source.{IsSource}
 use Rattle.round_lang.specs.Syntax.{ProgramTree}
@@ -200,16 +196,6 @@ IsNotExploredAs p s e (refusal.Condition condition.NoMemory) = ⊥
 IsNotExploredAs p s e (refusal.Condition fault) = IsExplorable p s e × IsFaultFor p e.always fault
 IsNotExploredAs p s e refusal.NoMemory = ⊤
 IsNotExploredAs p s e _ = ⊥
-
--- a run that was found can be shown by a schedule: each node has an input, and crashes are in its
--- rounds
-abbrev pub IsShowableAs : Setup → Answer → Type 0
-IsShowableAs s Holds = ⊤
-IsShowableAs s (Fails c) =
-    (length c.inputs ≡ s.nodes) × AreWithin s.rounds c.failures.items
-
-abbrev pub IsShowable : Setup → Told → Type 0
-IsShowable s t = IsShowableAs s t.answer
 
 -- why nothing is made of omissions under a plan
 abbrev pub IsNotRealisedAs : ProgramTree → Setup → List OmissionLine → Refusal → Type 0

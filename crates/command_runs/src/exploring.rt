@@ -1,11 +1,11 @@
 //! What is found by going through all runs in rounds.
-ghost use Rattle.std.specs.Prelude.{◌≡◌, All, IfErr, IfNone, IfOk, IfSome, length, string_bytes};
-ghost use Rattle.std.specs.Prelude.{true};
+ghost use Rattle.std.specs.Prelude.{◌≡◌, ◌↔◌, All, IfErr, IfNone, IfOk, IfSome, IsTrue};
+ghost use Rattle.std.specs.Prelude.{string_bytes, true};
 ghost use Rattle.command_runs.specs.InRounds.{IsFound, IsShown, ShowsFailure};
-ghost use Rattle.command_runs.specs.Refused.{IsNotExplored, IsUnexplored};
+ghost use Rattle.command_runs.specs.Refused.{IsExplorable, IsNotExplored, IsUnexplored};
 ghost use Rattle.command_runs.specs.Served.{FindsIn, receives_of, start_of};
-ghost use Rattle.command_runs.specs.Stages.{IsNotExploredAs, IsShowable};
-ghost use Rattle.exploration_texts.specs.Stops.{AreWithin};
+ghost use Rattle.command_runs.specs.Stages.{IsNotExploredAs};
+ghost use Rattle.exploration_texts.specs.Stops.{IsShowable, IsToldToShow};
 ghost use Rattle.exploration_texts.specs.Told.{all_hold};
 ghost use Rattle.round_meaning.specs.Setups.{IsSetup};
 
@@ -93,7 +93,7 @@ fn found_under<P: Plan>(
         exploring.now) }
     ensures refused { IfErr result (IsNotExploredAs program.now setup.now exploring.now) }
 {
-    if !setup.is_lawful(program) || setup.nodes < exploring.hears {
+    if !is_explorable(program, setup, exploring) {
         return Err(Refusal::Run(RunFault::BadSetup));
     }
     let told = answer_all(alloc, program, setup, exploring)?;
@@ -102,6 +102,13 @@ fn found_under<P: Plan>(
         None => None,
     };
     Ok(Found { told, trace })
+}
+
+/// Whether the numbers are within their limits.
+fn is_explorable(program: &Checked, setup: &Setup, exploring: &Exploring<'_>) -> bool
+    ensures { IsTrue result ↔ IsExplorable program.now setup.now exploring.now }
+{
+    setup.is_lawful(program) && exploring.hears <= setup.nodes
 }
 
 /// The schedule that shows the first property that fails.
@@ -114,7 +121,7 @@ fn trace_of<P: Plan>(
 ) -> Result<Option<String>, NoMemory>
     requires nodes { P.nodes plan ≡ setup.now.nodes }
     requires setup { IsSetup setup.now }
-    requires showable { All (IsShowable setup.now) told.now }
+    requires showable { All (IsToldToShow setup.now) told.now }
     ensures none { IfOk result (λ trace. IfNone trace (all_hold told.now ≡ true)) }
     ensures some { IfOk result (λ trace. IfSome trace (λ text. ShowsFailure (P.receives plan)
         (P.start plan) setup.now kind told.now (string_bytes text))) }
@@ -136,8 +143,7 @@ fn shown<P: Plan>(
 ) -> Result<String, NoMemory>
     requires nodes { P.nodes plan ≡ setup.now.nodes }
     requires setup { IsSetup setup.now }
-    requires inputs { length failed.entry.found.now.inputs ≡ setup.now.nodes }
-    requires within { AreWithin setup.now.rounds failed.entry.found.now.failures.items }
+    requires showable { IsShowable setup.now failed.entry.found.now }
     ensures { IfOk result (λ text. IsShown (P.receives plan) (P.start plan) setup.now kind
         failed.entry.name failed.entry.found.now (string_bytes text)) }
 {
