@@ -3,14 +3,15 @@
 # What a value completes with: that of an option, or of the argument at a place.
 _roundc_choices() {
     case $1 in
-        ' 1') choices='check run threads judge lockstep realise rounds help' ;;
+        ' 1') choices='check run threads judge lockstep realise rounds explore help' ;;
         'check 1' | \
         'run 1' | \
         'threads 1' | \
         'judge 1' | \
         'lockstep 1' | \
         'realise 1' | \
-        'rounds 1') choices='@gather: @count_votes: @dls1:' files=yes ;;
+        'rounds 1' | \
+        'explore 1') choices='@gather: @count_votes: @dls1:' files=yes ;;
         'run --schedule' | \
         'threads --setup' | \
         'threads --trace' | \
@@ -19,8 +20,12 @@ _roundc_choices() {
         'realise --header' | \
         'realise --omissions' | \
         'rounds --header' | \
-        'rounds --omissions') files=yes ;;
-        'help 1') choices='check run threads judge lockstep realise rounds' ;;
+        'rounds --omissions' | \
+        'explore --header' | \
+        'explore --trace') files=yes ;;
+        'explore --inputs') choices='header any' ;;
+        'explore --faults') choices='none omission crash' ;;
+        'help 1') choices='check run threads judge lockstep realise rounds explore' ;;
         *) return 1 ;;
     esac
 }
@@ -35,6 +40,7 @@ _roundc_options() {
         'lockstep') options='--header --correct --delta --gst --delays --orders --ticks -h --help -V --version' ;;
         'realise') options='--header --omissions -h --help -V --version' ;;
         'rounds') options='--header --omissions --decided -h --help -V --version' ;;
+        'explore') options='--header --inputs --faults --clear --hears --check --always --trace -h --help -V --version' ;;
         'help') options='' ;;
         *) return 1 ;;
     esac
@@ -59,7 +65,15 @@ _roundc_takes_value() {
         'realise --header' | \
         'realise --omissions' | \
         'rounds --header' | \
-        'rounds --omissions') return 0 ;;
+        'rounds --omissions' | \
+        'explore --header' | \
+        'explore --inputs' | \
+        'explore --faults' | \
+        'explore --clear' | \
+        'explore --hears' | \
+        'explore --check' | \
+        'explore --always' | \
+        'explore --trace') return 0 ;;
         *) return 1 ;;
     esac
 }
@@ -73,6 +87,7 @@ _roundc_is_command() {
         'lockstep' | \
         'realise' | \
         'rounds' | \
+        'explore' | \
         'help') return 0 ;;
         *) return 1 ;;
     esac

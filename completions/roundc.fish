@@ -1,7 +1,7 @@
 # Completions of roundc for fish, made by .ci/manual from what `roundc help` says.
 
 # The options that take a value.
-set -g __roundc_valued --correct --delays --delta --gst --header --omissions --orders --schedule --setup --ticks --trace
+set -g __roundc_valued --always --check --clear --correct --delays --delta --faults --gst --header --hears --inputs --omissions --orders --schedule --setup --ticks --trace
 
 # The words of the line behind `roundc`, without options and their values.
 function __roundc_words
@@ -36,6 +36,7 @@ complete -c roundc -n "__roundc_at '' 0" -a judge -d 'Says whether a schedule ke
 complete -c roundc -n "__roundc_at '' 0" -a lockstep -d 'Writes the schedule of a run in lockstep'
 complete -c roundc -n "__roundc_at '' 0" -a realise -d 'Writes a schedule that omits just the messages of a file'
 complete -c roundc -n "__roundc_at '' 0" -a rounds -d 'Runs a program in rounds that omit the messages of a file'
+complete -c roundc -n "__roundc_at '' 0" -a explore -d 'Says whether properties hold of all runs in rounds'
 complete -c roundc -n "__roundc_at '' 0" -a help -d 'Print this message or the help of the given subcommand(s)'
 complete -c roundc -n "__roundc_at '' 0" -s h -l help -d 'Print help'
 complete -c roundc -n "__roundc_at '' 0" -s V -l version -d 'Print version'
@@ -89,4 +90,16 @@ complete -c roundc -n "__roundc_at 'rounds'" -s h -l help -d 'Print help'
 complete -c roundc -n "__roundc_at 'rounds'" -s V -l version -d 'Print version'
 complete -c roundc -n "__roundc_at 'rounds' 0" -F -a '@gather: @count_votes: @dls1:'
 
-complete -c roundc -n "__roundc_at 'help' 0" -a 'check run threads judge lockstep realise rounds'
+complete -c roundc -n "__roundc_at 'explore'" -l header -r -F -d 'The file of the five header lines, or - for standard input'
+complete -c roundc -n "__roundc_at 'explore'" -l inputs -r -x -a 'header any' -d 'header, whose inputs are asked about by default, or any'
+complete -c roundc -n "__roundc_at 'explore'" -l faults -r -x -a 'none omission crash' -d 'How nodes fail: none (by default), omission or crash'
+complete -c roundc -n "__roundc_at 'explore'" -l clear -r -x -d 'The round from which on the network omits nothing; by default there is none'
+complete -c roundc -n "__roundc_at 'explore'" -l hears -r -x -d 'How many nodes each node hears in each round at least; 0 by default'
+complete -c roundc -n "__roundc_at 'explore'" -l check -r -x -d 'Of agreement, validity, final and termination; by default the first three'
+complete -c roundc -n "__roundc_at 'explore'" -l always -r -x -d 'What is to be true of each node\'s state after each round'
+complete -c roundc -n "__roundc_at 'explore'" -l trace -r -F -d 'The file that a run\'s schedule is written to if a property fails'
+complete -c roundc -n "__roundc_at 'explore'" -s h -l help -d 'Print help'
+complete -c roundc -n "__roundc_at 'explore'" -s V -l version -d 'Print version'
+complete -c roundc -n "__roundc_at 'explore' 0" -F -a '@gather: @count_votes: @dls1:'
+
+complete -c roundc -n "__roundc_at 'help' 0" -a 'check run threads judge lockstep realise rounds explore'

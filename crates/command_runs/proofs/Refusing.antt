@@ -100,6 +100,7 @@ source_read bytes held lang.NoMemory short same utf8 none = absurd none
 -- why a file has no program, from why there is none in what was read of it
 pub no_file_program : (file : Option (List ℕ)) (t : Text) (r : Refusal) → IfSome file (IsTextOf max_text t) → IsNoProgramIn t r → IsNoProgram file r
 no_file_program file (text.Whole bytes) (refusal.Words fault) is none = absurd none.1
+no_file_program file (text.Whole bytes) (refusal.Condition fault) is none = absurd none.1
 no_file_program file (text.Whole bytes) (refusal.Schedule fault) is none = absurd none.1
 no_file_program file (text.Whole bytes) (refusal.Library fault) is none = absurd none.1
 no_file_program file (text.Whole bytes) refusal.NoSuchProgram is none = absurd none.1
@@ -179,6 +180,7 @@ pub no_text : (HasFault : Fault) (file : Option (List ℕ)) (t : Text) (r : Refu
 no_text HasFault file (text.Whole bytes) (refusal.Words fault) is none = absurd none.1
 no_text HasFault file (text.Whole bytes) (refusal.Source fault) is none = absurd none.1
 no_text HasFault file (text.Whole bytes) (refusal.Check fault) is none = absurd none.1
+no_text HasFault file (text.Whole bytes) (refusal.Condition fault) is none = absurd none.1
 no_text HasFault file (text.Whole bytes) (refusal.Library fault) is none = absurd none.1
 no_text HasFault file (text.Whole bytes) refusal.NoSuchProgram is none = absurd none.1
 no_text HasFault file (text.Whole bytes) (refusal.Run fault) is none = absurd none.1
@@ -308,6 +310,7 @@ not_run p s k events correct (refusal.Words fault) plan none = absurd none
 not_run p s k events correct refusal.File plan none = absurd none
 not_run p s k events correct (refusal.Source fault) plan none = absurd none
 not_run p s k events correct (refusal.Check fault) plan none = absurd none
+not_run p s k events correct (refusal.Condition fault) plan none = absurd none
 not_run p s k events correct (refusal.Schedule fault) plan none = absurd none
 not_run p s k events correct (refusal.Library fault) plan none = absurd none
 not_run p s k events correct refusal.NoSuchProgram plan none = absurd none

@@ -44,6 +44,7 @@ not_made p s k list b (refusal.Words fault) none = absurd none
 not_made p s k list b refusal.File none = absurd none
 not_made p s k list b (refusal.Source fault) none = absurd none
 not_made p s k list b (refusal.Check fault) none = absurd none
+not_made p s k list b (refusal.Condition fault) none = absurd none
 not_made p s k list b (refusal.Schedule fault) none = absurd none
 not_made p s k list b (refusal.Library fault) none = absurd none
 not_made p s k list b refusal.NoSuchProgram none = absurd none
@@ -89,6 +90,7 @@ module _ (source : Source) (files : Files) (header : Bor (List ℕ)) (correct : 
   lockstep_refused refusal.File h = unmade refusal.File h
   lockstep_refused (refusal.Source fault) h = unmade (refusal.Source fault) h
   lockstep_refused (refusal.Check fault) h = unmade (refusal.Check fault) h
+  lockstep_refused (refusal.Condition fault) h = unmade (refusal.Condition fault) h
   lockstep_refused (refusal.Schedule fault) h = unmade (refusal.Schedule fault) h
   lockstep_refused (refusal.Library fault) h = unmade (refusal.Library fault) h
   lockstep_refused refusal.NoSuchProgram h = unmade refusal.NoSuchProgram h

@@ -2,6 +2,7 @@ pub mod Explained
 pub mod EveryReport
 pub mod InLockstep
 pub mod InOmissions
+pub mod InRounds
 pub mod ByThreads
 pub mod Library
 pub mod Texts

@@ -7,10 +7,12 @@ use Rattle.algorithm_library.specs.declared.fault.LibraryFault.{LibraryFault}
 use Rattle.algorithm_library.specs.declared.fault.LibraryFault.TheVariants as library
 use Rattle.command_runs.specs.declared.refusal.Refusal.{Refusal}
 use Rattle.command_runs.specs.declared.refusal.Refusal.TheVariants.{Words, File, Source, Check}
+use Rattle.command_runs.specs.declared.refusal.Refusal.TheVariants.{Condition}
 use Rattle.command_runs.specs.declared.refusal.Refusal.TheVariants.{Schedule, Library}
 use Rattle.command_runs.specs.declared.refusal.Refusal.TheVariants.{NoSuchProgram, Run, Write}
 use Rattle.command_runs.specs.declared.refusal.Refusal.TheVariants.{NoMemory, NodeNoMemory}
 use Rattle.command_words.specs.Lines.{words_line}
+use Rattle.exploration_texts.specs.Lines.{condition_text}
 use Rattle.round_check.specs.declared.fault.CheckFault.{CheckFault}
 use Rattle.round_check.specs.declared.fault.CheckFault.TheVariants as check
 use Rattle.round_lang.specs.declared.fault.LangFault.{LangFault}
@@ -75,6 +77,8 @@ line_of (Words fault) = words_line fault
 line_of File = Some (codes "refused file\n")
 line_of (Source fault) = Some (source_line fault)
 line_of (Check fault) = Some (check_line fault)
+line_of (Condition fault) =
+    Some (codes "refused always " ++ condition_text fault ++ codes "\n")
 line_of (Schedule fault) = Some (schedule_line fault)
 line_of (Library fault) = Some (library_line fault)
 line_of NoSuchProgram = Some (codes "refused library 3\n")

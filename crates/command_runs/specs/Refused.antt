@@ -1,5 +1,5 @@
 -- Why a command is refused: the cause of each refusal, and the order in which they are told.
-use Rattle.std.specs.Prelude.{◌≡◌, ◌<◌, ◌⊎◌, ⊤, ℕ, All, Err, List, [], Option, IfSome, Some, codes}
+use Rattle.std.specs.Prelude.{◌≡◌, ◌<◌, ◌≤◌, ◌⊎◌, ⊤, ℕ, All, Err, List, [], Option, IfSome, Some, codes}
 use Rattle.std.specs.Io.KnownBytes.{Keeps}
 use Rattle.adversary.specs.Driving.{IsUnknownAt}
 use Rattle.adversary.specs.declared.fault.ReadFault.{ReadFault}
@@ -26,8 +26,12 @@ use Rattle.command_words.specs.Given.{Explains, Means}
 use Rattle.command_words.specs.declared.values.Source.{Source}
 use Rattle.command_words.specs.declared.values.Source.TheVariants.{File, Library}
 use Rattle.command_words.specs.declared.words.Words.{Words}
-use Rattle.command_words.specs.declared.words.Words.TheVariants.{Check, Judge, Lockstep, Realise}
-use Rattle.command_words.specs.declared.words.Words.TheVariants.{Rounds, Run, Threads}
+use Rattle.command_words.specs.declared.words.Words.TheVariants.{Check, Explore, Judge, Lockstep}
+use Rattle.command_words.specs.declared.words.Words.TheVariants.{Realise, Rounds, Run, Threads}
+use Rattle.command_words.specs.declared.exploring.Exploring.{Exploring}
+use Rattle.exploration_texts.specs.Conditions.{IsFaultFor}
+use Rattle.exploration_texts.specs.declared.condition.ConditionFault.{ConditionFault}
+use Rattle.exploration_texts.specs.declared.condition.ConditionFault.TheVariants as condition
 use Rattle.node_threads.specs.Ends.{IsFitForThreads}
 use Rattle.command_words.specs.declared.words.WordsFault.{WordsFault}
 use Rattle.command_words.specs.declared.words.WordsFault.TheVariants as words
@@ -91,6 +95,10 @@ of_library fault = refusal.Library fault
 abbrev pub of_run : RunFault → Refusal
 of_run run.NoMemory = refusal.NoMemory
 of_run fault = refusal.Run fault
+
+abbrev pub of_condition : ConditionFault → Refusal
+of_condition condition.NoMemory = refusal.NoMemory
+of_condition fault = refusal.Condition fault
 
 abbrev pub of_read : ReadFault → Refusal
 of_read (read.Text fault) = of_text fault
@@ -224,6 +232,19 @@ IsNotRealised p s k ls (refusal.Run (run.UnknownMessage n)) =
 IsNotRealised p s k ls refusal.NoMemory = ⊤
 IsNotRealised p s k ls _ = ⊥
 
+-- the numbers of a search are within their limits; no node hears more nodes than there are
+abbrev pub IsExplorable : ProgramTree → Setup → Exploring → Type 0
+IsExplorable p s e = IsLawful p.values s × (e.hears ≤ s.nodes)
+
+-- why not all runs are gone through: a number is past its limits, or else EXPR is no condition
+abbrev pub IsNotExplored : ProgramTree → Setup → PlanKind → Exploring → Refusal → Type 0
+IsNotExplored p s k e (refusal.Run run.BadSetup) = ¬ (IsExplorable p s e × IsPlan k)
+IsNotExplored p s k e (refusal.Condition condition.NoMemory) = ⊥
+IsNotExplored p s k e (refusal.Condition fault) =
+    IsExplorable p s e × IsPlan k × IsFaultFor p e.always fault
+IsNotExplored p s k e refusal.NoMemory = ⊤
+IsNotExplored p s k e _ = ⊥
+
 -- why a program isn't run under a text of a kind
 abbrev pub Later : Kind → Type 1
 Later kind = ProgramTree → Setup → PlanKind → Tail kind → Refusal → Type 0
@@ -266,6 +287,11 @@ IsUnmade source files file list b r =
 abbrev pub IsUnthreaded : Source → Files → Option (List ℕ) → Refusal → Type 0
 IsUnthreaded source files file r =
     IsRefusedInTurn kinds.Threads (λ p s k t r. IsNotThreaded p s k t.1 r) source files file r
+
+-- why not all runs are gone through under the header in a file
+abbrev pub IsUnexplored : Source → Files → Option (List ℕ) → Exploring → Refusal → Type 0
+IsUnexplored source files file e r =
+    IsRefusedInTurn kinds.Header (λ p s k _ r. IsNotExplored p s k e r) source files file r
 
 -- the first line at fault of a text that is to say omissions
 abbrev pub omission_fault : Fault
@@ -324,6 +350,8 @@ IsUnserved (Realise source header omissions) files r =
     IsUnrealised source files (files header.now) (files omissions.now) r
 IsUnserved (Rounds source header omissions told) files r =
     IsUnrealised source files (files header.now) (files omissions.now) r
+IsUnserved (Explore source header exploring) files r =
+    IsUnexplored source files (files header.now) exploring r
 
 -- the words are `threads`, and their run is one
 abbrev pub IsThreaded : Words → Files → Type 0

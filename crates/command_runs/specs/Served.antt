@@ -1,5 +1,7 @@
 -- What the program writes, as a relation of its words to the files on the desk.
-use Rattle.std.specs.Prelude.{◌≡◌, ◌++◌, ◌⊎◌, ℕ, Bool, List, Option, IfSome, codes, length, true}
+use Rattle.std.specs.Borrow.{Bor}
+use Rattle.std.specs.Prelude.{◌≡◌, ◌++◌, ◌⊎◌, ⊤, ℕ, Bool, List, None, Option, Some, IfSome}
+use Rattle.std.specs.Prelude.{codes, length, true}
 use Rattle.std.specs.Prelude.{if◌then◌else◌}
 use Rattle.std.specs.Fmt.{decimal}
 use Rattle.std.specs.Io.KnownBytes.{Appends}
@@ -16,12 +18,16 @@ use Rattle.command_runs.specs.declared.asking.Answer.{Answer}
 use Rattle.command_runs.specs.declared.asking.Answer.TheVariants as answer
 use Rattle.command_runs.specs.declared.asking.Question.{Question}
 use Rattle.command_runs.specs.declared.asking.Question.TheVariants as question
+use Rattle.command_runs.specs.declared.exploring.Found.{Found}
+use Rattle.command_runs.specs.declared.outcome.Outcome.{Outcome}
+use Rattle.command_runs.specs.declared.outcome.Outcome.TheVariants.{Done}
 use Rattle.command_runs.specs.declared.sources.Opened.{Opened}
 use Rattle.command_runs.specs.declared.sources.Opened.TheVariants as opened
 use Rattle.command_runs.specs.ByThreads.{IsThreadRun}
 use Rattle.command_runs.specs.Explained.{IsReportOf, IsVerdictOf}
 use Rattle.command_runs.specs.InLockstep.{IsLockstepText, IsWritten}
 use Rattle.command_runs.specs.InOmissions.{ShowsOmitting, realised_by}
+use Rattle.command_runs.specs.InRounds.{IsFound, ShowsFailure, outcome_of}
 use Rattle.command_runs.specs.Library.{Offers}
 use Rattle.command_runs.specs.Texts.{Files}
 use Rattle.schedule_text.specs.Bytes.{IsText}
@@ -29,11 +35,15 @@ use Rattle.clap.specs.Words.{IsAmong, fault_of}
 use Rattle.clap.specs.declared.error.ErrorKind.TheVariants as kind
 use Rattle.command_words.specs.Commands.{roundc_app}
 use Rattle.command_words.specs.Given.{Means}
+use Rattle.command_words.specs.declared.exploring.Exploring.{Exploring}
 use Rattle.command_words.specs.declared.values.Source.{Source}
 use Rattle.command_words.specs.declared.values.Source.TheVariants.{File, Library}
 use Rattle.command_words.specs.declared.words.Words.{Words}
-use Rattle.command_words.specs.declared.words.Words.TheVariants.{Check, Judge, Lockstep, Realise}
-use Rattle.command_words.specs.declared.words.Words.TheVariants.{Rounds, Run, Threads}
+use Rattle.command_words.specs.declared.words.Words.TheVariants.{Check, Explore, Judge, Lockstep}
+use Rattle.command_words.specs.declared.words.Words.TheVariants.{Realise, Rounds, Run, Threads}
+use Rattle.exploration_texts.specs.Lines.{answers_text}
+use Rattle.exploration_texts.specs.Told.{AreAnswers, all_hold}
+use Rattle.exploration_texts.specs.declared.told.Told.{Told}
 use Rattle.omission_explainer.specs.Decided.{decided_line, summary_of}
 use Rattle.omission_explainer.specs.Report.{report_text}
 use Rattle.omission_explainer.specs.Verdict.{verdict_text}
@@ -172,6 +182,28 @@ ReportsThreads source files file after report =
     × IsThreadRun (start_of k s.nodes) p s stops events report
     × IfSome after (λ held. IsWritten s k events held))
 
+-- what is found in all runs of the source's program, under the header in a file
+abbrev pub FindsIn : Source → Files → Option (List ℕ) → Exploring → Found → Type 0
+FindsIn source files file e found =
+    IfSome file (λ text. (s : Setup) × (k : PlanKind) × (p : ProgramTree) × IsHeader text s k
+    × IsProgramOf source files s.nodes s.faults p
+    × IsFound (receives_of k) (start_of k s.nodes) p s k e found)
+
+-- where a trace is asked for and a property fails, its file shows the first that does
+abbrev pub HasTrace :
+    Setup → PlanKind → Option (Bor (List ℕ)) → (after : Files) → List Told → Type 0
+HasTrace s k None after told = ⊤
+HasTrace s k (Some name) after told = (all_hold told ≡ true)
+    ⊎ IfSome (after name.now) (ShowsFailure (receives_of k) (start_of k s.nodes) s k told)
+
+-- this is told of all runs of the source's program, under the header in a file
+abbrev pub TellsOfAll :
+    Source → (files after : Files) → Option (List ℕ) → Exploring → List Told → Type 0
+TellsOfAll source files after file e told =
+    IfSome file (λ text. (s : Setup) × (k : PlanKind) × (p : ProgramTree) × IsHeader text s k
+    × IsProgramOf source files s.nodes s.faults p
+    × AreAnswers p s e told × HasTrace s k e.trace after told)
+
 -- the answer to a question on a run
 abbrev pub AnswersRun : Source → Files → Option (List ℕ) → Question → Answer → Type 0
 AnswersRun source files file (question.Report told) (answer.Report report shown) =
@@ -222,18 +254,34 @@ Prints (Rounds source header omissions told) files after text =
     (report : Report)
     × ReportsRounds source files (files header.now) (files omissions.now) report
     × (text ≡ told_text report told)
+Prints (Explore source header exploring) files after text =
+    (told : List Told) × TellsOfAll source files after (files header.now) exploring told
+    × (text ≡ answers_text told)
 
 -- `out` gained what the command prints
 abbrev pub Serves : Words → (files after : Files) → (old new : Option (List ℕ)) → Type 0
 Serves w files after old new = (text : List ℕ) × Prints w files after text × Appends old new text
 
--- the words mean a command, and it was served
+-- and it ends so: `explore` says by that whether each property holds
+abbrev pub Ends : Words → (files after : Files) → Outcome → (old new : Option (List ℕ)) → Type 0
+Ends (Explore source header exploring) files after o old new =
+    (told : List Told) × TellsOfAll source files after (files header.now) exploring told
+    × (o ≡ outcome_of told) × Appends old new (answers_text told)
+Ends w files after o old new = (o ≡ Done) × Serves w files after old new
+
+-- the words mean a command, and it was served and ended so
 abbrev pub IsServed :
-    List (List ℕ) → (files after : Files) → (old new : Option (List ℕ)) → Type 0
-IsServed words files after old new =
-    (w : Words) × Means words w × Serves w files after old new
+    List (List ℕ) → (files after : Files) → Outcome → (old new : Option (List ℕ)) → Type 0
+IsServed words files after o old new =
+    (w : Words) × Means words w × Ends w files after o old new
 
 -- `clap` finds in the words a call for help or for the version
 abbrev pub AsksForHelp : List (List ℕ) → Type 0
 AsksForHelp words = IsAmong kind.DisplayHelp (fault_of roundc_app words)
     ⊎ IsAmong kind.DisplayVersion (fault_of roundc_app words)
+
+-- the words were served and ended so, or ask for help or the version
+abbrev pub IsEnded :
+    List (List ℕ) → (files after : Files) → Outcome → (old new : Option (List ℕ)) → Type 0
+IsEnded words files after o old new =
+    IsServed words files after o old new ⊎ ((o ≡ Done) × AsksForHelp words)

@@ -1,5 +1,7 @@
 -- What the parts of a command answer, which proofs pass through.
-use Rattle.std.specs.Prelude.{◌≡◌, ◌<◌, ◌⊎◌, ⊤, ℕ, All, Bool, Err, List, [], Option, Some, length}
+use Rattle.std.specs.Borrow.{Bor}
+use Rattle.std.specs.Prelude.{◌≡◌, ◌<◌, ◌⊎◌, ◌++◌, ◌∷◌, ⊤, ℕ, All, Bool, Err, IfSome, List, []}
+use Rattle.std.specs.Prelude.{Option, Some, length}
 use Rattle.std.specs.Prelude.{true}
 use Rattle.std.specs.Io.KnownBytes.{Appends}
 use Rattle.std.specs.Str.{IsUtf8}
@@ -8,13 +10,14 @@ use Rattle.adversary.specs.Reading.{IsReadAs}
 use Rattle.adversary.specs.declared.fault.RunFault.TheVariants as run
 use Rattle.command_runs.specs.InLockstep.{AreTerms}
 use Rattle.command_runs.specs.InOmissions.{OmissionCause}
-use Rattle.command_runs.specs.Refused.{Fault, IsNoOffer, IsUnanswered, IsUnmade, IsUnthreaded}
+use Rattle.command_runs.specs.Refused.{Fault, IsExplorable, IsNoOffer, IsUnanswered, IsUnmade}
+use Rattle.command_runs.specs.Refused.{IsUnthreaded}
 use Rattle.command_runs.specs.Refused.{StartsThreads, fault_in, of_text, omission_fault}
 use Rattle.command_runs.specs.Served.{Answered, AnswersRun, MakesLockstep, ReportsThreads}
 use Rattle.command_runs.specs.Served.{answer_text, told_text}
 use Rattle.command_runs.specs.Texts.{Files}
 use Rattle.schedule_text.specs.Bytes.{BeginsUtf8}
-use Rattle.command_runs.specs.declared.asking.Answer.{Answer}
+use Rattle.command_runs.specs.declared.asking.Answer.{Answer as RunAnswer}
 use Rattle.command_runs.specs.declared.asking.Question.{Question}
 use Rattle.command_runs.specs.declared.asking.Question.TheVariants as question
 use Rattle.command_runs.specs.declared.refusal.Refusal.{Refusal}
@@ -23,7 +26,10 @@ use Rattle.command_runs.specs.declared.sources.Opened.{Opened}
 use Rattle.command_runs.specs.declared.sources.Opened.TheVariants as opened
 use Rattle.command_runs.specs.declared.texts.Text.{Text}
 use Rattle.command_runs.specs.declared.texts.Text.TheVariants as text
+use Rattle.command_words.specs.declared.exploring.Exploring.{Exploring}
 use Rattle.command_words.specs.declared.values.Source.{Source}
+use Rattle.exploration_texts.specs.Conditions.{IsFaultFor}
+use Rattle.exploration_texts.specs.declared.condition.ConditionFault.TheVariants as condition
 use Rattle.node_threads.specs.Ends.{IsFitForThreads}
 use Rattle.omission_texts.specs.Texts.{Says as SaysOmissions}
 use Rattle.omission_texts.specs.declared.line.OmissionLine.{OmissionLine}
@@ -154,7 +160,7 @@ IsToldAfter r refused told =
 
 -- the answer to a question on the run of the schedule that a reader was opened on
 abbrev pub IsAnswered : (start receives : ℕ → ℕ) → ProgramTree → Setup → Reading → Question
-    → Answer → Type 0
+    → RunAnswer → Type 0
 IsAnswered start receives p s r q a =
     (events : List Event) × IsReadAs s r events × Answered start receives p s events q a
 
@@ -162,7 +168,7 @@ IsAnswered start receives p s r q a =
 abbrev pub TellsAnswer : Source → Files → Option (List ℕ) → Question
     → Option (List ℕ) → Option (List ℕ) → Type 0
 TellsAnswer source files file q old new =
-    (a : Answer) × AnswersRun source files file q a × Appends old new (answer_text a)
+    (a : RunAnswer) × AnswersRun source files file q a × Appends old new (answer_text a)
 
 -- `out` gained the schedule of a run in lockstep
 abbrev pub TellsLockstep : Source → Files → Option (List ℕ) → List ℕ → Bounded → Option ℕ
@@ -183,6 +189,14 @@ IsNotMadeAs p s list b (refusal.Run run.BadSetup) = ¬ (AreTerms p s list b)
 IsNotMadeAs p s list b refusal.NoMemory = ⊤
 IsNotMadeAs p s list b _ = ⊥
 
+-- why not all runs are gone through under a plan
+abbrev pub IsNotExploredAs : ProgramTree → Setup → Exploring → Refusal → Type 0
+IsNotExploredAs p s e (refusal.Run run.BadSetup) = ¬ (IsExplorable p s e)
+IsNotExploredAs p s e (refusal.Condition condition.NoMemory) = ⊥
+IsNotExploredAs p s e (refusal.Condition fault) = IsExplorable p s e × IsFaultFor p e.always fault
+IsNotExploredAs p s e refusal.NoMemory = ⊤
+IsNotExploredAs p s e _ = ⊥
+
 -- why nothing is made of omissions under a plan
 abbrev pub IsNotRealisedAs : ProgramTree → Setup → List OmissionLine → Refusal → Type 0
 IsNotRealisedAs p s ls (refusal.Run run.NoMemory) = ⊥
@@ -192,7 +206,7 @@ IsNotRealisedAs p s ls _ = ⊥
 
 -- why an answer isn't told
 abbrev pub IsRefusedAnswer : Source → Files → Option (List ℕ) → Question → Refusal → Type 0
-IsRefusedAnswer source files file q refusal.Write = (a : Answer) × AnswersRun source files file q a
+IsRefusedAnswer source files file q refusal.Write = (a : RunAnswer) × AnswersRun source files file q a
 IsRefusedAnswer source files file q r = IsUnanswered source files file (listed_by q) r
 
 -- why there is no run by threads under a plan
@@ -215,3 +229,14 @@ abbrev pub IsRefusedThreads : Source → Files → Option (List ℕ) → Refusal
 IsRefusedThreads source files file refusal.Write = StartsThreads source files file
 IsRefusedThreads source files file refusal.NodeNoMemory = StartsThreads source files file
 IsRefusedThreads source files file r = IsUnthreaded source files file r
+
+-- the file has the text, where there are both
+abbrev pub HoldsText : (after : Files) → Option (Bor (List ℕ)) → Option (List ℕ) → Type 0
+HoldsText after (Some name) (Some text) = IfSome (after name.now) (λ held. held ≡ text)
+HoldsText after _ _ = ⊤
+
+-- and it alone was written
+abbrev pub WritesText :
+    Option (Bor (List ℕ)) → Option (List ℕ) → (old new : List (List ℕ)) → Type 0
+WritesText (Some name) (Some text) old new = new ≡ old ++ name.now ∷ []
+WritesText _ _ old new = new ≡ old

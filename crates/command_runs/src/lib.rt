@@ -4,11 +4,13 @@
 mod asking;
 mod desk;
 mod explained;
+mod exploring;
 mod laws;
 mod limits;
 mod lockstep;
 mod memory_desk;
 mod omitting;
+mod outcome;
 mod refusal;
 mod run;
 mod sources;

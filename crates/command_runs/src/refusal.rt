@@ -9,8 +9,9 @@ use crate::desk::DeskFault;
 use adversary::{ReadFault, RunFault, ScheduleFault};
 use algorithm_library::LibraryFault;
 use command_words::WordsFault;
+use exploration_texts::ConditionFault;
 use round_check::CheckFault;
-use round_lang::{LangFault, Span};
+use round_lang::{LangFault, NoMemory, Span};
 use schedule_text::TextFault;
 use std::error::Error;
 use std::io::Write;
@@ -25,6 +26,8 @@ pub enum Refusal {
     File,
     Source(LangFault),
     Check(CheckFault),
+    /// EXPR is no condition on the program's states.
+    Condition(ConditionFault),
     Schedule(ScheduleFault),
     Library(LibraryFault),
     /// The library has no program of the name.
@@ -67,6 +70,7 @@ impl fmt::Display for Refusal {
             Refusal::File => writeln!(f, "refused file"),
             Refusal::Source(fault) => write_source(*fault, f),
             Refusal::Check(fault) => write_check(*fault, f),
+            Refusal::Condition(fault) => writeln!(f, "refused always {fault}"),
             Refusal::Schedule(fault) => write_schedule(*fault, f),
             Refusal::Library(fault) => write_library(*fault, f),
             Refusal::NoSuchProgram => writeln!(f, "refused library 3"),
@@ -207,6 +211,31 @@ impl From<CheckFault> for Refusal {
             CheckFault::NoMemory => Refusal::NoMemory,
             fault => Refusal::Check(fault),
         }
+    }
+}
+
+impl From<ConditionFault> for Refusal {
+    ghost use Rattle.std.specs.Prelude.{◌≡◌};
+    ghost use Rattle.command_runs.specs.Refused.{of_condition};
+
+    ghost from_gives = { λ fault r. r ≡ of_condition fault };
+
+    fn from(fault: ConditionFault) -> Refusal {
+        match fault {
+            ConditionFault::NoMemory => Refusal::NoMemory,
+            fault => Refusal::Condition(fault),
+        }
+    }
+}
+
+impl From<NoMemory> for Refusal {
+    ghost use Rattle.std.specs.Prelude.{◌≡◌};
+    ghost use Rattle.command_runs.specs.declared.refusal.Refusal.TheVariants as refusal;
+
+    ghost from_gives = { λ _ r. r ≡ refusal.NoMemory };
+
+    fn from(_error: NoMemory) -> Refusal {
+        Refusal::NoMemory
     }
 }
 

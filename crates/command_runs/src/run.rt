@@ -1,23 +1,29 @@
 //! Running a command.
-ghost use Rattle.std.specs.Prelude.{◌≡◌, ◌<◌, ◌≤◌, ◌⊎◌, ◌++◌, ◌∷◌, [], IfErr, IfSome, IsOk};
-ghost use Rattle.std.specs.Prelude.{OnOk, map};
+ghost use Rattle.std.specs.Prelude.{◌≡◌, ◌<◌, ◌≤◌, ◌⊎◌, ◌++◌, ◌∷◌, [], IfErr, IfOk, IfSome, IsOk};
+ghost use Rattle.std.specs.Prelude.{OnOk, map, option_map, string_bytes};
 ghost use Rattle.std.specs.Io.KnownBytes.{Appends, Keeps};
-ghost use Rattle.command_runs.specs.Desks.{MayWrite, Writes, WroteAll, WroteAtMost, WroteFor};
+ghost use Rattle.command_runs.specs.Desks.{MayWrite, MayWriteTrace, Writes, WritesTrace, WroteAll};
+ghost use Rattle.command_runs.specs.Desks.{WroteAtMost, WroteFor};
+ghost use Rattle.command_runs.specs.InRounds.{code_of};
 ghost use Rattle.command_runs.specs.Refused.{IsCause, IsRefused, IsRefusedCommand, IsSilent};
-ghost use Rattle.command_runs.specs.Served.{AsksForHelp, IsServed, Serves, answer_text};
+ghost use Rattle.command_runs.specs.Served.{AsksForHelp, Ends, IsEnded, Serves, answer_text};
 ghost use Rattle.command_runs.specs.Served.{summary_text};
+ghost use Rattle.command_runs.specs.Stages.{HoldsText, WritesText};
 ghost use Rattle.command_runs.specs.Stages.{IsRefusedAnswer, IsRefusedLockstep, IsRefusedThreads};
 ghost use Rattle.command_runs.specs.Stages.{TellsAnswer, TellsLockstep, TellsThreads};
 
 use crate::asking::{Answer, Question, Run};
 use crate::desk::{Desk, DeskFault};
 use crate::explained::Terms;
+use crate::exploring::{Exploration, Found};
 use crate::lockstep::{Paced, Pacing};
 use crate::omitting::Omitting;
+use crate::outcome::Outcome;
 use crate::refusal::Refusal;
 use crate::sources::Opened;
 use crate::threads::{ThreadRun, Threaded};
 use command_words::{Source, Words, WordsFault, read_words};
+use exploration_texts::write_answers;
 use omission_explainer::{decided, write_report};
 use policies::{Bounded, Table};
 use round_check::Checked;
@@ -29,10 +35,11 @@ use std::thread::Threads;
 
 /// Runs the command that the words name, and answers the exit status: 0 done, 1 refused (the input,
 /// an output or a file that can't be written, or a thread that can't be started), 2 a bad command
-/// line, 3 no memory. A refusal is told on `err`, in one line, or for a bad command line in
-/// `clap`'s own text. Nothing is written to `out` then, but for two cases: where `out` fails it may
-/// have a part, and where the thread of a node had no memory it has the report of what was
-/// recorded. Where the words ask for help or the version, `out` gets that text.
+/// line, 3 no memory, 5 done, and a property that `explore` was asked about fails. A refusal is told
+/// on `err`, in one line, or for a bad command line in `clap`'s own text. Nothing is written to
+/// `out` then, but for two cases: where `out` fails it may have a part, and where the thread of a
+/// node had no memory it has the report of what was recorded. Where the words ask for help or the
+/// version, `out` gets that text.
 ///
 /// With `threads` it waits for its threads, and needn't return.
 pub fn run_words<'a, R: Threads + Wait + Sync, D: Desk, O: Write, E: Write>(
@@ -43,29 +50,31 @@ pub fn run_words<'a, R: Threads + Wait + Sync, D: Desk, O: Write, E: Write>(
     out: &mut O,
     err: &mut E,
 ) -> u8
-    ensures status { result ≤ 3 }
-    // Status 0: what `out` gained is what the words' command prints of the desk's files, as they
-    // were and as they are then, or the words ask for help or the version, of whose text nothing is
-    // said.
-    ensures served { result ≡ 0 → IsServed (map (λ s. s.now) words.entry.now) (D.files desk.old)
-        (D.files desk.new) (O.contents out.old) (O.contents out.new)
-        ⊎ AsksForHelp (map (λ s. s.now) words.entry.now) }
+    ensures status { (result ≤ 3) ⊎ (result ≡ 5) }
+    // Status 0 or 5: what `out` gained is what the words' command prints of the desk's files, as
+    // they were and as they are then, or the words ask for help or the version, of whose text
+    // nothing is said. It's 5 exactly where `explore` says `no` of a property.
+    ensures served { (o : Outcome) → result ≡ code_of o
+        → IsEnded (map (λ s. s.now) words.entry.now) (D.files desk.old)
+        (D.files desk.new) o (O.contents out.old) (O.contents out.new) }
     // Another status: a cause stands, and none that is told before it, and `out` gained nothing,
     // but where the thread of a node had no memory.
-    ensures refused { 0 < result → IsRefused (map (λ s. s.now) words.entry.now)
+    ensures refused { 0 < result → result ≤ 3 → IsRefused (map (λ s. s.now) words.entry.now)
         (D.files desk.old) result (O.contents out.old) (O.contents out.new) }
-    // No command writes a file, but for `threads` that of its trace.
+    // No command writes a file, but for `threads` and `explore` that of a trace.
     ensures written { WroteFor (map (λ s. s.now) words.entry.now)
         (D.written desk.old) (D.written desk.new) }
-    // With status 0 that file was written, once.
-    ensures traced { result ≡ 0 → WroteAll (map (λ s. s.now) words.entry.now)
-        (D.written desk.old) (D.written desk.new)
+    // With status 0 or 5 `threads` wrote that file, once, and so did `explore` if it was asked to
+    // and a property fails.
+    ensures traced { (o : Outcome) → result ≡ code_of o
+        → WroteAll (map (λ s. s.now) words.entry.now) o (D.written desk.old) (D.written desk.new)
         ⊎ AsksForHelp (map (λ s. s.now) words.entry.now) }
-    // With status 0 nothing was written to `err`.
-    ensures quiet { result ≡ 0 → Keeps (E.contents err.old) (E.contents err.new) }
+    // With status 0 or 5 nothing was written to `err`.
+    ensures quiet { (o : Outcome) → result ≡ code_of o
+        → Keeps (E.contents err.old) (E.contents err.new) }
 {
     match serve(rt, alloc, words, desk, out) {
-        Ok(()) => 0,
+        Ok(outcome) => outcome.status(),
         Err(refusal) => {
             // Where `err` fails too there is nobody left to tell.
             let _ = refusal.tell(err);
@@ -80,15 +89,14 @@ fn serve<'a, R: Threads + Wait + Sync, D: Desk, O: Write>(
     words: &'a [&'a str],
     desk: &mut D,
     out: &mut O,
-) -> Result<(), Refusal>
-    ensures served { OnOk result (IsServed (map (λ s. s.now) words.entry.now) (D.files desk.old)
-        (D.files desk.new) (O.contents out.old) (O.contents out.new)
-        ⊎ AsksForHelp (map (λ s. s.now) words.entry.now)) }
+) -> Result<Outcome, Refusal>
+    ensures served { IfOk result (λ o. IsEnded (map (λ s. s.now) words.entry.now)
+        (D.files desk.old) (D.files desk.new) o (O.contents out.old) (O.contents out.new)) }
     ensures refused { IfErr result (IsCause (map (λ s. s.now) words.entry.now) (D.files desk.old)) }
     ensures silent { IfErr result (IsSilent (O.contents out.old) (O.contents out.new)) }
     ensures written { WroteFor (map (λ s. s.now) words.entry.now)
         (D.written desk.old) (D.written desk.new) }
-    ensures traced { OnOk result (WroteAll (map (λ s. s.now) words.entry.now)
+    ensures traced { IfOk result (λ o. WroteAll (map (λ s. s.now) words.entry.now) o
         (D.written desk.old) (D.written desk.new)
         ⊎ AsksForHelp (map (λ s. s.now) words.entry.now)) }
 {
@@ -108,14 +116,14 @@ fn carry_out<'a, R: Threads + Wait + Sync, D: Desk, O: Write>(
     command: Words<'a>,
     desk: &mut D,
     out: &mut O,
-) -> Result<(), Refusal>
-    ensures served { OnOk result (Serves command.entry (D.files desk.old) (D.files desk.new)
+) -> Result<Outcome, Refusal>
+    ensures served { IfOk result (λ o. Ends command.entry (D.files desk.old) (D.files desk.new) o
         (O.contents out.old) (O.contents out.new)) }
     ensures refused { IfErr result (IsRefusedCommand command.entry (D.files desk.old)) }
     ensures silent { IfErr result (IsSilent (O.contents out.old) (O.contents out.new)) }
     ensures written { MayWrite command.entry (D.written desk.old) (D.written desk.new) }
-    ensures traced { OnOk result
-        (Writes command.entry (D.written desk.old) (D.written desk.new)) }
+    ensures traced { IfOk result (λ o.
+        Writes command.entry o (D.written desk.old) (D.written desk.new)) }
 {
     match command {
         Words::Check { source } => check_source(alloc, source, desk, out),
@@ -203,6 +211,18 @@ fn carry_out<'a, R: Threads + Wait + Sync, D: Desk, O: Write>(
             };
             run_rounds(alloc, omitting, decided, desk, out)
         }
+        Words::Explore {
+            source,
+            header,
+            exploring,
+        } => {
+            let exploration = Exploration {
+                source,
+                header,
+                exploring,
+            };
+            explore(alloc, exploration, desk, out)
+        }
     }
 }
 
@@ -213,7 +233,8 @@ fn check_source<'a, D: Desk, O: Write>(
     source: Source<'a>,
     desk: &mut D,
     out: &mut O,
-) -> Result<(), Refusal>
+) -> Result<Outcome, Refusal>
+    ensures done { IfOk result (λ o. o ≡ Outcome.Done) }
     ensures served { OnOk result (Serves (Words.Check source.entry) (D.files desk.old)
         (D.files desk.new) (O.contents out.old) (O.contents out.new)) }
     ensures refused { IfErr result
@@ -234,7 +255,8 @@ fn answer<'a, D: Desk, O: Write>(
     question: Question<'_>,
     desk: &mut D,
     out: &mut O,
-) -> Result<(), Refusal>
+) -> Result<Outcome, Refusal>
+    ensures done { IfOk result (λ o. o ≡ Outcome.Done) }
     ensures served { OnOk result (TellsAnswer run.entry.source (D.files desk.old)
         (D.files desk.old run.entry.schedule.now) question.entry
         (O.contents out.old) (O.contents out.new)) }
@@ -256,7 +278,8 @@ fn thread<'a, R: Threads + Wait + Sync, D: Desk, O: Write>(
     decided: bool,
     desk: &mut D,
     out: &mut O,
-) -> Result<(), Refusal>
+) -> Result<Outcome, Refusal>
+    ensures done { IfOk result (λ o. o ≡ Outcome.Done) }
     ensures served { OnOk result (TellsThreads threaded.entry.source (D.files desk.old)
         (D.files desk.old threaded.entry.setup.now) (D.files desk.new threaded.entry.trace.now)
         decided (O.contents out.old) (O.contents out.new)) }
@@ -277,7 +300,7 @@ fn thread<'a, R: Threads + Wait + Sync, D: Desk, O: Write>(
     let answer = Answer::Report { report, decided };
     written(write_answer(&answer, out), out)?;
     if whole {
-        Ok(())
+        Ok(Outcome::Done)
     } else {
         Err(Refusal::NodeNoMemory)
     }
@@ -305,7 +328,8 @@ fn pace<'a, D: Desk, O: Write>(
     pacing: Pacing<'_>,
     desk: &mut D,
     out: &mut O,
-) -> Result<(), Refusal>
+) -> Result<Outcome, Refusal>
+    ensures done { IfOk result (λ o. o ≡ Outcome.Done) }
     ensures served { OnOk result (TellsLockstep paced.entry.source (D.files desk.old)
         (D.files desk.old paced.entry.header.now) pacing.entry.correct.now
         pacing.entry.bounded.now pacing.entry.ticks (O.contents out.old) (O.contents out.new)) }
@@ -326,7 +350,8 @@ fn realise<'a, D: Desk, O: Write>(
     omitting: Omitting<'a>,
     desk: &mut D,
     out: &mut O,
-) -> Result<(), Refusal>
+) -> Result<Outcome, Refusal>
+    ensures done { IfOk result (λ o. o ≡ Outcome.Done) }
     ensures served { OnOk result (Serves
         (Words.Realise omitting.entry.source omitting.entry.header omitting.entry.omissions)
         (D.files desk.old) (D.files desk.new) (O.contents out.old) (O.contents out.new)) }
@@ -348,7 +373,8 @@ fn run_rounds<'a, D: Desk, O: Write>(
     decided: bool,
     desk: &mut D,
     out: &mut O,
-) -> Result<(), Refusal>
+) -> Result<Outcome, Refusal>
+    ensures done { IfOk result (λ o. o ≡ Outcome.Done) }
     ensures served { OnOk result (Serves
         (Words.Rounds omitting.entry.source omitting.entry.header omitting.entry.omissions decided)
         (D.files desk.old) (D.files desk.new) (O.contents out.old) (O.contents out.new)) }
@@ -361,6 +387,51 @@ fn run_rounds<'a, D: Desk, O: Write>(
     let report = omitting.report(alloc, desk)?;
     let told = Answer::Report { report, decided };
     written(write_answer(&told, out), out)
+}
+
+/// Tells what is found in all runs, and first writes the schedule that shows a property failing.
+#[tactic(auto, using(crate::proofs::Telling::silent_same))]
+fn explore<'a, D: Desk, O: Write>(
+    alloc: Global,
+    exploration: Exploration<'a>,
+    desk: &mut D,
+    out: &mut O,
+) -> Result<Outcome, Refusal>
+    ensures served { IfOk result (λ o. Ends (Words.Explore exploration.entry.source
+        exploration.entry.header exploration.entry.exploring)
+        (D.files desk.old) (D.files desk.new) o (O.contents out.old) (O.contents out.new)) }
+    ensures refused { IfErr result (IsRefusedCommand (Words.Explore exploration.entry.source
+        exploration.entry.header exploration.entry.exploring) (D.files desk.old)) }
+    ensures silent { IfErr result (IsSilent (O.contents out.old) (O.contents out.new)) }
+    ensures written { MayWriteTrace exploration.entry.exploring.trace
+        (D.written desk.old) (D.written desk.new) }
+    ensures traced { IfOk result (λ o. WritesTrace exploration.entry.exploring.trace o
+        (D.written desk.old) (D.written desk.new)) }
+{
+    let Found { told, trace } = exploration.find(alloc, desk)?;
+    write_shown(exploration.exploring.trace, &trace, desk)?;
+    written(write_answers(&told, out), out)?;
+    Ok(Outcome::of(&told))
+}
+
+/// Makes the text the whole file of the trace, where there are both.
+fn write_shown<D: Desk>(
+    name: Option<&str>,
+    text: &Option<String>,
+    desk: &mut D,
+) -> Result<(), Refusal>
+    ensures held { OnOk result (HoldsText (D.files desk.new) name.entry
+        (option_map (λ text. string_bytes text) text.now)) }
+    ensures refused { IfErr result (λ r. (r ≡ Refusal.Write) ⊎ (r ≡ Refusal.NoMemory)) }
+    ensures written { MayWriteTrace name.entry (D.written desk.old) (D.written desk.new) }
+    ensures traced { OnOk result (WritesText name.entry
+        (option_map (λ text. string_bytes text) text.now)
+        (D.written desk.old) (D.written desk.new)) }
+{
+    match (name, text) {
+        (Some(name), Some(text)) => write_trace(name, text.as_str(), desk),
+        _ => Ok(()),
+    }
 }
 
 /// What a program declares: the number of its values, its period and the number of its variables.
@@ -399,7 +470,8 @@ fn write_answer<O: Write>(answer: &Answer, out: &mut O) -> io::Result<()>
 }
 
 /// Whether all was written, with what the writer still held; `Write` where it wasn't.
-fn written<O: Write>(done: io::Result<()>, out: &mut O) -> Result<(), Refusal>
+fn written<O: Write>(done: io::Result<()>, out: &mut O) -> Result<Outcome, Refusal>
+    ensures outcome { IfOk result (λ o. o ≡ Outcome.Done) }
     ensures done { OnOk result (IsOk done) }
     ensures refused { IfErr result (λ r. r ≡ Refusal.Write) }
     ensures kept { OnOk result (Keeps (O.contents out.old) (O.contents out.new)) }
@@ -407,5 +479,5 @@ fn written<O: Write>(done: io::Result<()>, out: &mut O) -> Result<(), Refusal>
     if done.is_err() || out.flush().is_err() {
         return Err(Refusal::Write);
     }
-    Ok(())
+    Ok(Outcome::Done)
 }

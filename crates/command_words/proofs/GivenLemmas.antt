@@ -110,7 +110,10 @@ lack_explained words name rows (fault.Refused e) none is lack = absurd (elim lac
             | inl realise ↦ elim realise.1 [ inl source ↦ source | inr file ↦ elim file [ inl header ↦ header | inr omissions ↦ omissions ] ]
             | inr more ↦ elim more [
               | inl rounds ↦ elim rounds.1 [ inl source ↦ source | inr file ↦ elim file [ inl header ↦ header | inr omissions ↦ omissions ] ]
-              | inr other ↦ cc (other.1)
+              | inr more ↦ elim more [
+                | inl explore ↦ elim explore.1 [ inl source ↦ source | inr file ↦ elim file [ inl header ↦ header | inr exploring ↦ exploring ] ]
+                | inr other ↦ cc (other.1)
+              ]
             ]
           ]
         ]
@@ -124,6 +127,11 @@ lack_explained words name rows fault.List none is lack = inl (none, (name, rows,
 lack_explained words name rows fault.Delta none is lack = inl (none, (name, rows, is, lack))
 lack_explained words name rows fault.Gst none is lack = inl (none, (name, rows, is, lack))
 lack_explained words name rows fault.Ticks none is lack = inl (none, (name, rows, is, lack))
+lack_explained words name rows fault.Inputs none is lack = (none, (name, rows, is, lack))
+lack_explained words name rows fault.Faults none is lack = (none, (name, rows, is, lack))
+lack_explained words name rows fault.Clear none is lack = inl (none, (name, rows, is, lack))
+lack_explained words name rows fault.Hears none is lack = inl (none, (name, rows, is, lack))
+lack_explained words name rows fault.Checks none is lack = (none, (name, rows, is, lack))
 lack_explained words name rows fault.NoMemory none is lack = tt
 
 -- what the code makes of an error explains the refusal
@@ -138,6 +146,11 @@ mistake_explained words error fault.List kinds is = inr is
 mistake_explained words error fault.Delta kinds is = inr is
 mistake_explained words error fault.Gst kinds is = inr is
 mistake_explained words error fault.Ticks kinds is = inr is
+mistake_explained words error fault.Inputs kinds is = absurd is
+mistake_explained words error fault.Faults kinds is = absurd is
+mistake_explained words error fault.Clear kinds is = inr is
+mistake_explained words error fault.Hears kinds is = inr is
+mistake_explained words error fault.Checks kinds is = absurd is
 mistake_explained words error fault.NoMemory kinds is = tt
 
 or_else_right : (a b : Kinds) → or_else a b ≡ [] → b ≡ []

@@ -71,6 +71,24 @@ rounds_app =
     with_rule (with_rule (with_rule (with_rule (new_app (codes "rounds")) source_rule)
     (text_rule (codes "header"))) (text_rule (codes "omissions"))) decided_rule
 
+-- `explore SOURCE --header FILE`
+abbrev pub explore_by_header_app : App
+explore_by_header_app =
+    with_rule (with_rule (new_app (codes "explore")) source_rule) (text_rule (codes "header"))
+
+-- the same with `[--inputs INPUTS] [--faults FAULTS] [--clear C] [--hears M]`
+abbrev pub explore_some_runs_app : App
+explore_some_runs_app =
+    with_rule (with_rule (with_rule (with_rule explore_by_header_app
+    (optional_rule (codes "inputs"))) (optional_rule (codes "faults")))
+    (optional_rule (codes "clear"))) (optional_rule (codes "hears"))
+
+-- the same with `[--check LIST] [--always EXPR] [--trace FILE]`
+abbrev pub explore_app : App
+explore_app =
+    with_rule (with_rule (with_rule explore_some_runs_app (optional_rule (codes "check")))
+    (optional_rule (codes "always"))) (optional_rule (codes "trace"))
+
 -- the command line with no command in it yet; its version is that of each command
 abbrev pub bare_app : App
 bare_app = let new = new_app (codes "roundc") in record new {
@@ -85,8 +103,9 @@ bare_app = let new = new_app (codes "roundc") in record new {
 -- the whole command line
 abbrev pub roundc_app : App
 roundc_app = with_subcommand (with_subcommand (with_subcommand (with_subcommand (with_subcommand
-    (with_subcommand (with_subcommand bare_app check_app.top) run_app.top) threads_app.top)
-    judge_app.top) lockstep_app.top) realise_app.top) rounds_app.top
+    (with_subcommand (with_subcommand (with_subcommand bare_app check_app.top) run_app.top)
+    threads_app.top) judge_app.top) lockstep_app.top) realise_app.top) rounds_app.top)
+    explore_app.top
 
 -- what a parse reads of the command is this, and none of its arguments is global
 abbrev pub IsCommandOf : App → Command → Type 0

@@ -6,12 +6,13 @@ use Rattle.clap.specs.Words.{Row, Text, first_of, subcommand_of, fault_of, IsAmo
 use Rattle.clap.specs.declared.error.Error.{Error}
 use Rattle.clap.specs.declared.error.kind.ErrorKind.TheVariants.{OutOfMemory}
 use Rattle.command_words.specs.Commands.{roundc_app}
+use Rattle.command_words.specs.Exploring.{FailsByExploring, GivesExploring}
 use Rattle.command_words.specs.Values.{IsNoList, ListText, NumberText, SourceText, is_negative}
 use Rattle.command_words.specs.Values.{max_delta}
 use Rattle.command_words.specs.declared.values.Source.{Source}
 use Rattle.command_words.specs.declared.words.Words.{Words}
-use Rattle.command_words.specs.declared.words.Words.TheVariants.{Check, Judge, Lockstep, Realise}
-use Rattle.command_words.specs.declared.words.Words.TheVariants.{Rounds, Run, Threads}
+use Rattle.command_words.specs.declared.words.Words.TheVariants.{Check, Explore, Judge, Lockstep}
+use Rattle.command_words.specs.declared.words.Words.TheVariants.{Realise, Rounds, Run, Threads}
 use Rattle.command_words.specs.declared.words.WordsFault.{WordsFault}
 use Rattle.command_words.specs.declared.words.WordsFault.TheVariants.{Refused, Missing, NoMemory}
 use Rattle.command_words.specs.declared.words.WordsFault.TheVariants as fault
@@ -76,6 +77,9 @@ Gives name rows (Realise source header omissions) = (name ≡ codes "realise")
 Gives name rows (Rounds source header omissions decided) = (name ≡ codes "rounds")
     × GivesSource rows source × (first_of (codes "header") rows ≡ Some header.now)
     × (first_of (codes "omissions") rows ≡ Some omissions.now) × (IsTrue decided ↔ HasFlag rows)
+Gives name rows (Explore source header exploring) = (name ≡ codes "explore")
+    × GivesSource rows source × (first_of (codes "header") rows ≡ Some header.now)
+    × GivesExploring rows exploring
 
 -- the words name a command, and give it its values
 abbrev pub Means : List Text → Words → Type 0
@@ -163,6 +167,11 @@ abbrev pub FailsByOmissions : List Row → WordsFault → Type 0
 FailsByOmissions rows fault = FailsBySource rows fault
     ⊎ (FailsByFile (codes "header") rows fault ⊎ FailsByFile (codes "omissions") rows fault)
 
+-- the fault of a value of `explore`
+abbrev pub FailsByExplore : List Row → WordsFault → Type 0
+FailsByExplore rows fault = FailsBySource rows fault
+    ⊎ (FailsByFile (codes "header") rows fault ⊎ FailsByExploring rows fault)
+
 -- the fault of a command's values; a command of another name lacks all
 abbrev pub FailsByValue : Text → List Row → WordsFault → Type 0
 FailsByValue name rows fault =
@@ -173,9 +182,10 @@ FailsByValue name rows fault =
     ⊎ (((name ≡ codes "lockstep") × FailsByLockstep rows fault)
     ⊎ (((name ≡ codes "realise") × FailsByOmissions rows fault)
     ⊎ (((name ≡ codes "rounds") × FailsByOmissions rows fault)
+    ⊎ (((name ≡ codes "explore") × FailsByExplore rows fault)
     ⊎ (((name ≢ codes "check") × (name ≢ codes "run") × (name ≢ codes "threads")
     × (name ≢ codes "judge") × (name ≢ codes "lockstep") × (name ≢ codes "realise")
-    × (name ≢ codes "rounds")) × (fault ≡ Missing))))))))
+    × (name ≢ codes "rounds") × (name ≢ codes "explore")) × (fault ≡ Missing)))))))))
 
 -- `clap` finds no mistake in the words, and a value of the command that they name has the fault
 abbrev pub HasBadValue : List Text → WordsFault → Type 0
@@ -209,6 +219,8 @@ Explains words fault.List = HasBadValue words fault.List ⊎ (has_negative_list 
 Explains words fault.Delta = HasBadNumber (codes "--delta") words fault.Delta
 Explains words fault.Gst = HasBadNumber (codes "--gst") words fault.Gst
 Explains words fault.Ticks = HasBadNumber (codes "--ticks") words fault.Ticks
+Explains words fault.Clear = HasBadNumber (codes "--clear") words fault.Clear
+Explains words fault.Hears = HasBadNumber (codes "--hears") words fault.Hears
 Explains words NoMemory = ⊤
 Explains words fault = HasBadValue words fault
 
@@ -219,5 +231,7 @@ IsMistake words error fault.List = has_negative_list words ≡ true
 IsMistake words error fault.Delta = has_negative (codes "--delta") words ≡ true
 IsMistake words error fault.Gst = has_negative (codes "--gst") words ≡ true
 IsMistake words error fault.Ticks = has_negative (codes "--ticks") words ≡ true
+IsMistake words error fault.Clear = has_negative (codes "--clear") words ≡ true
+IsMistake words error fault.Hears = has_negative (codes "--hears") words ≡ true
 IsMistake words error NoMemory = kind_of error ≡ OutOfMemory
 IsMistake words error _ = ⊥

@@ -2,6 +2,8 @@
 ghost use Rattle.std.specs.Prelude.{◌≡◌, IfOk, codes, false};
 ghost use Rattle.clap.specs.Words.{rule_of};
 ghost use Rattle.command_words.specs.Commands.{IsCommandOf, bare_app, check_app, decided_rule};
+ghost use Rattle.command_words.specs.Commands.{explore_app, explore_by_header_app};
+ghost use Rattle.command_words.specs.Commands.{explore_some_runs_app};
 ghost use Rattle.command_words.specs.Commands.{judge_app, lockstep_app, optional_rule};
 ghost use Rattle.command_words.specs.Commands.{realise_app, required_lockstep_app, roundc_app};
 ghost use Rattle.command_words.specs.Commands.{rounds_app, run_app, source_rule, text_rule};
@@ -250,6 +252,72 @@ fn rounds_command<'a>(alloc: Global) -> Result<Command<'a>, AllocError>
         .arg(decided_arg(alloc))
 }
 
+/// `explore SOURCE --header FILE`.
+fn explore_by_header<'a>(alloc: Global) -> Result<Command<'a>, AllocError>
+    ensures { IfOk result (IsCommandOf explore_by_header_app) }
+{
+    Command::new(alloc, "explore")
+        .about("Says whether properties hold of all runs in rounds")
+        .arg(source_arg(alloc))?
+        .arg(header_arg(alloc))
+}
+
+/// The same with the options that say of which runs.
+fn explore_some_runs<'a>(alloc: Global) -> Result<Command<'a>, AllocError>
+    ensures { IfOk result (IsCommandOf explore_some_runs_app) }
+{
+    explore_by_header(alloc)?
+        .arg(optional_arg(
+            alloc,
+            "inputs",
+            "INPUTS",
+            "header, whose inputs are asked about by default, or any",
+        ))?
+        .arg(optional_arg(
+            alloc,
+            "faults",
+            "FAULTS",
+            "How nodes fail: none (by default), omission or crash",
+        ))?
+        .arg(optional_arg(
+            alloc,
+            "clear",
+            "C",
+            "The round from which on the network omits nothing; by default there is none",
+        ))?
+        .arg(optional_arg(
+            alloc,
+            "hears",
+            "M",
+            "How many nodes each node hears in each round at least; 0 by default",
+        ))
+}
+
+/// The same with the options that say what is asked, and where a run is written.
+fn explore_command<'a>(alloc: Global) -> Result<Command<'a>, AllocError>
+    ensures { IfOk result (IsCommandOf explore_app) }
+{
+    explore_some_runs(alloc)?
+        .arg(optional_arg(
+            alloc,
+            "check",
+            "LIST",
+            "Of agreement, validity, final and termination; by default the first three",
+        ))?
+        .arg(optional_arg(
+            alloc,
+            "always",
+            "EXPR",
+            "What is to be true of each node's state after each round",
+        ))?
+        .arg(optional_arg(
+            alloc,
+            "trace",
+            "FILE",
+            "The file that a run's schedule is written to if a property fails",
+        ))
+}
+
 /// The command line with no command in it yet.
 fn bare_command<'a>(alloc: Global) -> Result<Command<'a>, AllocError>
     ensures { IfOk result (IsCommandOf bare_app) }
@@ -276,5 +344,6 @@ pub(crate) fn roundc_command<'a>(alloc: Global) -> Result<Command<'a>, AllocErro
         .subcommand(judge_command(alloc)?)?
         .subcommand(lockstep_command(alloc)?)?
         .subcommand(realise_command(alloc)?)?
-        .subcommand(rounds_command(alloc)?)
+        .subcommand(rounds_command(alloc)?)?
+        .subcommand(explore_command(alloc)?)
 }

@@ -9,16 +9,22 @@
 //!     [--orders LIST] [--ticks T]
 //! roundc realise SOURCE --header FILE --omissions FILE
 //! roundc rounds SOURCE --header FILE --omissions FILE [--decided]
+//! roundc explore SOURCE --header FILE [--inputs INPUTS] [--faults FAULTS] [--clear C]
+//!     [--hears M] [--check LIST] [--always EXPR] [--trace FILE]
 //! ```
 //!
 //! SOURCE is a file's name, or `@NAME:VALUES`, a program of the library. FILE is a file's name, or
 //! `-` for standard input: what `-` means is left to the caller, who opens the file. LIST is
-//! numbers with commas, D a number of 1 to 1,024, G and T are numbers of 32 bits.
+//! numbers with commas, or for `--check` names of properties. INPUTS are `header` or `any`, FAULTS
+//! `none`, `omission` or `crash`. D is a number of 1 to 1,024, and C, G, M and T are numbers of 32
+//! bits, C of 1 on. EXPR is any text.
 #![tactic(auto)]
 
 mod commands;
+mod exploring;
 mod values;
 mod words;
 
+pub use exploring::{Checks, Exploring, FaultChoice, InputChoice};
 pub use values::Source;
 pub use words::{Words, WordsFault, read_words};

@@ -3,7 +3,8 @@ ghost use Rattle.std.specs.Prelude.{◌≡◌, ◌≢◌, ◌⊎◌, ◌↔◌, 
 ghost use Rattle.std.specs.Prelude.{codes, map, option_map};
 ghost use Rattle.clap.specs.Words.{fault_of, first_of, found_of, kind_of, rows_of};
 ghost use Rattle.command_words.specs.Commands.{roundc_app};
-ghost use Rattle.command_words.specs.Given.{Explains, FailsByDelta, FailsByFile, FailsByGst};
+ghost use Rattle.command_words.specs.Given.{Explains, FailsByDelta, FailsByExplore};
+ghost use Rattle.command_words.specs.Given.{FailsByFile, FailsByGst};
 ghost use Rattle.command_words.specs.Given.{FailsByJudge, FailsByList, FailsByLockstep};
 ghost use Rattle.command_words.specs.Given.{FailsByOmissions};
 ghost use Rattle.command_words.specs.Given.{FailsBySource, FailsByTable, FailsByThreads};
@@ -16,6 +17,7 @@ ghost use Rattle.command_words.specs.Values.{is_negative};
 ghost use Rattle.command_words.specs.declared.words.WordsFault.TheVariants.{NoMemory};
 
 use crate::commands::roundc_command;
+use crate::exploring::{Exploring, exploring_of};
 use crate::values::{MAX_DELTA, Source, read_list, read_number, read_source};
 use clap::ArgMatches;
 use clap::error::ErrorKind;
@@ -80,6 +82,14 @@ pub enum Words<'a> {
         omissions: &'a str,
         decided: bool,
     },
+    /// `explore SOURCE --header FILE [--inputs INPUTS] [--faults FAULTS] [--clear C] [--hears M]
+    /// [--check LIST] [--always EXPR] [--trace FILE]`; `header` is FILE as it was written, `-`
+    /// included.
+    Explore {
+        source: Source<'a>,
+        header: &'a str,
+        exploring: Exploring<'a>,
+    },
 }
 
 /// Why the words give no command.
@@ -102,6 +112,16 @@ pub enum WordsFault {
     Gst,
     /// A T that isn't a number of 32 bits, also one below 0.
     Ticks,
+    /// INPUTS that aren't `header` or `any`.
+    Inputs,
+    /// FAULTS that aren't `none`, `omission` or `crash`.
+    Faults,
+    /// A C that isn't a number of 1 to the largest of 32 bits, also one below 0.
+    Clear,
+    /// An M that isn't a number of 32 bits, also one below 0.
+    Hears,
+    /// A LIST of `--check` that isn't one or more names of properties with commas between them.
+    Checks,
     /// Memory ran out. Nothing is known of the words.
     NoMemory,
 }
@@ -128,6 +148,17 @@ impl fmt::Display for WordsFault {
             WordsFault::Delta => writeln!(f, "error: D is a number of 1 to 1024"),
             WordsFault::Gst => writeln!(f, "error: G is a number of 0 to 4294967295"),
             WordsFault::Ticks => writeln!(f, "error: T is a number of 0 to 4294967295"),
+            WordsFault::Inputs => writeln!(f, "error: INPUTS is `header` or `any`"),
+            WordsFault::Faults => { writeln!(f, "error: FAULTS is `none`, `omission` or `crash`") }
+            WordsFault::Clear => writeln!(f, "error: C is a number of 1 to 4294967295"),
+            WordsFault::Hears => writeln!(f, "error: M is a number of 0 to 4294967295"),
+            WordsFault::Checks => {
+                writeln!(
+                    f,
+                    "error: LIST is `agreement`, `validity`, `final` or `termination` with commas \
+                     between them"
+                )
+            }
             WordsFault::NoMemory => writeln!(f, "no memory"),
         }
     }
@@ -200,6 +231,8 @@ fn refusal(error: clap::Error, words: &[&str]) -> WordsFault
         _ if has_negative("--delta", words) => WordsFault::Delta,
         _ if has_negative("--gst", words) => WordsFault::Gst,
         _ if has_negative("--ticks", words) => WordsFault::Ticks,
+        _ if has_negative("--clear", words) => WordsFault::Clear,
+        _ if has_negative("--hears", words) => WordsFault::Hears,
         _ => WordsFault::Refused(error),
     }
 }
@@ -232,7 +265,7 @@ fn omissions_of<'a>(matches: &ArgMatches<'a>) -> Result<&'a str, WordsFault>
 }
 
 /// The value of an argument that may be left out.
-fn optional_text<'a>(matches: &ArgMatches<'a>, id: &str) -> Option<&'a str>
+pub(crate) fn optional_text<'a>(matches: &ArgMatches<'a>, id: &str) -> Option<&'a str>
     ensures { first_of id.now (rows_of (found_of matches.now)) ≡ option_map (λ t. t.now) result }
 {
     matches.get_str(id)
@@ -384,6 +417,18 @@ fn rounds_of<'a>(matches: &ArgMatches<'a>) -> Result<Words<'a>, WordsFault>
     })
 }
 
+/// The values of the command `explore`.
+fn explore_of<'a>(matches: &ArgMatches<'a>) -> Result<Words<'a>, WordsFault>
+    ensures ok { IfOk result (Gives (codes "explore") (rows_of (found_of matches.now))) }
+    ensures err { IfErr result (FailsByExplore (rows_of (found_of matches.now))) }
+{
+    Ok(Words::Explore {
+        source: source_of(matches)?,
+        header: header_of(matches)?,
+        exploring: exploring_of(matches)?,
+    })
+}
+
 /// The values of the command `name`.
 fn command_of<'a>(
     alloc: Global,
@@ -407,6 +452,7 @@ fn command_of<'a>(
         "lockstep" => lockstep_of(alloc, matches),
         "realise" => realise_of(matches),
         "rounds" => rounds_of(matches),
+        "explore" => explore_of(matches),
         _ => Err(WordsFault::Missing),
     }
 }

@@ -10,4 +10,5 @@ returns c =
     let fourth = subcommand_added _ _ _ _ _ c.in_ok-subcommand-4.ensures third c.in_ok-judge_command.ensures in
     let fifth = subcommand_added _ _ _ _ _ c.in_ok-subcommand-5.ensures fourth c.in_ok-lockstep_command.ensures in
     let sixth = subcommand_added _ _ _ _ _ c.in_ok-subcommand-6.ensures fifth c.in_ok-realise_command.ensures in
-    IfOk-weaker c.subcommand-7.result _ _ (λ r h. subcommand_added _ _ _ _ _ h sixth c.in_ok-rounds_command.ensures) c.subcommand-7.ensures
+    let seventh = subcommand_added _ _ _ _ _ c.in_ok-subcommand-7.ensures sixth c.in_ok-rounds_command.ensures in
+    IfOk-weaker c.subcommand-8.result _ _ (λ r h. subcommand_added _ _ _ _ _ h seventh c.in_ok-explore_command.ensures) c.subcommand-8.ensures

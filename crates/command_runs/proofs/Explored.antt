@@ -1,0 +1,181 @@
+-- From what going through all runs answers to what the command does.
+use Rattle.std.proofs.Common.{◌≡◌, ◌∙◌, ◌⊎◌, ◌++◌, ◌∷◌, ◌<◌, ◌≤◌, ◌+◌, ◌&&◌, inl, inr, ℕ, Bool}
+use Rattle.std.proofs.Common.{Bor, List, [], Option, Some, None, Result, Ok, Err, ap, arith, false}
+use Rattle.std.proofs.Common.{get_or, length, map, option_map, refl, subst, sym, true}
+use Rattle.std.specs.Prelude.{IfErr, IfOk, IfSome, OnOk, if◌then◌else◌, slice_index, string_bytes}
+use Rattle.std.specs.Fmt.{decimal}
+use Rattle.std.specs.Io.KnownBytes.{Appends}
+use Rattle.std.specs.List.{range_with_len}
+use Rattle.std.specs.Str.Lines.{lines}
+use Rattle.std.proofs.lemmas.List.FromFn.{get_or-map-range_with_len}
+use Rattle.command_runs.specs.Desks.{WritesTrace}
+use Rattle.command_runs.specs.InRounds.{IsFound, IsShown, IsTrace, ShowsFailure, outcome_of}
+use Rattle.command_runs.specs.InRounds.{shown_by}
+use Rattle.command_runs.specs.Refused.{IsExplorable, IsNotExplored, IsPlan, IsRefusedCommand}
+use Rattle.command_runs.specs.Refused.{IsUnexplored, of_condition}
+use Rattle.command_runs.specs.Served.{FindsIn, HasTrace, IsHeader, IsProgramOf, TellsOfAll}
+use Rattle.command_runs.specs.Served.{receives_of, start_of}
+use Rattle.command_runs.specs.Stages.{HoldsText, IsNotExploredAs, WritesText}
+use Rattle.command_runs.specs.Texts.{Files}
+use Rattle.command_runs.specs.declared.exploring.Found.{Found}
+use Rattle.command_runs.specs.declared.outcome.Outcome.TheVariants.{Done, No}
+use Rattle.command_runs.specs.declared.refusal.Refusal.{Refusal}
+use Rattle.command_runs.specs.declared.refusal.Refusal.TheVariants as refusal
+use Rattle.command_runs.proofs.Omitted.{unserved}
+use Rattle.command_runs.proofs.Telling.{last_nodes, last_write, not_in_turn}
+use Rattle.command_words.specs.declared.exploring.Exploring.{Exploring}
+use Rattle.command_words.specs.declared.values.Source.{Source}
+use Rattle.command_words.specs.declared.words.Words.TheVariants as words
+use Rattle.adversary.specs.declared.fault.RunFault.TheVariants as run
+use Rattle.exploration_texts.specs.Conditions.{IsFaultFor}
+use Rattle.exploration_texts.specs.Lines.{answers_text, comment_text}
+use Rattle.exploration_texts.specs.Stops.{steps_of}
+use Rattle.exploration_texts.specs.Told.{AreAnswers, IsFirstNo, all_hold}
+use Rattle.exploration_texts.specs.declared.condition.ConditionFault.{ConditionFault}
+use Rattle.exploration_texts.specs.declared.condition.ConditionFault.TheVariants as condition
+use Rattle.exploration_texts.specs.declared.told.PropertyName.{PropertyName}
+use Rattle.exploration_texts.specs.declared.told.PropertyName.TheVariants as names
+use Rattle.exploration_texts.specs.declared.told.Told.{Told}
+use Rattle.exploration_texts.proofs.Showing.{first_no}
+use Rattle.omission_schedules.specs.Schedules.{schedule_with_stops}
+use Rattle.omission_schedules.proofs.Same.{schedule_same}
+use Rattle.round_explorer.specs.Answers.{with_inputs}
+use Rattle.round_explorer.specs.declared.answer.Counterexample.{Counterexample}
+use Rattle.round_explorer.specs.declared.question.Failure.{Failure}
+use Rattle.round_lang.specs.Syntax.{ProgramTree}
+use Rattle.round_meaning.specs.Omissions.{is_omitted}
+use Rattle.round_meaning.specs.declared.omissions.Omission.{Omission}
+use Rattle.round_meaning.specs.declared.setup.Setup.{Setup}
+use Rattle.schedule_text.specs.Texts.{Says, counts, max_text}
+use Rattle.schedule_text.specs.Writing.{text_of}
+use Rattle.schedule_text.proofs.Split.{is_plain, lines-first, plain-append}
+use Rattle.schedule_text.specs.declared.kind.Kind.TheVariants as kinds
+use Rattle.slot_plans.specs.Plan.{IsDelta, IsNodeCount}
+use Rattle.slot_plans.specs.declared.kind.PlanKind.{PlanKind}
+use Rattle.slot_plans.specs.declared.kind.PlanKind.TheVariants.{Growing, Known}
+use Rattle.step_machine.specs.declared.event.Event.{Event}
+
+-- ---- why not
+
+-- what the answers refuse
+pub no_answers : (p : ProgramTree) (s : Setup) (e : Exploring) (f : ConditionFault)
+    → IsExplorable p s e → IsFaultFor p e.always f → IsNotExploredAs p s e (of_condition f)
+no_answers p s e (condition.Source f) can h = (can, h)
+no_answers p s e (condition.Check f) can h = (can, h)
+no_answers p s e condition.NoMemory can h = tt
+
+-- under a plan within its limits
+pub not_explored : (p : ProgramTree) (s : Setup) (k : PlanKind) (e : Exploring) (r : Refusal)
+    → IsPlan k → IsNotExploredAs p s e r → IsNotExplored p s k e r
+not_explored p s k e (refusal.Run run.BadSetup) plan none = λ both. none both.0
+not_explored p s k e (refusal.Run (run.UnknownNode n)) plan none = none
+not_explored p s k e (refusal.Run (run.UnknownMessage n)) plan none = none
+not_explored p s k e (refusal.Run run.NoMemory) plan none = none
+not_explored p s k e (refusal.Run run.NoThread) plan none = none
+not_explored p s k e (refusal.Run run.Unmatched) plan none = none
+not_explored p s k e (refusal.Condition (condition.Source f)) plan none = (none.0, plan, none.1)
+not_explored p s k e (refusal.Condition (condition.Check f)) plan none = (none.0, plan, none.1)
+not_explored p s k e (refusal.Condition condition.NoMemory) plan none = none
+not_explored p s k e refusal.NoMemory plan none = tt
+not_explored p s k e (refusal.Words fault) plan none = none
+not_explored p s k e refusal.File plan none = none
+not_explored p s k e (refusal.Source fault) plan none = none
+not_explored p s k e (refusal.Check fault) plan none = none
+not_explored p s k e (refusal.Schedule fault) plan none = none
+not_explored p s k e (refusal.Library fault) plan none = none
+not_explored p s k e refusal.NoSuchProgram plan none = none
+not_explored p s k e refusal.Write plan none = none
+not_explored p s k e refusal.NodeNoMemory plan none = none
+
+-- where there is no plan, a number is past its limits
+pub no_known_search : (p : ProgramTree) (s : Setup) (delta : ℕ) (e : Exploring)
+    → ¬ (IsNodeCount s.nodes × IsDelta delta) → ¬ (IsExplorable p s e × IsPlan (Known delta))
+no_known_search p s delta e none is =
+    none ((is.0.0.sized.some_node, is.0.0.sized.few_nodes), is.1)
+
+pub no_growing_search : (p : ProgramTree) (s : Setup) (e : Exploring) → ¬ (IsNodeCount s.nodes)
+    → ¬ (IsExplorable p s e × IsPlan Growing)
+no_growing_search p s e none is = none (is.0.0.sized.some_node, is.0.0.sized.few_nodes)
+
+-- ---- the schedule that shows a failure
+
+module _ (receives start : ℕ → ℕ) (s : Setup) (c : Counterexample) (nodes : ℕ) (stops : List ℕ)
+    (sized : nodes ≡ s.nodes)
+    (stop : stops ≡ map (steps_of nodes start s.rounds c.failures.items)
+    (range_with_len 0 s.nodes)) where
+  stops_so : (i : ℕ) → i < s.nodes
+      → slice_index stops i ≡ steps_of s.nodes start s.rounds c.failures.items i
+  stops_so i l =
+      ap (λ xs. slice_index xs i) stop
+      ∙ get_or-map-range_with_len (steps_of nodes start s.rounds c.failures.items) 0 s.nodes i i 0 l
+      (omega arith) ∙ ap (λ n. steps_of n start s.rounds c.failures.items i) sized
+
+  pub shown_so : schedule_with_stops s.nodes receives start (slice_index stops)
+      (is_omitted c.omissions) s.rounds ≡ shown_by receives start s c
+  shown_so =
+      schedule_same s.nodes s.rounds start (slice_index stops)
+      (steps_of s.nodes start s.rounds c.failures.items) (is_omitted c.omissions)
+      (is_omitted c.omissions) stops_so (λ i r j a b low high. refl) receives
+
+-- a comment before a text changes nothing of what it says
+pub says_behind : (comment text whole : List ℕ) (s : Setup) (k : PlanKind) (events : List Event)
+    → is_plain comment ≡ true → counts comment ≡ false → whole ≡ comment ++ 10 ∷ text
+    → (length text ≤ max_text → Says text s k events) → length whole ≤ max_text
+    → Says whole s k events
+says_behind comment text whole s k events plain none made says short = ?
+
+-- ---- what is told
+
+module _ (source : Source) (files : Files) (p : ProgramTree) (s : Setup) (k : PlanKind)
+    (e : Exploring) (found : Found) where
+  -- what is found under a header that was read is found in its file
+  pub finds_in : (file : Option (List ℕ)) → IsProgramOf source files s.nodes s.faults p
+      → IfSome file (λ text. IsHeader text s k)
+      → IsFound (receives_of k) (start_of k s.nodes) p s k e found
+      → FindsIn source files file e found
+  finds_in None is read h = tt
+  finds_in (Some text) is read h = (s, k, p, read, is, h)
+
+-- a trace that was written is in its file
+has_trace : (s : Setup) (k : PlanKind) (name : Option (Bor (List ℕ))) (after : Files)
+    (told : List Told) (trace : Option (List ℕ)) → HoldsText after name trace
+    → IsTrace (receives_of k) (start_of k s.nodes) s k name told trace
+    → HasTrace s k name after told
+has_trace s k None after told trace holds is = tt
+has_trace s k (Some name) after told None holds is = inl is
+has_trace s k (Some name) after told (Some text) holds is = inr (go (after name.now) holds)
+  where
+    go : (held : Option (List ℕ)) → IfSome held (λ bytes. bytes ≡ text)
+        → IfSome held (ShowsFailure (receives_of k) (start_of k s.nodes) s k told)
+    go None same = tt
+    go (Some bytes) same =
+        subst (ShowsFailure (receives_of k) (start_of k s.nodes) s k told) (sym same) is
+
+text_of_trace : Found → Option (List ℕ)
+text_of_trace found = option_map (λ text. string_bytes text) found.trace
+
+module _ (source : Source) (files : Files) (e : Exploring) (found : Found) where
+  pub tells_of_all : (file : Option (List ℕ)) (after : Files)
+      → HoldsText after e.trace (text_of_trace found) → FindsIn source files file e found
+      → TellsOfAll source files after file e found.told.items
+  tells_of_all None after holds h = tt
+  tells_of_all (Some text) after holds (s, k, p, read, is, h) = (
+    s,
+    k,
+    p,
+    read,
+    is,
+    h.answers,
+    has_trace s k e.trace after found.told.items (text_of_trace found) holds h.trace,
+  )
+
+  -- also where nothing is known of the files after it
+  pub tells_at_first : (file : Option (List ℕ)) → FindsIn source files file e found
+      → TellsOfAll source files (λ name. None) file e found.told.items
+  tells_at_first file h = tells_of_all file (λ name. None) (nothing e.trace _) h
+    where
+      nothing : (name : Option (Bor (List ℕ))) (text : Option (List ℕ))
+          → HoldsText (λ name. None) name text
+      nothing None text = tt
+      nothing (Some name) None = tt
+      nothing (Some name) (Some text) = tt

@@ -1,0 +1,70 @@
+-- What is found in all runs in rounds, and how a command ends that was carried out.
+use Rattle.std.specs.Borrow.{Bor}
+use Rattle.std.specs.Prelude.{◌≡◌, ◌++◌, ◌∷◌, ◌≤◌, ℕ, List, None, Option, Some, length, true}
+use Rattle.std.specs.Prelude.{if◌then◌else◌, option_map, string_bytes}
+use Rattle.command_runs.specs.declared.exploring.Found.{Found}
+use Rattle.command_runs.specs.declared.outcome.Outcome.{Outcome}
+use Rattle.command_runs.specs.declared.outcome.Outcome.TheVariants.{Done, No}
+use Rattle.command_words.specs.declared.exploring.Exploring.{Exploring}
+use Rattle.exploration_texts.specs.Lines.{comment_text}
+use Rattle.exploration_texts.specs.Stops.{steps_of}
+use Rattle.exploration_texts.specs.Told.{AreAnswers, IsFirstNo, all_hold}
+use Rattle.exploration_texts.specs.declared.told.PropertyName.{PropertyName}
+use Rattle.exploration_texts.specs.declared.told.Told.{Told}
+use Rattle.omission_schedules.specs.Schedules.{schedule_with_stops}
+use Rattle.round_explorer.specs.Answers.{with_inputs}
+use Rattle.round_explorer.specs.declared.answer.Counterexample.{Counterexample}
+use Rattle.round_lang.specs.Syntax.{ProgramTree}
+use Rattle.round_meaning.specs.Omissions.{is_omitted}
+use Rattle.round_meaning.specs.declared.setup.Setup.{Setup}
+use Rattle.schedule_text.specs.Texts.{Says, max_text}
+use Rattle.schedule_text.specs.Writing.{text_of}
+use Rattle.slot_plans.specs.declared.kind.PlanKind.{PlanKind}
+use Rattle.step_machine.specs.declared.event.Event.{Event}
+
+-- the schedule that goes round by round, omits what this run does, and in which nodes that crash
+-- stop
+abbrev pub shown_by : (receives start : ℕ → ℕ) → Setup → Counterexample → List Event
+shown_by receives start s c =
+    schedule_with_stops s.nodes receives start
+    (steps_of s.nodes start s.rounds c.failures.items) (is_omitted c.omissions) s.rounds
+
+-- the text is that of this schedule, behind a comment that says which property fails in which
+-- round, and is read as the schedule where it isn't too long
+pub record IsShown (receives start : ℕ → ℕ) (s : Setup) (k : PlanKind) (name : PropertyName)
+    (c : Counterexample) (text : List ℕ) : Type 0 where
+  pub spelled : text ≡ comment_text name c.round
+      ++ 10 ∷ text_of (with_inputs s c.inputs) k (shown_by receives start s c)
+  pub read_back : length text ≤ max_text
+      → Says text (with_inputs s c.inputs) k (shown_by receives start s c)
+
+-- the text shows the first property that fails
+abbrev pub ShowsFailure :
+    (receives start : ℕ → ℕ) → Setup → PlanKind → List Told → (text : List ℕ) → Type 0
+ShowsFailure receives start s k told text =
+    (name : PropertyName) × (c : Counterexample) × IsFirstNo told name c
+    × IsShown receives start s k name c text
+
+-- the trace, where one is asked for: there is none if each property holds
+abbrev pub IsTrace : (receives start : ℕ → ℕ) → Setup → PlanKind → Option (Bor (List ℕ))
+    → List Told → (trace : Option (List ℕ)) → Type 0
+IsTrace receives start s k None told trace = trace ≡ None
+IsTrace receives start s k (Some name) told None = all_hold told ≡ true
+IsTrace receives start s k (Some name) told (Some text) =
+    ShowsFailure receives start s k told text
+
+-- what the options ask is told, and this is the trace
+pub record IsFound (receives start : ℕ → ℕ) (p : ProgramTree) (s : Setup) (k : PlanKind)
+    (e : Exploring) (found : Found) : Type 0 where
+  pub answers : AreAnswers p s e found.told.items
+  pub trace : IsTrace receives start s k e.trace found.told.items
+      (option_map (λ text. string_bytes text) found.trace)
+
+-- how `explore` ends that tells this
+abbrev pub outcome_of : List Told → Outcome
+outcome_of told = if all_hold told then Done else No
+
+-- the exit status
+abbrev pub code_of : Outcome → ℕ
+code_of Done = 0
+code_of No = 5

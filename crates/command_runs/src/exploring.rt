@@ -1,0 +1,161 @@
+//! What is found by going through all runs in rounds.
+ghost use Rattle.std.specs.Prelude.{◌≡◌, ◌↔◌, All, IfErr, IfNone, IfOk, IfSome, IsTrue};
+ghost use Rattle.std.specs.Prelude.{string_bytes, true};
+ghost use Rattle.command_runs.specs.InRounds.{IsFound, IsShown, ShowsFailure};
+ghost use Rattle.command_runs.specs.Refused.{IsExplorable, IsNotExplored, IsUnexplored};
+ghost use Rattle.command_runs.specs.Served.{FindsIn, receives_of, start_of};
+ghost use Rattle.command_runs.specs.Stages.{IsNotExploredAs};
+ghost use Rattle.exploration_texts.specs.Stops.{IsShowable, IsToldToShow};
+ghost use Rattle.exploration_texts.specs.Told.{all_hold};
+ghost use Rattle.round_meaning.specs.Setups.{IsSetup};
+
+use crate::desk::Desk;
+use crate::lockstep::header_in;
+use crate::refusal::Refusal;
+use crate::sources::Opened;
+use adversary::RunFault;
+use command_words::{Exploring, Source};
+use exploration_texts::{Failed, Told, answer_all, commented, first_failure, stops_of};
+use omission_schedules::schedule_with_stops;
+use round_check::Checked;
+use round_lang::NoMemory;
+use round_meaning::Setup;
+use schedule_text::write_stored_schedule;
+use slot_plans::{Growing, Known, Plan, PlanKind};
+use std::alloc::Global;
+
+/// A source, the file of a header, and what is asked of all runs.
+#[derive(Clone, Copy)]
+pub struct Exploration<'a> {
+    pub source: Source<'a>,
+    pub header: &'a str,
+    pub exploring: Exploring<'a>,
+}
+
+/// What is told of the properties, and where a trace is asked for and one fails, the schedule that
+/// shows the first that does.
+#[derive(Drop)]
+pub struct Found {
+    pub told: Vec<Told>,
+    pub trace: Option<String>,
+}
+
+impl<'a> Exploration<'a> {
+    /// Goes through all runs.
+    pub fn find<D: Desk>(&self, alloc: Global, desk: &mut D) -> Result<Found, Refusal>
+        ensures found { IfOk result (FindsIn self.now.source (D.files desk.old)
+            (D.files desk.old self.now.header.now) self.now.exploring) }
+        ensures refused { IfErr result (IsUnexplored self.now.source (D.files desk.old)
+            (D.files desk.old self.now.header.now) self.now.exploring) }
+        ensures written { D.written desk.new ≡ D.written desk.old }
+    {
+        let opened = Opened::open(alloc, self.source, desk)?;
+        let (setup, plan) = header_in(alloc, self.header, desk)?;
+        let program = opened.program(alloc, setup.nodes, setup.faults)?;
+        found_by(alloc, &program, &setup, plan, &self.exploring)
+    }
+}
+
+/// What is found under a plan of this name.
+fn found_by(
+    alloc: Global,
+    program: &Checked,
+    setup: &Setup,
+    kind: PlanKind,
+    exploring: &Exploring<'_>,
+) -> Result<Found, Refusal>
+    ensures found { IfOk result (IsFound (receives_of kind) (start_of kind setup.now.nodes)
+        program.now setup.now kind exploring.now) }
+    ensures refused { IfErr result (IsNotExplored program.now setup.now kind exploring.now) }
+{
+    match kind {
+        PlanKind::Known(delta) => match Known::new(setup.nodes, delta) {
+            Some(plan) => found_under(alloc, program, setup, kind, plan, exploring),
+            None => Err(Refusal::Run(RunFault::BadSetup)),
+        },
+        PlanKind::Growing => match Growing::new(setup.nodes) {
+            Some(plan) => found_under(alloc, program, setup, kind, plan, exploring),
+            None => Err(Refusal::Run(RunFault::BadSetup)),
+        },
+    }
+}
+
+fn found_under<P: Plan>(
+    alloc: Global,
+    program: &Checked,
+    setup: &Setup,
+    kind: PlanKind,
+    plan: P,
+    exploring: &Exploring<'_>,
+) -> Result<Found, Refusal>
+    requires { P.nodes plan ≡ setup.now.nodes }
+    ensures found { IfOk result (IsFound (P.receives plan) (P.start plan) program.now setup.now kind
+        exploring.now) }
+    ensures refused { IfErr result (IsNotExploredAs program.now setup.now exploring.now) }
+{
+    if !is_explorable(program, setup, exploring) {
+        return Err(Refusal::Run(RunFault::BadSetup));
+    }
+    let told = answer_all(alloc, program, setup, exploring)?;
+    let trace = match exploring.trace {
+        Some(_) => trace_of(alloc, setup, kind, plan, &told)?,
+        None => None,
+    };
+    Ok(Found { told, trace })
+}
+
+/// Whether the numbers are within their limits.
+fn is_explorable(program: &Checked, setup: &Setup, exploring: &Exploring<'_>) -> bool
+    ensures { IsTrue result ↔ IsExplorable program.now setup.now exploring.now }
+{
+    setup.is_lawful(program) && exploring.hears <= setup.nodes
+}
+
+/// The schedule that shows the first property that fails.
+fn trace_of<P: Plan>(
+    alloc: Global,
+    setup: &Setup,
+    kind: PlanKind,
+    plan: P,
+    told: &[Told],
+) -> Result<Option<String>, NoMemory>
+    requires nodes { P.nodes plan ≡ setup.now.nodes }
+    requires setup { IsSetup setup.now }
+    requires showable { All (IsToldToShow setup.now) told.now }
+    ensures none { IfOk result (λ trace. IfNone trace (all_hold told.now ≡ true)) }
+    ensures some { IfOk result (λ trace. IfSome trace (λ text. ShowsFailure (P.receives plan)
+        (P.start plan) setup.now kind told.now (string_bytes text))) }
+{
+    match first_failure(told) {
+        None => Ok(None),
+        Some(failed) => Ok(Some(shown(alloc, setup, kind, plan, failed)?)),
+    }
+}
+
+/// The schedule that shows a property failing: it goes round by round, omits what the run does in
+/// which it fails, and in it nodes that crash stop.
+fn shown<P: Plan>(
+    alloc: Global,
+    setup: &Setup,
+    kind: PlanKind,
+    plan: P,
+    failed: Failed<'_>,
+) -> Result<String, NoMemory>
+    requires nodes { P.nodes plan ≡ setup.now.nodes }
+    requires setup { IsSetup setup.now }
+    requires showable { IsShowable setup.now failed.entry.found.now }
+    ensures { IfOk result (λ text. IsShown (P.receives plan) (P.start plan) setup.now kind
+        failed.entry.name failed.entry.found.now (string_bytes text)) }
+{
+    let found = failed.found;
+    let setup = Setup {
+        nodes: setup.nodes,
+        faults: setup.faults,
+        inputs: found.inputs.copy()?,
+        rounds: setup.rounds,
+    };
+    let stops = stops_of(alloc, &setup, &found.failures, plan)?;
+    let events = schedule_with_stops(alloc, &setup, plan, &found.omissions, &stops)?;
+    let schedule = write_stored_schedule(alloc, &setup, kind, &events)?;
+    commented(alloc, failed.name, found.round, schedule.as_str())
+}

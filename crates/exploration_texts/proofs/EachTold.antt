@@ -1,0 +1,104 @@
+-- The answers of all properties, one after another.
+use Rattle.std.proofs.Common.{◌≡◌, ◌∙◌, ◌++◌, ◌∷◌, [], All, Bool, List, None, Option, Some, Bor}
+use Rattle.std.proofs.Common.{ap, false, map, refl, subst, sym, true}
+use Rattle.std.specs.Prelude.{is_some, option_map}
+use Rattle.std.proofs.lemmas.List.{append-nil}
+use Rattle.std.proofs.lemmas.List.Elements.{All-append, All-cons, All-nil}
+use Rattle.command_words.specs.declared.exploring.Checks.{Checks}
+use Rattle.command_words.specs.declared.exploring.Exploring.{Exploring}
+use Rattle.exploration_texts.specs.Asking.{inputs_of, question_of}
+use Rattle.exploration_texts.specs.Conditions.{IsConditionFor}
+use Rattle.exploration_texts.specs.Told.{Adds, AddsAlways, AddsAnswer, AreAnswers, AreAnswersOf}
+use Rattle.exploration_texts.specs.Told.{IsNamed, IsRightOf, asked, name_of}
+use Rattle.exploration_texts.specs.declared.answering.Search.{Search}
+use Rattle.exploration_texts.specs.declared.told.PropertyName.{PropertyName}
+use Rattle.exploration_texts.specs.declared.told.PropertyName.TheVariants as kinds
+use Rattle.exploration_texts.specs.declared.told.Told.{Told}
+use Rattle.round_explorer.specs.declared.property.Property.{Property}
+use Rattle.round_explorer.specs.declared.property.Property.TheVariants.{Always}
+use Rattle.round_lang.specs.Syntax.{ProgramTree}
+use Rattle.round_lang.specs.Tree.{Tree}
+use Rattle.round_meaning.specs.declared.setup.Setup.{Setup}
+
+-- so far these are asked, and the answers are right
+pub record AreTold (w : Search) (condition : Option Tree) (names : List PropertyName)
+    (told : List Told) : Type 0 where
+  pub named : map (λ t. t.name) told ≡ names
+  pub right :
+      All (IsRightOf w.program.now w.setup.now w.question w.inputs condition) told
+
+names_more : (told : List Told) (one : Told)
+    → map (λ t. t.name) (told ++ one ∷ []) ≡ map (λ t. t.name) told ++ one.name ∷ []
+names_more [] one = refl
+names_more (t ∷ ts) one = ap (λ ns. t.name ∷ ns) (names_more ts one)
+
+module _ (w : Search) (condition : Option Tree) where
+  abbrev IsRightHere : Told → Type 0
+  IsRightHere = IsRightOf w.program.now w.setup.now w.question w.inputs condition
+
+  pub none_told : (told : List Told) → told ≡ [] → AreTold w condition [] told
+  none_told told e = record {
+    named = ap (map (λ t. t.name)) e;
+    right = subst (All IsRightHere) (sym e) (All-nil IsRightHere);
+  }
+
+  pub one_told : (names : List PropertyName) (x : Property) (old new : List Told)
+      → IsNamed condition (name_of x) x → AreTold w condition names old → AddsAnswer w x old new
+      → AreTold w condition (names ++ name_of x ∷ []) new
+  one_told names x old new is h (answer, made, right) =
+      let one : Told = record { name = name_of x; answer = answer } in
+      record {
+        named = ap (map (λ t. t.name)) made ∙ names_more old one
+            ∙ ap (λ ns. ns ++ name_of x ∷ []) h.named;
+        right = subst (All IsRightHere) (sym made) (All-append IsRightHere old (one ∷ []) h.right
+            (All-cons IsRightHere one [] (x, is, right) (All-nil IsRightHere)));
+      }
+
+  none_added : (names : List PropertyName) (old new : List Told) → AreTold w condition names old
+      → new ≡ old → AreTold w condition (names ++ []) new
+  none_added names old new h same =
+      subst (λ ns. AreTold w condition ns new) (sym (append-nil names))
+      (subst (AreTold w condition names) (sym same) h)
+
+  pub told_if : (names : List PropertyName) (b : Bool) (x : Property) (old new : List Told)
+      → IsNamed condition (name_of x) x → AreTold w condition names old → Adds w b x old new
+      → AreTold w condition (names ++ asked b (name_of x)) new
+  told_if names true x old new is h added = one_told names x old new is h added
+  told_if names false x old new is h same = none_added names old new h same
+
+-- and that of a condition
+pub told_always : (w : Search) (always : Option (Bor Tree)) (names : List PropertyName)
+    (old new : List Told) → AreTold w (option_map (λ f. f.now) always) names old
+    → AddsAlways w always old new → AreTold w (option_map (λ f. f.now) always)
+    (names ++ asked (is_some (option_map (λ f. f.now) always)) kinds.Always) new
+told_always w (Some f) names old new h added =
+    one_told w (Some f.now) names (Always f) old new refl h added
+told_always w None names old new h same = none_added w None names old new h same
+
+-- what is asked of a search is told
+pub all_told : (w : Search) (c : Checks) (condition : Option Tree) (told : List Told)
+    → AreTold w condition ((((asked c.agreement kinds.Agreement
+    ++ asked c.validity kinds.Validity) ++ asked c.finality kinds.Final)
+    ++ asked c.termination kinds.Termination) ++ asked (is_some condition) kinds.Always) told
+    → AreAnswersOf w c condition told
+all_told w c condition told h = record {
+  names = h.named;
+  right = h.right;
+}
+
+-- what is told of a search is told of what the options ask
+pub answers_asked : (w : Search) (p : ProgramTree) (s : Setup) (e : Exploring)
+    (condition : Option Tree) (told : List Told) → w.program.now ≡ p → w.setup.now ≡ s
+    → w.question ≡ question_of e → w.inputs ≡ inputs_of e.inputs
+    → IsConditionFor p e.always condition → AreAnswersOf w e.checks condition told
+    → AreAnswers p s e told
+answers_asked w p s e condition told same_p same_s same_q same_i is h = record {
+  condition = condition;
+  is_condition = is;
+  names = h.names;
+  right = subst (λ x. All (IsRightOf x s (question_of e) (inputs_of e.inputs) condition) told)
+      same_p (subst (λ x. All (IsRightOf w.program.now x (question_of e) (inputs_of e.inputs)
+      condition) told) same_s (subst (λ x. All (IsRightOf w.program.now w.setup.now x
+      (inputs_of e.inputs) condition) told) same_q (subst (λ x. All (IsRightOf w.program.now
+      w.setup.now w.question x condition) told) same_i h.right)));
+}

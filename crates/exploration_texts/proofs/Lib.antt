@@ -1,0 +1,5 @@
+pub mod EachTold
+pub mod Refusing
+pub mod Showing
+pub mod Stopping
+pub mod Writing

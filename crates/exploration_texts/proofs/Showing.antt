@@ -1,0 +1,90 @@
+-- That a schedule can show each run that is told of.
+use Rattle.std.proofs.Common.{◌≡◌, ◌∙◌, ◌⊎◌, ◌+◌, ◌<◌, ◌≤◌, ◌∷◌, [], ℕ, All, List, Option, ap, arith}
+use Rattle.std.proofs.Common.{false, get_or, inl, inr, length, refl, subst, suc, sym, true}
+use Rattle.std.proofs.lemmas.Bool.{cases_lt}
+use Rattle.std.proofs.lemmas.List.{get_or_past}
+use Rattle.std.proofs.lemmas.List.Elements.{All-cons, All-nil}
+use Rattle.command_words.specs.declared.exploring.Exploring.{Exploring}
+use Rattle.exploration_texts.specs.Asking.{inputs_of, question_of}
+use Rattle.exploration_texts.specs.Stops.{AreWithin, CanBeShown, IsShowable, IsToldToShow}
+use Rattle.exploration_texts.specs.Told.{AreAnswers, IsFirstNo, IsRightOf, all_hold, holds}
+use Rattle.exploration_texts.specs.declared.told.PropertyName.{PropertyName}
+use Rattle.exploration_texts.specs.declared.told.Told.{Told}
+use Rattle.round_explorer.specs.Answers.{IsRight}
+use Rattle.round_explorer.specs.Questions.{AreAsked, IsOfKind, IsPattern, failure_of}
+use Rattle.round_explorer.specs.declared.answer.Answer.{Answer}
+use Rattle.round_explorer.specs.declared.answer.Answer.TheVariants.{Fails, Holds}
+use Rattle.round_explorer.specs.declared.answer.Counterexample.{Counterexample}
+use Rattle.round_explorer.specs.declared.property.Property.{Property}
+use Rattle.round_explorer.specs.declared.question.AskedInputs.{AskedInputs}
+use Rattle.round_explorer.specs.declared.question.AskedInputs.TheVariants.{Any, Header}
+use Rattle.round_explorer.specs.declared.question.Failure.{Failure}
+use Rattle.round_explorer.specs.declared.question.Failure.TheVariants.{Crashes, Never}
+use Rattle.round_explorer.specs.declared.question.FaultKind.{FaultKind}
+use Rattle.round_explorer.specs.declared.question.FaultKind.TheVariants.{Crash, Nobody, Omission}
+use Rattle.round_explorer.specs.declared.question.Question.{Question}
+use Rattle.round_lang.specs.Syntax.{ProgramTree}
+use Rattle.round_lang.specs.Tree.{Tree}
+use Rattle.round_meaning.specs.Setups.{IsSetup}
+use Rattle.round_meaning.specs.declared.setup.Setup.{Setup}
+
+crash_within : (kind : FaultKind) (rounds c : ℕ) → IsOfKind kind rounds (Crashes c)
+    → (1 ≤ c) × (c ≤ rounds)
+crash_within Nobody rounds c h = absurd h
+crash_within Omission rounds c h = absurd h
+crash_within Crash rounds c h = h
+
+within_one : (kind : FaultKind) (rounds : ℕ) (f : Failure) (c : ℕ) → IsOfKind kind rounds f
+    → f ≡ Crashes c → (1 ≤ c) × (c ≤ rounds)
+within_one kind rounds f c h same = crash_within kind rounds c (subst (IsOfKind kind rounds) same h)
+
+never_crashes : {A : Type 0} {c : ℕ} → Never ≡ Crashes c → A
+never_crashes same = absurd (cc same)
+
+pub all_within : (kind : FaultKind) (rounds : ℕ) (pattern : List Failure)
+    → All (IsOfKind kind rounds) pattern → AreWithin rounds pattern
+all_within kind rounds pattern all i c same = elim (cases_lt i (length pattern)) [
+  | inl lt ↦ within_one kind rounds (failure_of pattern i) c (all i Never lt) same
+  | inr past ↦ never_crashes (sym (get_or_past pattern i Never past) ∙ same)
+]
+
+inputs_many : (values : ℕ) (s : Setup) (asked : AskedInputs) (inputs : List ℕ) → IsSetup s
+    → AreAsked values s asked inputs → length inputs ≡ s.nodes
+inputs_many values s Header inputs sized h = ap length h ∙ sized.inputs
+inputs_many values s Any inputs sized h = h.0
+
+module _ (p : ProgramTree) (s : Setup) (sized : IsSetup s) (question : Question)
+    (asked : AskedInputs) where
+  right_shown : (x : Property) (a : Answer) → IsRight p s question asked x a → CanBeShown s a
+  right_shown x Holds h = tt
+  right_shown x (Fails c) h = record {
+    inputs = inputs_many p.values s asked c.inputs sized h.is_asked.are_asked;
+    within = all_within question.faults s.rounds c.failures.items h.is_asked.is_pattern.kinds;
+  }
+
+  told_shown : (condition : Option Tree) (t : Told)
+      → IsRightOf p s question asked condition t → IsToldToShow s t
+  told_shown condition t (x, named, right) = right_shown x t.answer right
+
+-- all answers can be shown
+pub answers_shown : (p : ProgramTree) (s : Setup) (e : Exploring) (told : List Told) → IsSetup s
+    → AreAnswers p s e told → All (IsToldToShow s) told
+answers_shown p s e told sized h k d lt =
+    told_shown p s sized (question_of e) (inputs_of e.inputs) h.condition (get_or told k d)
+    (h.right k d lt)
+
+-- and the first that fails is one of them
+pub first_shown : (s : Setup) (told : List Told) (name : PropertyName) (c : Counterexample)
+    → All (IsToldToShow s) told → IsFirstNo told name c → IsShowable s c
+first_shown s [] name c all h = absurd h
+first_shown s (t ∷ ts) name c all (inl same) =
+    subst (IsToldToShow s) same (all 0 t (omega arith))
+first_shown s (t ∷ ts) name c all (inr (held, later)) =
+    first_shown s ts name c (λ k d lt. all (suc k) d (omega (arith, lt))) later
+
+-- where one fails, not all hold
+pub first_no : (told : List Told) (name : PropertyName) (c : Counterexample)
+    → IsFirstNo told name c → all_hold told ≡ false
+first_no [] name c h = absurd h
+first_no (t ∷ ts) name c (inl same) = rw same refl
+first_no (t ∷ ts) name c (inr (held, later)) = rw held (first_no ts name c later)

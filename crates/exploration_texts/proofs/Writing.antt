@@ -1,0 +1,45 @@
+-- The lines of answers, one after another.
+use Rattle.std.proofs.Common.{◌≡◌, ◌∙◌, ◌+◌, ◌<◌, ◌≤◌, ◌++◌, ◌∷◌, [], ℕ, List, None, Option, Some}
+use Rattle.std.proofs.Common.{ap, append_assoc, get_or, length, sym, take}
+use Rattle.std.specs.Io.KnownBytes.{Appends}
+use Rattle.std.proofs.lemmas.List.{append-nil, take_all, take_more}
+use Rattle.exploration_texts.specs.Lines.{answers_text, told_line}
+use Rattle.exploration_texts.specs.declared.told.Told.{Told}
+
+pub none_written : (a : Option (List ℕ)) → Appends a a []
+none_written None = tt
+none_written (Some xs) = sym (append-nil xs)
+
+both_written : (a b c : Option (List ℕ)) (x y : List ℕ) → Appends a b x → Appends b c y
+    → Appends a c (x ++ y)
+both_written None b c x y h k = tt
+both_written (Some xs) None c x y h k = absurd h
+both_written (Some xs) (Some ys) None x y h k = absurd k
+both_written (Some xs) (Some ys) (Some zs) x y h k =
+    k ∙ ap (λ l. l ++ y) h ∙ append_assoc xs x y
+
+as_written : (a b : Option (List ℕ)) (x y : List ℕ) → x ≡ y → Appends a b x → Appends a b y
+as_written a b x y same h = rw (← same) h
+
+lines_more : (told : List Told) (one : Told)
+    → answers_text (told ++ one ∷ []) ≡ answers_text told ++ told_line one
+lines_more [] one = append-nil (told_line one)
+lines_more (t ∷ ts) one =
+    ap (λ l. told_line t ++ l) (lines_more ts one)
+    ∙ sym (append_assoc (told_line t) (answers_text ts) (told_line one))
+
+pub one_written : (a b c : Option (List ℕ)) (told : List Told) (i : ℕ) (one : Told)
+    → i < length told → one ≡ get_or told i one → Appends a b (answers_text (take i told))
+    → Appends b c (told_line one) → Appends a c (answers_text (take (i + 1) told))
+one_written a b c told i one lt is h k =
+    as_written a c (answers_text (take i told) ++ told_line one)
+    (answers_text (take (i + 1) told))
+    (sym (ap answers_text (take_more told i one lt ∙ ap (λ y. take i told ++ y ∷ []) (sym is))
+    ∙ lines_more (take i told) one))
+    (both_written a b c (answers_text (take i told)) (told_line one) h k)
+
+pub all_written : (a b : Option (List ℕ)) (told : List Told) (i : ℕ) → length told ≤ i
+    → Appends a b (answers_text (take i told)) → Appends a b (answers_text told)
+all_written a b told i all h =
+    as_written a b (answers_text (take i told)) (answers_text told)
+    (ap answers_text (take_all i told all)) h

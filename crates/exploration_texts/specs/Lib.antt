@@ -1,0 +1,5 @@
+pub mod Asking
+pub mod Conditions
+pub mod Told
+pub mod Lines
+pub mod Stops

@@ -1,0 +1,71 @@
+-- The lines of `explore`.
+use Rattle.std.specs.Prelude.{ℕ, ◌++◌, List, codes}
+use Rattle.std.specs.Fmt.{decimal}
+use Rattle.std.specs.List.{flat_map}
+use Rattle.exploration_texts.specs.declared.condition.ConditionFault.{ConditionFault}
+use Rattle.exploration_texts.specs.declared.condition.ConditionFault.TheVariants as fault
+use Rattle.exploration_texts.specs.declared.told.PropertyName.{PropertyName}
+use Rattle.exploration_texts.specs.declared.told.PropertyName.TheVariants as names
+use Rattle.exploration_texts.specs.declared.told.Told.{Told}
+use Rattle.round_check.specs.declared.fault.CheckFault.{CheckFault}
+use Rattle.round_check.specs.declared.fault.CheckFault.TheVariants as check
+use Rattle.round_explorer.specs.declared.answer.Answer.{Answer}
+use Rattle.round_explorer.specs.declared.answer.Answer.TheVariants.{Fails, Holds}
+use Rattle.round_lang.specs.declared.fault.LangFault.{LangFault}
+use Rattle.round_lang.specs.declared.fault.LangFault.TheVariants as lang
+
+abbrev pub name_text : PropertyName → List ℕ
+name_text names.Agreement = codes "agreement"
+name_text names.Validity = codes "validity"
+name_text names.Final = codes "final"
+name_text names.Termination = codes "termination"
+name_text names.Always = codes "always"
+
+abbrev pub answer_text : Answer → List ℕ
+answer_text Holds = codes " yes"
+answer_text (Fails c) = codes " no in round " ++ decimal c.round
+
+-- the property and its answer
+abbrev pub told_text : Told → List ℕ
+told_text t = name_text t.name ++ answer_text t.answer
+
+abbrev pub told_line : Told → List ℕ
+told_line t = told_text t ++ codes "\n"
+
+-- a line for each property
+abbrev pub answers_text : List Told → List ℕ
+answers_text told = flat_map told_line told
+
+-- the comment of a schedule that shows a property failing
+abbrev pub comment_text : PropertyName → (round : ℕ) → List ℕ
+comment_text name round =
+    codes "# " ++ name_text name ++ codes " fails in round " ++ decimal round
+
+-- a text that is no expression, with the place of what is wrong
+abbrev pub source_text : LangFault → List ℕ
+source_text (lang.BadToken span) =
+    codes "source 1 at " ++ decimal span.first ++ codes " " ++ decimal span.after
+source_text (lang.Unexpected span) =
+    codes "source 2 at " ++ decimal span.first ++ codes " " ++ decimal span.after
+source_text lang.TooDeep = codes "source 3"
+source_text lang.TooLong = codes "source 4"
+source_text (lang.LimitPassed span) =
+    codes "source 5 at " ++ decimal span.first ++ codes " " ++ decimal span.after
+source_text lang.NoMemory = codes "no memory"
+
+-- the causes of an expression that is no condition, by their numbers
+abbrev pub check_text : CheckFault → List ℕ
+check_text check.UnknownName = codes "check 1"
+check_text check.DoubleName = codes "check 2"
+check_text check.WrongType = codes "check 3"
+check_text check.FieldCount = codes "check 4"
+check_text check.NotAllowedHere = codes "check 5"
+check_text check.NoInput = codes "check 6"
+check_text check.NoDecision = codes "check 7"
+check_text check.MissingRound = codes "check 8"
+check_text check.NoMemory = codes "no memory"
+
+abbrev pub condition_text : ConditionFault → List ℕ
+condition_text (fault.Source e) = source_text e
+condition_text (fault.Check e) = check_text e
+condition_text fault.NoMemory = codes "no memory"

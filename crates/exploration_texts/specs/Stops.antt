@@ -1,0 +1,40 @@
+-- How many steps each node takes in a run with failures.
+use Rattle.std.specs.Prelude.{◌≡◌, ◌+◌, ◌≤◌, ⊤, ℕ, List, length}
+use Rattle.exploration_texts.specs.declared.told.Told.{Told}
+use Rattle.round_explorer.specs.Questions.{failure_of}
+use Rattle.round_explorer.specs.declared.answer.Answer.{Answer}
+use Rattle.round_explorer.specs.declared.answer.Answer.TheVariants.{Fails, Holds}
+use Rattle.round_explorer.specs.declared.answer.Counterexample.{Counterexample}
+use Rattle.round_explorer.specs.declared.question.Failure.{Failure}
+use Rattle.round_explorer.specs.declared.question.Failure.TheVariants.{Crashes, Never, Omits}
+use Rattle.round_meaning.specs.declared.setup.Setup.{Setup}
+
+-- how many steps a node with this failure takes, where a round is so many sends, and begins at this
+-- step: all of the run; or where it crashes in a round, those before that round and the sends of it
+abbrev pub steps_with : (nodes : ℕ) → (start : ℕ → ℕ) → (rounds : ℕ) → Failure → ℕ
+steps_with nodes start rounds Never = start (rounds + 1)
+steps_with nodes start rounds Omits = start (rounds + 1)
+steps_with nodes start rounds (Crashes c) = start c + nodes
+
+-- the same of node i, where a pattern has the failures
+abbrev pub steps_of : (nodes : ℕ) → (start : ℕ → ℕ) → (rounds : ℕ) → List Failure → ℕ → ℕ
+steps_of nodes start rounds pattern i =
+    steps_with nodes start rounds (failure_of pattern i)
+
+-- each crash is in one of the rounds
+abbrev pub AreWithin : (rounds : ℕ) → List Failure → Type 0
+AreWithin rounds pattern =
+    (i c : ℕ) → failure_of pattern i ≡ Crashes c → (1 ≤ c) × (c ≤ rounds)
+
+-- a schedule can show the run: each node has an input, and each crash is in one of the rounds
+pub record IsShowable (s : Setup) (c : Counterexample) : Type 0 where
+  pub inputs : length c.inputs ≡ s.nodes
+  pub within : AreWithin s.rounds c.failures.items
+
+-- the same of what was found of a property, if it fails
+abbrev pub CanBeShown : Setup → Answer → Type 0
+CanBeShown s Holds = ⊤
+CanBeShown s (Fails c) = IsShowable s c
+
+abbrev pub IsToldToShow : Setup → Told → Type 0
+IsToldToShow s t = CanBeShown s t.answer

@@ -1,0 +1,103 @@
+-- What is told of the properties that the options of `explore` ask.
+use Rattle.std.specs.Borrow.{Bor}
+use Rattle.std.specs.Prelude.{◌≡◌, ◌++◌, ◌∷◌, ◌&&◌, ◌⊎◌, [], All, Bool, List, None, Option, Some}
+use Rattle.std.specs.Prelude.{false, is_some, map, true}
+use Rattle.command_words.specs.declared.exploring.Checks.{Checks}
+use Rattle.command_words.specs.declared.exploring.Exploring.{Exploring}
+use Rattle.exploration_texts.specs.Asking.{inputs_of, question_of}
+use Rattle.exploration_texts.specs.Conditions.{IsConditionFor}
+use Rattle.exploration_texts.specs.declared.answering.Search.{Search}
+use Rattle.exploration_texts.specs.declared.told.PropertyName.{PropertyName}
+use Rattle.exploration_texts.specs.declared.told.PropertyName.TheVariants as names
+use Rattle.exploration_texts.specs.declared.told.Told.{Told}
+use Rattle.round_explorer.specs.Answers.{IsRight}
+use Rattle.round_explorer.specs.declared.answer.Answer.{Answer}
+use Rattle.round_explorer.specs.declared.answer.Answer.TheVariants.{Fails, Holds}
+use Rattle.round_explorer.specs.declared.answer.Counterexample.{Counterexample}
+use Rattle.round_explorer.specs.declared.property.Property.{Property}
+use Rattle.round_explorer.specs.declared.property.Property.TheVariants.{Agreement, Always, Final}
+use Rattle.round_explorer.specs.declared.property.Property.TheVariants.{Termination, Validity}
+use Rattle.round_explorer.specs.declared.question.AskedInputs.{AskedInputs}
+use Rattle.round_explorer.specs.declared.question.Question.{Question}
+use Rattle.round_lang.specs.Syntax.{ProgramTree}
+use Rattle.round_lang.specs.Tree.{Tree}
+use Rattle.round_meaning.specs.declared.setup.Setup.{Setup}
+
+-- the name of a property
+abbrev pub name_of : Property → PropertyName
+name_of Agreement = names.Agreement
+name_of Validity = names.Validity
+name_of Final = names.Final
+name_of Termination = names.Termination
+name_of (Always f) = names.Always
+
+-- one more name, if it is asked
+abbrev pub asked : Bool → PropertyName → List PropertyName
+asked true name = name ∷ []
+asked false name = []
+
+-- the names of what is asked, in their order
+abbrev pub names_of : Checks → (has_condition : Bool) → List PropertyName
+names_of c has_condition =
+    asked c.agreement names.Agreement ++ asked c.validity names.Validity
+    ++ asked c.finality names.Final ++ asked c.termination names.Termination
+    ++ asked has_condition names.Always
+
+-- the property has this name, and that of EXPR is of this condition
+abbrev pub IsNamed : Option Tree → PropertyName → Property → Type 0
+IsNamed condition names.Always (Always f) = condition ≡ Some f.now
+IsNamed condition names.Always _ = ⊥
+IsNamed condition name property = name_of property ≡ name
+
+-- the answer is right of the property of this name
+abbrev pub IsRightOf : ProgramTree → Setup → Question → AskedInputs → Option Tree → Told → Type 0
+IsRightOf p s question inputs condition told =
+    (property : Property) × IsNamed condition told.name property
+    × IsRight p s question inputs property told.answer
+
+-- what the options ask is told, in order, and each answer is right
+pub record AreAnswers (p : ProgramTree) (s : Setup) (e : Exploring) (told : List Told)
+    : Type 0 where
+  pub condition : Option Tree
+  pub is_condition : IsConditionFor p e.always condition
+  pub names : map (λ t. t.name) told ≡ names_of e.checks (is_some condition)
+  pub right : All (IsRightOf p s (question_of e) (inputs_of e.inputs) condition) told
+
+abbrev pub holds : Answer → Bool
+holds Holds = true
+holds (Fails c) = false
+
+-- each property holds
+abbrev pub all_hold : List Told → Bool
+all_hold [] = true
+all_hold (t ∷ ts) = holds t.answer && all_hold ts
+
+-- this is the first property that doesn't, and what was found
+abbrev pub IsFirstNo : List Told → PropertyName → Counterexample → Type 0
+IsFirstNo [] name c = ⊥
+IsFirstNo (t ∷ ts) name c =
+    (t ≡ record { name = name; answer = Fails c })
+    ⊎ ((holds t.answer ≡ true) × IsFirstNo ts name c)
+
+-- the answer of one more property
+abbrev pub AddsAnswer : Search → Property → (old new : List Told) → Type 0
+AddsAnswer w property old new =
+    (answer : Answer) × (new ≡ old ++ record { name = name_of property; answer = answer } ∷ [])
+    × IsRight w.program.now w.setup.now w.question w.inputs property answer
+
+-- the same, if it is asked
+abbrev pub Adds : Search → Bool → Property → (old new : List Told) → Type 0
+Adds w true property old new = AddsAnswer w property old new
+Adds w false property old new = new ≡ old
+
+-- the same of a condition, if there is one
+abbrev pub AddsAlways : Search → Option (Bor Tree) → (old new : List Told) → Type 0
+AddsAlways w (Some f) old new = AddsAnswer w (Always f) old new
+AddsAlways w None old new = new ≡ old
+
+-- these are the answers of a search
+pub record AreAnswersOf (w : Search) (c : Checks) (condition : Option Tree) (told : List Told)
+    : Type 0 where
+  pub names : map (λ t. t.name) told ≡ names_of c (is_some condition)
+  pub right :
+      All (IsRightOf w.program.now w.setup.now w.question w.inputs condition) told

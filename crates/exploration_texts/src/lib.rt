@@ -1,0 +1,16 @@
+//! What the options of `explore` ask of all runs in rounds, and what is told of it.
+#![tactic(auto)]
+
+mod answering;
+mod asking;
+mod condition;
+mod stops;
+mod told;
+mod trace;
+
+pub use answering::answer_all;
+pub use asking::{inputs_of, question_of};
+pub use condition::{ConditionFault, read_condition};
+pub use stops::stops_of;
+pub use told::{Failed, PropertyName, Told, first_failure, write_answers};
+pub use trace::commented;

@@ -1,0 +1,113 @@
+//! What is told of properties.
+ghost use Rattle.std.specs.Prelude.{◌≡◌, IfNone, IfSome, OnOk, true};
+ghost use Rattle.std.specs.Io.KnownBytes.{Appends};
+ghost use Rattle.exploration_texts.specs.Lines.{answers_text, name_text, told_line};
+ghost use Rattle.exploration_texts.specs.Told.{IsFirstNo, all_hold, name_of};
+
+use round_explorer::{Answer, Counterexample, Property};
+use std::io::Write;
+use std::{fmt, io};
+
+/// Which property is told of.
+#[derive(Clone, Copy, Debug, PartialEq, Eq)]
+pub enum PropertyName {
+    Agreement,
+    Validity,
+    Final,
+    Termination,
+    /// EXPR.
+    Always,
+}
+
+/// A property, and the answer to whether it holds of all runs that are asked about.
+#[derive(Drop)]
+pub struct Told {
+    pub name: PropertyName,
+    pub answer: Answer,
+}
+
+/// A property that doesn't hold, and a run in which it fails.
+#[derive(Clone, Copy)]
+pub struct Failed<'a> {
+    pub name: PropertyName,
+    pub found: &'a Counterexample,
+}
+
+impl PropertyName {
+    /// The name of a property.
+    pub(crate) fn of(property: Property<'_>) -> PropertyName
+        ensures { result ≡ name_of property.entry }
+    {
+        match property {
+            Property::Agreement => PropertyName::Agreement,
+            Property::Validity => PropertyName::Validity,
+            Property::Final => PropertyName::Final,
+            Property::Termination => PropertyName::Termination,
+            Property::Always(_) => PropertyName::Always,
+        }
+    }
+
+    /// The word for it.
+    pub fn as_str(self) -> &'static str
+        ensures { result.now ≡ name_text self }
+    {
+        match self {
+            PropertyName::Agreement => "agreement",
+            PropertyName::Validity => "validity",
+            PropertyName::Final => "final",
+            PropertyName::Termination => "termination",
+            PropertyName::Always => "always",
+        }
+    }
+}
+
+/// The property and `yes`, or `no` and the round.
+impl fmt::Display for Told {
+    ghost use Rattle.std.specs.Prelude.{Some};
+    ghost use Rattle.exploration_texts.specs.Lines.{told_text};
+
+    ghost output = { λ told. Some (told_text told) };
+
+    fn fmt<W: fmt::Write>(&self, f: &mut fmt::Formatter<W>) -> fmt::Result {
+        let name = self.name.as_str();
+        match &self.answer {
+            Answer::Holds => write!(f, "{name} yes"),
+            Answer::Fails(found) => write!(f, "{name} no in round {}", found.round),
+        }
+    }
+}
+
+/// The first property that doesn't hold.
+pub fn first_failure(told: &[Told]) -> Option<Failed<'_>>
+    ensures none { IfNone result (all_hold told.now ≡ true) }
+    ensures some { IfSome result (λ failed. IsFirstNo told.now failed.name failed.found.now) }
+{
+    match told {
+        [] => None,
+        [first, rest @ ..] => match &first.answer {
+            Answer::Holds => first_failure(rest),
+            Answer::Fails(found) => Some(Failed {
+                name: first.name,
+                found,
+            }),
+        },
+    }
+}
+
+/// Writes a line for each property. The first fault of the writer is answered as it came.
+pub fn write_answers<W: Write>(told: &[Told], out: &mut W) -> io::Result<()>
+    ensures { OnOk result
+        (Appends (W.contents out.old) (W.contents out.new) (answers_text told.now)) }
+{
+    for one in told {
+        write_answer(one, out)?;
+    }
+    Ok(())
+}
+
+fn write_answer<W: Write>(told: &Told, out: &mut W) -> io::Result<()>
+    ensures { OnOk result
+        (Appends (W.contents out.old) (W.contents out.new) (told_line told.now)) }
+{
+    writeln!(out, "{told}")
+}
