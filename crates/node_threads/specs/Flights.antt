@@ -27,7 +27,8 @@ pub record AreCopies (flight : List InFlight) (serial k end : ℕ) : Type 0 wher
   pub last : (end ≡ length flight) ⊎ ((IsCopyAt flight serial end) → ⊥)
 
 -- a copy of the message at place k goes behind the last of its copies
-pub record IsCopied (old : List InFlight) (k : ℕ) (copied : Name) (new : List InFlight) : Type 0 where
+pub record IsCopied (old : List InFlight) (k : ℕ) (copied : Name)
+    (new : List InFlight) : Type 0 where
   pub message : InFlight
   pub at : slice_get old k ≡ Some message
   pub end : ℕ

@@ -6,6 +6,10 @@ use schedule_text::Pace;
 use std::alloc::Global;
 use std::sync::atomic::{AtomicBool, Ordering};
 use std::sync::{Condvar, Mutex, Wait};
+use std::thread::yield_now;
+
+/// How often the network yields its processor at most before it sleeps.
+const YIELDS: u32 = 100;
 
 /// What the threads know of one another.
 #[derive(Drop)]
@@ -140,6 +144,9 @@ impl Clock {
     /// The network waits for its next turn; false once every node ended. Under the free pace its
     /// first turn comes at once, and each other when a node has taken a step or has ended.
     pub(crate) fn begin_turn<R: Wait>(&self, rt: &R) -> bool {
+        if self.pace == Pace::Free {
+            self.await_news();
+        }
         let count = self.count.lock(rt);
         if self.pace == Pace::Ticks {
             return count.running > 0;
@@ -150,6 +157,17 @@ impl Clock {
         self.is_new.store(false, Ordering::SeqCst);
         self.progress.begin_turn();
         count.running > 0
+    }
+
+    /// Yields for a while until a node has taken a step or ended. The next step mostly comes sooner
+    /// than a thread that sleeps is woken.
+    fn await_news(&self) {
+        for _attempt in 0..YIELDS {
+            if self.is_new.load(Ordering::SeqCst) {
+                return;
+            }
+            yield_now();
+        }
     }
 
     /// The network had its turn. In ticks the running nodes take their steps, and it waits until

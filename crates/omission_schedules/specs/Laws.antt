@@ -37,7 +37,8 @@ EachTableHasARun =
     → (omits : ℕ → ℕ → ℕ → Bool) (r i : ℕ) → r ≤ w.rounds → i < nodes_of w
     → (state w (reverse (schedule_of (nodes_of w) receives omits w.rounds)) r i
     ≡ rounds w.algorithm omits r i)
-    × (steps i (reverse (schedule_of (nodes_of w) receives omits w.rounds)) ≡ w.start (w.rounds + 1))
+    × (steps i (reverse (schedule_of (nodes_of w) receives omits w.rounds))
+    ≡ w.start (w.rounds + 1))
 
 -- and if node i stops after `stops i` steps: in each of its whole rounds exactly those messages are
 -- omitted that the test omits, or whose sender stops before its slot

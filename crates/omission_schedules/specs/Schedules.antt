@@ -1,5 +1,5 @@
--- The schedules of omission tests. A test `omits i r j` says that node i misses the message of round
--- r from node j.
+-- The schedules of omission tests. A test `omits i r j` says that node i misses the message of
+-- round r from node j.
 use Rattle.std.specs.Prelude.{ℕ, zero, suc, ◌+◌, ◌-◌, Bool, List, [], ◌∷◌, ◌++◌, ◌||◌, replicate}
 use Rattle.std.specs.Prelude.{if◌then◌else◌, min, nat_le, nat_lt}
 use Rattle.step_machine.specs.declared.event.Event.{Event}

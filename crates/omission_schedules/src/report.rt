@@ -111,8 +111,8 @@ fn counts_of<P: Plan>(alloc: Global, run: &Rounds<'_, P>) -> Result<Vec<(u64, u6
     requires sized { IsSetup run.now.setup.now }
     requires stops { run.now.setup.now.nodes ≤ length run.now.stops.now }
     ensures { IfOk result (λ counts. counts.items ≡ map
-        (count_until (P.start run.now.plan) (slice_index run.now.stops.now) run.now.setup.now.rounds)
-        (range_with_len 0 run.now.setup.now.nodes)) }
+        (count_until (P.start run.now.plan) (slice_index run.now.stops.now)
+        run.now.setup.now.rounds) (range_with_len 0 run.now.setup.now.nodes)) }
 {
     let all = run.plan.start(run.setup.rounds + 1);
     let mut counts = Vec::new(alloc);

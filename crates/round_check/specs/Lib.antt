@@ -4,6 +4,7 @@ pub mod Names
 pub mod Rules
 pub mod Types
 pub mod Causes
+pub mod Conditions
 pub mod Shapes
 pub mod OneMeaning
 pub mod Spelling

@@ -3,6 +3,7 @@
 
 mod causes;
 mod checked;
+mod condition;
 mod fault;
 mod laws;
 mod names;

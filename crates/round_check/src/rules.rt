@@ -60,11 +60,11 @@ impl Place {
 /// Where an expression stands. The fields are those of its block; an initial value has none.
 #[derive(Clone, Copy)]
 pub(crate) struct Scope<'a> {
-    variables: &'a [Variable],
-    blocks: &'a [Block],
-    fields: &'a [Field],
-    place: Place,
-    bound: &'a Names<'a>,
+    pub(crate) variables: &'a [Variable],
+    pub(crate) blocks: &'a [Block],
+    pub(crate) fields: &'a [Field],
+    pub(crate) place: Place,
+    pub(crate) bound: &'a Names<'a>,
 }
 
 fn allows(constant: Constant, place: Place) -> bool
@@ -151,7 +151,7 @@ fn breaks_target(rule: Rule, name: &Identifier, variables: &[Variable], blocks: 
 
 /// Whether a constant, name or comprehension variable of an expression breaks the rule.
 #[cycle(breaking)]
-fn breaks(rule: Rule, expr: &Expr, scope: &Scope<'_>) -> bool
+pub(crate) fn breaks(rule: Rule, expr: &Expr, scope: &Scope<'_>) -> bool
     ensures { result ≡ breaks rule (tree_of expr.now) (scope_of scope.now) }
 {
     match expr {

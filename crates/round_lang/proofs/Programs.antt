@@ -10,14 +10,19 @@ use Rattle.round_lang.specs.declared.parsing.part.Declaration.TheVariants as d
 use Rattle.round_lang.specs.Lexemes.{Lexeme, number, mark, same_mark}
 use Rattle.round_lang.specs.Limits.{max_values, max_period, max_variables}
 use Rattle.round_lang.specs.Syntax.{BlockTree, ProgramTree}
-use Rattle.round_lang.specs.Source.{IsDecl, IsBlock, IsProgram, Many, variables_of, decides_of}
+use Rattle.round_lang.specs.Tree.{Tree}
+use Rattle.round_lang.specs.Source.{IsDecl, IsBlock, IsExpr, IsProgram, Many, decides_of}
+use Rattle.round_lang.specs.Source.{variables_of}
 use Rattle.round_lang.specs.Source as g
 use Rattle.round_lang.specs.Reading.{◌>>=◌, after, number_at, begins_with, begins_name}
+use Rattle.round_lang.specs.Reading.{formula}
 use Rattle.round_lang.specs.Parts.{items, begins_declaration, declaration, variable_count}
 use Rattle.round_lang.specs.Parts.{declarations, declared, any_block, blocks, all_read, program}
+use Rattle.round_lang.specs.Parts.{lone_formula}
 use Rattle.round_lang.proofs.Steps.{some_then, after_is, number_is}
 use Rattle.round_lang.proofs.Ends.{Ends, ends_at_at, ends_at_end}
-use Rattle.round_lang.proofs.Complete.{number_found}
+use Rattle.round_lang.proofs.Complete.{formula_found, number_found}
+use Rattle.round_lang.proofs.Sound.{formula_good}
 use Rattle.round_lang.proofs.Repetition.{many_good, many_found, weight_of}
 use Rattle.round_lang.proofs.Items.{declaration_laws}
 use Rattle.round_lang.proofs.Blocks.{NoName, block_laws, weight-none}
@@ -81,9 +86,9 @@ at_blocks : {bs : List BlockTree} {ws end : List Lexeme} → Many IsBlock bs ws 
 at_blocks g.none e = subst AtBlocks (sym e) at_no_block
 at_blocks (g.more r others) e = at_block r
 
-all_read_is : (p q : ProgramTree) (ws : List Lexeme) → all_read p ws ≡ Some q → (ws ≡ []) × (p ≡ q)
-all_read_is p q [] e = (refl, same_Some p q e)
-all_read_is p q (w ∷ ws) e = absurd cc
+all_read_is : {A : Type 0} (a b : A) (ws : List Lexeme) → all_read a ws ≡ Some b → (ws ≡ []) × (a ≡ b)
+all_read_is a b [] e = (refl, same_Some a b e)
+all_read_is a b (w ∷ ws) e = absurd cc
 
 abbrev made_of : ℕ → ℕ → List Variable → List (List ℕ) → List BlockTree → ProgramTree
 made_of k p vs xs bs = record { values = k; period = p; variables = vs; decides = xs; blocks = bs }
@@ -122,3 +127,20 @@ program_found (g.program {k = k} {p = p} {digits = digits} {digits2 = digits2} {
 -- no words are two programs
 pub one_program : (ws : List Lexeme) (q r : ProgramTree) → IsProgram q ws → IsProgram r ws → q ≡ r
 one_program ws q r h k = same_Some q r (sym (program_found h) ∙ program_found k)
+
+-- ---- expressions that stand alone
+
+pub lone_formula_good : (ws : List Lexeme) (t : Tree) → lone_formula ws ≡ Some t → IsExpr t ws []
+unfolding lone_formula
+lone_formula_good ws t e =
+    let a = some_then (formula ws) (λ x. all_read x.0 x.1) t e in
+    let done = all_read_is a.0.0 t a.0.1 a.2 in
+    subst (λ (u : Tree). IsExpr u ws []) done.1 (subst (λ (u : List Lexeme). IsExpr a.0.0 ws u) done.0 (formula_good ws a.0.0 a.0.1 a.1))
+
+pub lone_formula_found : (t : Tree) (ws : List Lexeme) → IsExpr t ws [] → lone_formula ws ≡ Some t
+unfolding lone_formula
+lone_formula_found t ws r = rw (formula_found t ws [] r ends_at_end) refl
+
+-- no words are two expressions
+pub one_formula : (ws : List Lexeme) (t u : Tree) → IsExpr t ws [] → IsExpr u ws [] → t ≡ u
+one_formula ws t u h k = same_Some t u (sym (lone_formula_found t ws h) ∙ lone_formula_found u ws k)

@@ -1,6 +1,6 @@
 -- All of a text.
 use Rattle.std.proofs.Common.{◌≡◌, ◌≢◌, ℕ, zero, suc, Bool, true, false, List, [], ◌∷◌, length}
-use Rattle.std.proofs.Common.{take, Some, None, refl, sym, ap, ◌∙◌, subst, arith}
+use Rattle.std.proofs.Common.{take, Option, Some, None, refl, sym, ap, ◌∙◌, subst, arith}
 use Rattle.std.specs.Prelude.{◌==◌}
 use Rattle.std.proofs.lemmas.Bool.{eqb-true}
 use Rattle.round_lang.specs.declared.token.Mark.TheVariants as m
@@ -11,18 +11,21 @@ use Rattle.round_lang.specs.Lexemes.{Lexeme}
 use Rattle.round_lang.specs.Limits.{max_values, max_period}
 use Rattle.round_lang.specs.Reading.{after, number_at}
 use Rattle.round_lang.specs.Syntax.{BlockTree, ProgramTree}
+use Rattle.round_lang.specs.Tree.{Tree}
 use Rattle.round_lang.specs.Tokens.{Tokens, IsLongest, is_blank, lexeme}
 use Rattle.round_lang.specs.Tokens as t
-use Rattle.round_lang.specs.Source.{IsSource}
+use Rattle.round_lang.specs.Source.{IsExpr, IsFormula, IsSource}
 use Rattle.round_lang.specs.Source as g
-use Rattle.round_lang.specs.Parts.{declared, blocks, all_read, program}
+use Rattle.round_lang.specs.Parts.{declared, blocks, all_read, lone_formula, program}
+use Rattle.round_lang.specs.declared.fault.LangFault.TheVariants as lang
 use Rattle.round_lang.specs.declared.parsing.fault.Fault.{Fault}
 use Rattle.round_lang.specs.declared.parsing.fault.Fault.TheVariants as fault
-use Rattle.round_lang.specs.Outcome.{Fails}
+use Rattle.round_lang.specs.Outcome.{Fails, fault_of_text}
 use Rattle.round_lang.proofs.Longest.{empty_is_none, blank_is, hash_is}
 use Rattle.round_lang.proofs.Pieces.{Splits, blank_back, hash_back, word_back, no_token}
 use Rattle.round_lang.proofs.Scanned.{empty_has}
-use Rattle.round_lang.proofs.Programs.{program_good, program_found, one_program}
+use Rattle.round_lang.proofs.Programs.{lone_formula_found, lone_formula_good, one_formula, one_program}
+use Rattle.round_lang.proofs.Programs.{program_found, program_good}
 
 -- ---- a text has one list of tokens
 
@@ -65,13 +68,13 @@ pub program_reads : (ws a : List Lexeme) (k : ℕ) (b c : List Lexeme) (p : ℕ)
 unfolding program
 program_reads ws a k b c p d vs xs e bs rest e1 e2 e3 e4 e5 e6 = rw (e1, e2, e3, e4, e5, e6) refl
 
-pub all_are_read : (p : ProgramTree) (rest : List Token) → length rest ≡ 0 → all_read p (lexemes rest) ≡ Some p
-all_are_read p [] e = refl
-all_are_read p (t ∷ rest) e = absurd (omega arith)
+pub all_are_read : {A : Type 0} (a : A) (rest : List Token) → length rest ≡ 0 → all_read a (lexemes rest) ≡ Some a
+all_are_read a [] e = refl
+all_are_read a (t ∷ rest) e = absurd (omega arith)
 
-pub some_are_left : (p : ProgramTree) (rest : List Token) → length rest ≢ 0 → all_read p (lexemes rest) ≡ None
-some_are_left p [] e = absurd (e refl)
-some_are_left p (t ∷ rest) e = refl
+pub some_are_left : {A : Type 0} (a : A) (rest : List Token) → length rest ≢ 0 → all_read a (lexemes rest) ≡ None
+some_are_left a [] e = absurd (e refl)
+some_are_left a (t ∷ rest) e = refl
 
 -- ---- a text has one program
 
@@ -90,11 +93,30 @@ no_program text ws only none p h =
     let e = program_found (subst (λ v. g.IsProgram p v) (only h.words h.tokens) h.program) in
     let clash : None ≡ Some p = sym none ∙ e in absurd cc
 
-pub no_source : (text : List ℕ) (ws : List Lexeme) → ((ls : List Lexeme) → Tokens text ls → ls ≡ ws) → (e : Fault) → e ≢ fault.NoMemory → Fails e (program ws) → (p : ProgramTree) → IsSource text p → ⊥
-no_source text ws only fault.NoMemory other f = absurd (other refl)
-no_source text ws only (fault.Unexpected s) other f = no_program text ws only f
-no_source text ws only fault.TooDeep other f = no_program text ws only f
-no_source text ws only (fault.LimitPassed s) other f = no_program text ws only f
+-- a fault of the text other than its length or the memory's is that nothing can be read
+none_read : {X : Type 0} (e : Fault) (read : Option X) → fault_of_text e ≢ lang.NoMemory → Fails e read → read ≡ None
+none_read fault.NoMemory read other f = absurd (other refl)
+none_read (fault.Unexpected s) read other f = f
+none_read fault.TooDeep read other f = f
+none_read (fault.LimitPassed s) read other f = f
 
-pub no_tokens : (text : List ℕ) → ((ls : List Lexeme) → Tokens text ls → ⊥) → (p : ProgramTree) → IsSource text p → ⊥
-no_tokens text none p h = none h.words h.tokens
+pub no_source : (text : List ℕ) (ws : List Lexeme) → ((ls : List Lexeme) → Tokens text ls → ls ≡ ws) → (e : Fault) → fault_of_text e ≢ lang.NoMemory → Fails e (program ws) → (p : ProgramTree) → IsSource text p → ⊥
+no_source text ws only e other f = no_program text ws only (none_read e (program ws) other f)
+
+-- ---- a text has one expression
+
+pub formula_of : (text : List ℕ) (ws : List Lexeme) (t : Tree) → Tokens text ws → lone_formula ws ≡ Some t → IsFormula text t
+formula_of text ws t r e = record { words = ws; tokens = r; formula = lone_formula_good ws t e }
+
+pub one_formula_of : (text : List ℕ) (t u : Tree) → IsFormula text t → IsFormula text u → t ≡ u
+one_formula_of text t u h k =
+    let same = one_list k.tokens h.words h.tokens in
+    one_formula h.words t u h.formula (subst (λ ws. IsExpr u ws []) same k.formula)
+
+no_lone_formula : (text : List ℕ) (ws : List Lexeme) → ((ls : List Lexeme) → Tokens text ls → ls ≡ ws) → lone_formula ws ≡ None → (t : Tree) → IsFormula text t → ⊥
+no_lone_formula text ws only none t h =
+    let e = lone_formula_found t ws (subst (λ v. IsExpr t v []) (only h.words h.tokens) h.formula) in
+    let clash : None ≡ Some t = sym none ∙ e in absurd cc
+
+pub no_formula : (text : List ℕ) (ws : List Lexeme) → ((ls : List Lexeme) → Tokens text ls → ls ≡ ws) → (e : Fault) → fault_of_text e ≢ lang.NoMemory → Fails e (lone_formula ws) → (t : Tree) → IsFormula text t → ⊥
+no_formula text ws only e other f = no_lone_formula text ws only (none_read e (lone_formula ws) other f)

@@ -9,6 +9,8 @@ use Rattle.round_lang.specs.declared.name.Name.{Name}
 use Rattle.round_lang.specs.declared.token.Token.{Token}
 use Rattle.round_lang.specs.declared.parsing.fault.Fault.{Fault}
 use Rattle.round_lang.specs.declared.parsing.fault.Fault.TheVariants as fault
+use Rattle.round_lang.specs.declared.fault.LangFault.{LangFault}
+use Rattle.round_lang.specs.declared.fault.LangFault.TheVariants as lang
 use Rattle.round_lang.specs.declared.parsing.part.Declared.{Declared}
 use Rattle.round_lang.specs.declared.parsing.level.Level.{Level}
 use Rattle.round_lang.specs.declared.parsing.level.Level.TheVariants.{Disjunction, Conjunction, Sum}
@@ -27,6 +29,13 @@ Fails _ read = read ≡ None
 abbrev pub Gives : {X Y : Type 0} → (X → Y) → Result X Fault → Option Y → Type 0
 Gives view (Ok x) read = read ≡ Some (view x)
 Gives view (Err e) read = Fails e read
+
+-- what a fault of the tokens is as one of the text
+abbrev pub fault_of_text : Fault → LangFault
+fault_of_text fault.NoMemory = lang.NoMemory
+fault_of_text (fault.Unexpected span) = lang.Unexpected span
+fault_of_text fault.TooDeep = lang.TooDeep
+fault_of_text (fault.LimitPassed span) = lang.LimitPassed span
 
 -- an expression that was read, how deep its text nests, and the words behind it
 abbrev pub expr_found : Expr × ℕ × Bor (List Token) → Found

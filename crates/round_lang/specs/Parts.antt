@@ -185,9 +185,10 @@ blocks ws = items (begins_with m.At) any_block (λ b. 0) 0 ws
 
 -- ---- programs
 
-abbrev pub all_read : ProgramTree → List Lexeme → Option ProgramTree
-all_read p [] = Some p
-all_read p (w ∷ ws) = None
+-- what was read, if no words are left
+abbrev pub all_read : {A : Type 0} → A → List Lexeme → Option A
+all_read a [] = Some a
+all_read a (w ∷ ws) = None
 
 unfoldable pub program : List Lexeme → Option ProgramTree
 program ws = do
@@ -199,3 +200,8 @@ program ws = do
   bs ← blocks ds.2
   all_read
       (record { values = k.0; period = p.0; variables = ds.0; decides = ds.1; blocks = bs.0 }) bs.1
+
+-- ---- expressions that stand alone
+
+unfoldable pub lone_formula : List Lexeme → Option Tree
+lone_formula ws = formula ws >>= λ t. all_read t.0 t.1

@@ -114,3 +114,13 @@ pub record IsSource (text : List ℕ) (p : ProgramTree) : Type 0 where
 -- no text is two programs
 abbrev pub TextsAreOneProgram : Type 0
 TextsAreOneProgram = (text : List ℕ) (p q : ProgramTree) → IsSource text p → IsSource text q → p ≡ q
+
+-- the text is this expression: its tokens are, by longest match
+pub record IsFormula (text : List ℕ) (t : Tree) : Type 0 where
+  pub words : List Lexeme
+  pub tokens : Tokens text words
+  pub formula : IsExpr t words []
+
+-- no text is two expressions
+abbrev pub TextsAreOneFormula : Type 0
+TextsAreOneFormula = (text : List ℕ) (t u : Tree) → IsFormula text t → IsFormula text u → t ≡ u
