@@ -12,7 +12,7 @@ import exploring
 import language
 import reading
 
-PROPERTIES = (*exploring.PROPERTIES, "always")
+PROPERTIES = ("agreement", "validity", "final", "termination", "always")
 Asked = collections.namedtuple("Asked", "question names formula is_any")
 
 
