@@ -1,0 +1,160 @@
+"""What `roundc explore` answers, by a second reading in Python that shares nothing with the crates.
+
+It goes level by level through the states of all nodes, for one pattern of failures after the other,
+as .ci/exploring.py does, but notes what it has computed: a node's next states are computed once for
+each state and messages sent to it, and level states that leave each node the same next states are
+gone on from once. So it answers for four nodes too.
+"""
+import collections
+import itertools
+
+import exploring
+import language
+import reading
+
+PROPERTIES = ("agreement", "validity", "final", "termination", "always")
+Asked = collections.namedtuple("Asked", "question names formula is_any")
+
+
+class Turns:
+    """What nodes send and end rounds with; states and messages are numbers."""
+
+    def __init__(self, checked, setup, formula):
+        self.algorithm = reading.Algorithm(checked, setup)
+        self.formula = formula
+        self.states, self.numbers = [], {}
+        self.messages, self.spoken, self.ended = [None], {}, {}
+        self.said = {None: 0}
+        self.decisions, self.flags = [], {}
+        self.rows = {}
+
+    def choices(self, rows):
+        """Returns a list of the sets of senders that may be missed, the same for the same sets."""
+        return self.rows.setdefault(frozenset(rows), tuple(rows))
+
+    def number_of(self, state):
+        key = tuple(state.values())
+        if key not in self.numbers:
+            self.numbers[key] = len(self.states)
+            self.states.append(state)
+            decision = self.algorithm.decision(state)
+            self.decisions.append(0 if decision is None else 1 << decision)
+        return self.numbers[key]
+
+    def begins(self, inputs):
+        """Returns the states of all nodes with these inputs before round 1."""
+        algorithm = self.algorithm
+        algorithm.setup = algorithm.setup._replace(inputs=list(inputs))
+        return tuple(self.number_of(algorithm.begin(it)) for it in range(len(inputs)))
+
+    def message(self, number, sender, state, to):
+        key = number, sender, state, to
+        if key not in self.spoken:
+            fields = self.algorithm.send(self.states[state], number, sender, to)
+            said = None if fields is None else tuple(fields)
+            if said not in self.said:
+                self.said[said] = len(self.messages)
+                self.messages.append(said)
+            self.spoken[key] = self.said[said]
+        return self.spoken[key]
+
+    def ends(self, number, node, state, inbox, choices):
+        """Returns the states in which a node can end a round, of which these messages are sent to
+        it and the senders of one of the choices are missed."""
+        key = number, node, state, inbox, choices
+        if key not in self.ended:
+            inboxes = {tuple((j, it) for j, it in enumerate(inbox) if it and j not in missed)
+                       for missed in choices}
+            ends = (self.algorithm.end(self.states[state], number, node,
+                                       {j: self.messages[it] for j, it in heard})
+                    for heard in inboxes)
+            self.ended[key] = tuple(sorted({self.number_of(it) for it in ends}))
+        return self.ended[key]
+
+    def holds(self, number, node, state):
+        """Returns whether the formula is true of a node's state after a round."""
+        key = number, node, state
+        if self.formula and key not in self.flags:
+            names = self.algorithm.names(self.states[state], number, node)
+            self.flags[key] = language.value(self.formula, names, self.algorithm.size)
+        return not self.formula or self.flags[key]
+
+
+# What a run came to: its states, the values decided as bits, whether each decision was kept, and
+# whether the formula held.
+Run = collections.namedtuple("Run", "states decided is_kept holds")
+
+
+def groups(turns, number, runs, choices, counting):
+    """Returns what the runs of a level can go on to: the ends of each node, the bits that each
+    decided last, and what the run came to, each once."""
+    nodes, found = range(len(counting)), set()
+    for states, decided, is_kept, holds in runs:
+        ends = tuple(turns.ends(number, node, states[node], tuple(
+            turns.message(number, it, states[it], node) for it in nodes), choices)
+            for node in nodes)
+        last = tuple(turns.decisions[it] if number > 1 and is_kept else 0 for it in states)
+        found.add((ends, last, decided, is_kept, holds))
+    return found
+
+
+def follow(turns, number, runs, choices, counting):
+    """Returns the runs of the next level."""
+    after = set()
+    for ends, last, decided, is_kept, holds in groups(turns, number, runs, choices, counting):
+        heads = {Run((), decided, is_kept, holds)}
+        for node, (states, was) in enumerate(zip(ends, last)):
+            if not counting[node]:
+                heads = {it._replace(states=(*it.states, state))
+                         for it in heads for state in states}
+                continue
+            facts = [(state, turns.decisions[state],
+                      was in (0, turns.decisions[state]), turns.holds(number, node, state))
+                     for state in states]
+            heads = {Run((*it.states, state), it.decided | chosen, it.is_kept and keeps,
+                         it.holds and stands)
+                     for it in heads for state, chosen, keeps, stands in facts}
+        after |= heads
+    return after
+
+
+def broken(turns, setup, pattern, number, runs):
+    """Returns the properties that fail in one of the runs of so many rounds."""
+    inputs = sum(1 << it for it in set(turns.algorithm.setup.inputs))
+    correct = [node for node, it in enumerate(pattern) if it is None]
+    tests = {
+        "agreement": lambda it: it.decided & (it.decided - 1),
+        "validity": lambda it: it.decided & ~inputs,
+        "final": lambda it: not it.is_kept,
+        "termination": lambda it: number == setup.rounds and not all(
+            turns.decisions[it.states[node]] for node in correct),
+        "always": lambda it: not it.holds,
+    }
+    return {name for name, test in tests.items() if any(map(test, runs))}
+
+
+def first_failures(turns, setup, asked, pattern, inputs):
+    """Returns the first round in which each property fails in a run of these inputs."""
+    first = {}
+    runs = {Run(turns.begins(inputs), 0, True, True)}
+    for number in range(1, setup.rounds + 1):
+        rows = exploring.rows(setup, asked.question, pattern, number)
+        if not rows:
+            return {}
+        counting = [exploring.counts(it, number) for it in pattern]
+        choices = turns.choices(rows)
+        runs = follow(turns, number, runs, choices, counting)
+        for name in broken(turns, setup, pattern, number, runs):
+            first.setdefault(name, number)
+    return first
+
+
+def answers(checked, setup, asked):
+    """Returns the first round in which each property that is asked fails in a run."""
+    turns, first = Turns(checked, setup, asked.formula), {}
+    every = itertools.product(range(checked.values), repeat=setup.nodes)
+    for inputs in every if asked.is_any else [setup.inputs]:
+        for pattern in exploring.patterns(setup, asked.question):
+            for name, number in first_failures(turns, setup, asked, pattern, inputs).items():
+                first[name] = min(number, first.get(name, number))
+    return {name: first.get(name) for name in PROPERTIES if name in asked.names}
