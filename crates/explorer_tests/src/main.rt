@@ -62,10 +62,7 @@ fn name_of(property: Property<'_>) -> &'static str {
 }
 
 /// All properties, the formula's only if there is a formula.
-fn properties<'a>(
-    alloc: Global,
-    formula: Option<&'a Formula>,
-) -> Result<Vec<Property<'a>>, Fault> {
+fn properties<'a>(alloc: Global, formula: Option<&'a Formula>) -> Result<Vec<Property<'a>>, Fault> {
     let mut properties = Vec::new(alloc);
     properties.push(Property::Agreement)?;
     properties.push(Property::Validity)?;
