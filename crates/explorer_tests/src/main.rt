@@ -12,6 +12,8 @@
 //! words after `always` are an expression, which is asked about too.
 #![tactic(auto)]
 
+ghost use Rattle.std.specs.Prelude.{◌≤◌, length};
+
 mod fault;
 mod reading;
 
@@ -127,22 +129,24 @@ fn answer(rt: &HostRuntime, alloc: Global) -> Result<String, Fault> {
     let [source, faults, clear, hears, words @ ..] = words.as_slice() else {
         return Err(Fault::Unreadable);
     };
-    let (numbers, expression) = before_always(words);
-    let (setup, asked) = setup_of(alloc, numbers)?;
+    let place = place_of_always(words);
+    let (setup, asked) = setup_of(alloc, &words[..place])?;
     let question = question_of(faults, clear, hears)?;
     let program = program_of(rt, alloc, source, &setup)?;
-    let holder = program_with(alloc, expression)?;
+    let holder = program_with(alloc, &words[place..])?;
     let formula = holder.as_ref().and_then(formula_in);
     let mut out = String::new(alloc);
     tell_all(alloc, &program, &setup, question, asked, formula, &mut out)?;
     Ok(out)
 }
 
-/// The words before `always`, and those after it.
-fn before_always<'a, 'w>(words: &'a [&'w str]) -> (&'a [&'w str], &'a [&'w str]) {
+/// Where the words have `always`; past the last one, if they haven't.
+fn place_of_always(words: &[&str]) -> usize
+    ensures { result ≤ length words.now }
+{
     match words.iter().position(|word| *word == "always") {
-        Some(place) => (&words[..place], &words[place + 1..]),
-        None => (words, &[]),
+        Some(place) => place,
+        None => words.len(),
     }
 }
 

@@ -72,14 +72,14 @@ pub fn offered(alloc: Global, name: &str, setup: &Setup) -> Result<Checked, Faul
     }
 }
 
-/// A program with the words as the formula of its state variable; none if there are no words.
+/// A program with the words behind the first one as its variable's formula; none without words.
 pub fn program_with(alloc: Global, words: &[&str]) -> Result<Option<Program>, Fault> {
     if words.is_empty() {
         return Ok(None);
     }
     let mut text = String::new(alloc);
     text.push_str("values 1 period 1 state asked: bool =")?;
-    for word in words {
+    for word in words.iter().skip(1) {
         text.push_str(" ")?;
         text.push_str(word)?;
     }
