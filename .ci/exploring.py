@@ -5,7 +5,7 @@ question allows, for one list of inputs and one pattern of failures after the ot
 runs, through the tables themselves. It shares nothing with the crates.
 
 usage: exploring.py SOURCE NODES FAULTS ROUNDS [INPUT ..] [--faults none|omission|crash]
-       [--clear C] [--hears M] [--check LIST] [--tables]
+       [--clear C] [--hears M] [--check LIST] [--always EXPRESSION] [--tables]
 
 Without inputs, each list of inputs is tried. With --tables, the tables are.
 """
@@ -21,7 +21,7 @@ import reading  # noqa: E402
 
 Setup = collections.namedtuple("Setup", "nodes faults inputs rounds")
 Question = collections.namedtuple("Question", "faults clear hears")
-PROPERTIES = ("agreement", "validity", "final", "termination")
+PROPERTIES = ("agreement", "validity", "final", "termination", "always")
 # A failure is None, "omits", or the round of a crash.
 
 
@@ -58,16 +58,24 @@ def counts(failure, number):
 
 
 class Level:
-    """The states that runs of some rounds come to, with what was decided and kept on the way."""
+    """The states that runs of some rounds come to, with what was decided and kept on the way, and
+    whether the formula was true."""
 
-    def __init__(self, algorithm, pattern):
-        self.algorithm, self.pattern, self.number = algorithm, pattern, 0
+    def __init__(self, algorithm, pattern, formula=None):
+        self.algorithm, self.pattern, self.formula, self.number = algorithm, pattern, formula, 0
         start = [algorithm.begin(it) for it in range(algorithm.setup.nodes)]
-        self.runs = {self.key(start, frozenset(), True): (start, frozenset(), True)}
+        self.runs = {self.key(start, frozenset(), True, True): (start, frozenset(), True, True)}
 
     @staticmethod
-    def key(states, decided, kept):
-        return tuple(map(frozen, states)), decided, kept
+    def key(states, *seen):
+        return tuple(map(frozen, states)), *seen
+
+    def is_true(self, state, number, node):
+        """Returns whether the formula is true of a node's state."""
+        if self.formula is None:
+            return True
+        names = self.algorithm.names(state, number, node)
+        return language.value(self.formula, names, self.algorithm.size)
 
     def ends(self, states, choices, node):
         """Returns the states in which a node can end the next round."""
@@ -85,41 +93,43 @@ class Level:
     def follow(self, choices):
         """Goes on to the next round."""
         number, runs = self.number + 1, {}
-        for states, decided, kept in self.runs.values():
+        for states, decided, kept, true in self.runs.values():
             ends = [self.ends(states, choices, node) for node in range(len(states))]
             for after in itertools.product(*ends):
-                now, still = set(decided), kept
+                now, still, always = set(decided), kept, true
                 for node, (old, new) in enumerate(zip(states, after)):
                     if counts(self.pattern[node], number):
                         choice = self.algorithm.decision(new)
                         now |= set() if choice is None else {choice}
                         was = self.algorithm.decision(old) if number > 1 else None
                         still = still and was in (None, choice)
+                        always = always and self.is_true(new, number, node)
                 now = frozenset(now)
-                runs[self.key(after, now, still)] = (after, now, still)
+                runs[self.key(after, now, still, always)] = (after, now, still, always)
         self.number, self.runs = number, runs
 
     def broken(self, name):
         """Returns whether the property fails in a run of so many rounds."""
         setup = self.algorithm.setup
         tests = {
-            "agreement": lambda states, decided, kept: len(decided) > 1,
-            "validity": lambda states, decided, kept: not decided <= set(setup.inputs),
-            "final": lambda states, decided, kept: not kept,
-            "termination": lambda states, decided, kept: self.number == setup.rounds and any(
+            "agreement": lambda states, decided, kept, true: len(decided) > 1,
+            "validity": lambda states, decided, kept, true: not decided <= set(setup.inputs),
+            "final": lambda states, decided, kept, true: not kept,
+            "always": lambda states, decided, kept, true: not true,
+            "termination": lambda states, decided, kept, true: self.number == setup.rounds and any(
                 self.pattern[node] is None and self.algorithm.decision(state) is None
                 for node, state in enumerate(states)),
         }
         return any(tests[name](*it) for it in self.runs.values())
 
 
-def by_levels(algorithm, question, pattern, names):
+def by_levels(algorithm, question, pattern, names, formula=None):
     """Returns the first round in which each property fails, if it does."""
     setup, first = algorithm.setup, {}
     choices = [rows(setup, question, pattern, it + 1) for it in range(setup.rounds)]
     if not all(choices):
         return first
-    level = Level(algorithm, pattern)
+    level = Level(algorithm, pattern, formula)
     for choice in choices:
         level.follow(choice)
         for name in names:
@@ -128,16 +138,16 @@ def by_levels(algorithm, question, pattern, names):
     return first
 
 
-def by_tables(algorithm, question, pattern, names):
+def by_tables(algorithm, question, pattern, names, formula=None):
     """The same through every table, each run from its beginning."""
     setup, first = algorithm.setup, {}
     choices = [rows(setup, question, pattern, it // setup.nodes + 1)
                for it in range(setup.rounds * setup.nodes)]
     for table in itertools.product(*choices):
-        level = Level(algorithm, pattern)
+        level = Level(algorithm, pattern, formula)
         for number in range(setup.rounds):
             row = table[number * setup.nodes : (number + 1) * setup.nodes]
-            (states, decided, kept), = level.runs.values()
+            (states, *_seen), = level.runs.values()
             after = [level.ends(states, [missed], node)[0] for node, missed in enumerate(row)]
             level.ends = lambda states, choices, node, after=after: [after[node]]
             level.follow(None)
@@ -148,7 +158,7 @@ def by_tables(algorithm, question, pattern, names):
     return first
 
 
-def explore(checked, setup, question, names, is_any, by=by_levels):
+def explore(checked, setup, question, names, is_any, by=by_levels, formula=None):
     """Returns the first round in which each property fails, and the inputs and failures of the
     first run in which it does."""
     every = itertools.product(range(checked.values), repeat=setup.nodes)
@@ -156,10 +166,15 @@ def explore(checked, setup, question, names, is_any, by=by_levels):
     for inputs in every if is_any else [setup.inputs]:
         algorithm = reading.Algorithm(checked, setup._replace(inputs=list(inputs)))
         for pattern in patterns(setup, question):
-            for name, number in by(algorithm, question, pattern, names).items():
+            for name, number in by(algorithm, question, pattern, names, formula).items():
                 if name not in first or number < first[name][0]:
                     first[name] = number, inputs, pattern
     return first
+
+
+def expression(text):
+    """Returns the expression that a text is."""
+    return language.Parser(text.encode()).expression(0)
 
 
 def shown(answer):
@@ -178,7 +193,8 @@ def main():
     options.add_argument("--faults", default="none", choices=("none", "omission", "crash"))
     options.add_argument("--clear", type=int)
     options.add_argument("--hears", type=int, default=0)
-    options.add_argument("--check", default=",".join(PROPERTIES))
+    options.add_argument("--check", default=",".join(PROPERTIES[:-1]))
+    options.add_argument("--always", help="an expression that is to be true of each state")
     options.add_argument("--tables", action="store_true")
     given = options.parse_args()
     nodes, faults, rounds, *inputs = given.numbers
@@ -190,8 +206,11 @@ def main():
             checked = language.Checked(language.Parser(file.read()).program())
     question = Question(given.faults, given.clear, given.hears)
     names = given.check.split(",")
+    formula = None
+    if given.always is not None:
+        formula, names = expression(given.always), [*names, "always"]
     by = by_tables if given.tables else by_levels
-    first = explore(checked, setup, question, names, not inputs, by)
+    first = explore(checked, setup, question, names, not inputs, by, formula)
     for name in PROPERTIES:
         if name in names:
             print(name, shown(first.get(name)))

@@ -1,37 +1,33 @@
 //! What exploring all runs of a program answers.
 //!
 //! ```text
-//! explorer_tests SOURCE KIND CLEAR HEARS NODES FAULTS ROUNDS [INPUT ..]
+//! explorer_tests SOURCE KIND CLEAR HEARS NODES FAULTS ROUNDS [INPUT ..] [always WORD ..]
 //! ```
 //!
 //! SOURCE is a program's file, or `@NAME` for a program of the library over two values. KIND is
 //! `none`, `omission` or `crash`, CLEAR the clear round or `-`, and HEARS the number of nodes that
 //! each node hears at least. Without inputs each list of inputs is asked about. A line for each
 //! property says whether it holds of all runs, or the first round in which it fails in a run, that
-//! run's inputs, and how its nodes fail: `-` for not at all, `omits`, or the round of a crash.
+//! run's inputs, and how its nodes fail: `-` for not at all, `omits`, or the round of a crash. The
+//! words after `always` are an expression, which is asked about too.
 #![tactic(auto)]
+
+ghost use Rattle.std.specs.Prelude.{◌≤◌, length};
 
 mod fault;
 mod reading;
 
 use fault::Fault;
-use reading::{checked_of, offered, question_of, setup_of};
+use reading::{checked_of, formula_in, offered, program_with, question_of, setup_of};
 use round_check::Checked;
 use round_explorer::{Answer, AskedInputs, Counterexample, Failure, Property, Question, explore};
+use round_lang::Formula;
 use round_meaning::Setup;
 use std::alloc::Global;
 use std::fmt::Write as _;
 use std::io::Write;
 use std::process::ExitCode;
 use std::{env, fs};
-
-/// All properties, with their names.
-const PROPERTIES: [(Property, &str); 4] = [
-    (Property::Agreement, "agreement"),
-    (Property::Validity, "validity"),
-    (Property::Final, "final"),
-    (Property::Termination, "termination"),
-];
 
 fn tell_failure(out: &mut String, failure: Failure) -> Result<(), Fault> {
     match failure {
@@ -56,6 +52,30 @@ fn tell(out: &mut String, found: &Counterexample) -> Result<(), Fault> {
     Ok(())
 }
 
+/// What a property is called.
+fn name_of(property: Property<'_>) -> &'static str {
+    match property {
+        Property::Agreement => "agreement",
+        Property::Validity => "validity",
+        Property::Final => "final",
+        Property::Termination => "termination",
+        Property::Always(_) => "always",
+    }
+}
+
+/// All properties, the formula's only if there is a formula.
+fn properties<'a>(alloc: Global, formula: Option<&'a Formula>) -> Result<Vec<Property<'a>>, Fault> {
+    let mut properties = Vec::new(alloc);
+    properties.push(Property::Agreement)?;
+    properties.push(Property::Validity)?;
+    properties.push(Property::Final)?;
+    properties.push(Property::Termination)?;
+    if let Some(formula) = formula {
+        properties.push(Property::Always(formula))?;
+    }
+    Ok(properties)
+}
+
 /// A line for each property.
 fn tell_all(
     alloc: Global,
@@ -63,14 +83,15 @@ fn tell_all(
     setup: &Setup,
     question: Question,
     asked: AskedInputs,
+    formula: Option<&Formula>,
     out: &mut String,
 ) -> Result<(), Fault> {
     if !setup.is_lawful(program) {
         return Err(Fault::Unreadable);
     }
-    for (property, name) in PROPERTIES {
-        out.push_str(name)?;
-        match explore(alloc, program, setup, question, asked, property)? {
+    for property in &properties(alloc, formula)? {
+        out.push_str(name_of(*property))?;
+        match explore(alloc, program, setup, question, asked, *property)? {
             Answer::Holds => out.push_str(" yes\n")?,
             Answer::Fails(found) => tell(out, &found)?,
         }
@@ -108,12 +129,25 @@ fn answer(rt: &HostRuntime, alloc: Global) -> Result<String, Fault> {
     let [source, faults, clear, hears, words @ ..] = words.as_slice() else {
         return Err(Fault::Unreadable);
     };
-    let (setup, asked) = setup_of(alloc, words)?;
+    let place = place_of_always(words);
+    let (setup, asked) = setup_of(alloc, &words[..place])?;
     let question = question_of(faults, clear, hears)?;
     let program = program_of(rt, alloc, source, &setup)?;
+    let holder = program_with(alloc, &words[place..])?;
+    let formula = holder.as_ref().and_then(formula_in);
     let mut out = String::new(alloc);
-    tell_all(alloc, &program, &setup, question, asked, &mut out)?;
+    tell_all(alloc, &program, &setup, question, asked, formula, &mut out)?;
     Ok(out)
+}
+
+/// Where the words have `always`; past the last one, if they haven't.
+fn place_of_always(words: &[&str]) -> usize
+    ensures { result ≤ length words.now }
+{
+    match words.iter().position(|word| *word == "always") {
+        Some(place) => place,
+        None => words.len(),
+    }
 }
 
 fn run(rt: &HostRuntime) -> Result<(), Fault> {

@@ -3,7 +3,7 @@ use crate::fault::Fault;
 use algorithm_library::{count_votes, dls1, gather};
 use round_check::{Checked, check};
 use round_explorer::{AskedInputs, FaultKind, Question};
-use round_lang::parse;
+use round_lang::{Formula, Program, VariableKind, parse};
 use round_meaning::{Inputs, Setup};
 use std::alloc::Global;
 
@@ -69,5 +69,28 @@ pub fn offered(alloc: Global, name: &str, setup: &Setup) -> Result<Checked, Faul
         "count_votes" => Ok(count_votes(alloc, 2)?),
         "dls1" => Ok(dls1(alloc, setup.nodes, setup.faults, 2)?),
         _ => Err(Fault::Unreadable),
+    }
+}
+
+/// A program with the words behind the first one as its variable's formula; none without words.
+pub fn program_with(alloc: Global, words: &[&str]) -> Result<Option<Program>, Fault> {
+    if words.is_empty() {
+        return Ok(None);
+    }
+    let mut text = String::new(alloc);
+    text.push_str("values 1 period 1 state asked: bool =")?;
+    for word in words.iter().skip(1) {
+        text.push_str(" ")?;
+        text.push_str(word)?;
+    }
+    text.push_str(" at 1: message () send when false: () on message: end:")?;
+    Ok(Some(parse(alloc, text.as_str())?))
+}
+
+/// That formula.
+pub fn formula_in(program: &Program) -> Option<&Formula> {
+    match &program.variables().first()?.kind {
+        VariableKind::State { ty: _, start } => Some(start),
+        VariableKind::Input => None,
     }
 }
