@@ -42,6 +42,7 @@ IsConditionFor p None None = ⊤
 IsConditionFor p (Some text) (Some f) = IsCondition p text.now f
 IsConditionFor p _ _ = ⊥
 
+-- why the text of a condition is refused, where there is a text
 abbrev pub IsFaultFor : ProgramTree → Option (Bor (List ℕ)) → ConditionFault → Type 0
 IsFaultFor p _ fault.NoMemory = ⊤
 IsFaultFor p None e = ⊥

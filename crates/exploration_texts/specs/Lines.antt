@@ -14,6 +14,7 @@ use Rattle.round_explorer.specs.declared.answer.Answer.TheVariants.{Fails, Holds
 use Rattle.round_lang.specs.declared.fault.LangFault.{LangFault}
 use Rattle.round_lang.specs.declared.fault.LangFault.TheVariants as lang
 
+-- the property, as its line begins
 abbrev pub name_text : PropertyName → List ℕ
 name_text names.Agreement = codes "agreement"
 name_text names.Validity = codes "validity"
