@@ -28,6 +28,7 @@ use Rattle.command_runs.proofs.Omitted.{unserved}
 use Rattle.command_runs.proofs.Telling.{IsLast, last_nodes, last_write, not_in_turn}
 use Rattle.command_words.specs.declared.exploring.Exploring.{Exploring}
 use Rattle.command_words.specs.declared.values.Source.{Source}
+use Rattle.command_words.specs.declared.values.Source.TheVariants as source
 use Rattle.command_words.specs.declared.words.Words.TheVariants as words
 use Rattle.adversary.specs.declared.fault.RunFault.TheVariants as run
 use Rattle.exploration_texts.specs.Conditions.{IsFaultFor}
@@ -248,6 +249,12 @@ trace_written (Some name) told None o old new is ends wrote =
 trace_written (Some name) told (Some text) o old new is ends wrote =
     subst (λ x. WritesTrace (Some name) x old new) (outcome_not told is ∙ sym ends) wrote
 
+-- of memory nothing is said
+no_room : (s : Source) (files : Files) (file : Option (List ℕ)) (e : Exploring)
+    → IsUnexplored s files file e refusal.NoMemory
+no_room (source.File name) files file e = inl tt
+no_room (source.Library name values) files file e = inr (inl (tt, tt))
+
 -- why the command is refused
 module _ (source : Source) (files : Files) (header : Bor (List ℕ)) (e : Exploring) where
   never : (r : Refusal) → ((p : ProgramTree) (s : Setup) (k : PlanKind)
@@ -273,7 +280,8 @@ module _ (source : Source) (files : Files) (header : Bor (List ℕ)) (e : Explor
       ((λ name. None), answers_text found.told.items,
       (found.told.items, tells_at_first source files e found (files header.now) h, refl))
   explore_unwritten found r h (inr same) =
-      subst (IsRefusedCommand (words.Explore source header e) files) (sym same) tt
+      subst (IsRefusedCommand (words.Explore source header e) files) (sym same)
+      (no_room source files (files header.now) e)
 
 -- ---- the status
 

@@ -3,7 +3,7 @@ use Rattle.std.proofs.lemmas.Result.{IfOk-weaker}
 use Rattle.slot_plans.specs.Growing.{growing_start}
 use Rattle.slot_plans.specs.Known.{known_start}
 use Rattle.slot_plans.specs.declared.kind.PlanKind.{PlanKind}
-use Rattle.slot_plans.specs.declared.kind.PlanKind.TheVariants.{Growing, Known}
+use Rattle.slot_plans.specs.declared.kind.PlanKind.TheVariants.{Known}
 use Rattle.command_runs.specs.InRounds.{IsFound}
 use Rattle.command_runs.specs.Served.{receives_of, start_of}
 use Rattle.command_runs.proofs.exploring.found_by.Goals as goal
@@ -29,6 +29,6 @@ returns-in-Some-new-clause-found c =
     let e = c.args.exploring.now in
     let made = c.in-Some-new.ensures.made in
     IfOk-weaker c.found_under-in-Some-new.result _ _
-    (λ x h. subst (λ (k : PlanKind). IsFound (receives_of k) (start_of k s.nodes) p s k e x)
-    (sym c.in-Growing.is) (subst (λ f. IsFound (λ r. r) f p s Growing e x)
+    (λ x h. subst (λ (k : PlanKind). IsFound (receives_of k) (start_of k s.nodes) p s c.args.kind e
+    x) (sym c.in-Growing.is) (subst (λ f. IsFound (λ r. r) f p s c.args.kind e x)
     (ap growing_start made) h)) c.found_under-in-Some-new.ensures.found
