@@ -1,16 +1,18 @@
 -- From what going through all runs answers to what the command does.
 use Rattle.std.proofs.Common.{◌≡◌, ◌∙◌, ◌⊎◌, ◌++◌, ◌∷◌, ◌<◌, ◌≤◌, ◌+◌, ◌&&◌, inl, inr, ℕ, Bool}
 use Rattle.std.proofs.Common.{Bor, List, [], Option, Some, None, Result, Ok, Err, ap, arith, false}
-use Rattle.std.proofs.Common.{get_or, length, map, option_map, refl, subst, sym, true}
-use Rattle.std.specs.Prelude.{IfErr, IfOk, IfSome, OnOk, if◌then◌else◌, slice_index, string_bytes}
+use Rattle.std.proofs.Common.{append_assoc, codes, length, length-append, map, option_map, refl}
+use Rattle.std.proofs.Common.{subst, sym, true}
+use Rattle.std.specs.Prelude.{IfErr, IfOk, IfSome, OnOk, filter, if◌then◌else◌, slice_index}
+use Rattle.std.specs.Prelude.{string_bytes}
 use Rattle.std.specs.Fmt.{decimal}
 use Rattle.std.specs.Io.KnownBytes.{Appends}
-use Rattle.std.specs.List.{range_with_len}
+use Rattle.std.specs.List.{AllZip, range_with_len}
 use Rattle.std.specs.Str.Lines.{lines}
 use Rattle.std.proofs.lemmas.List.FromFn.{get_or-map-range_with_len}
 use Rattle.command_runs.specs.Desks.{WritesTrace}
-use Rattle.command_runs.specs.InRounds.{IsFound, IsShown, IsTrace, ShowsFailure, outcome_of}
-use Rattle.command_runs.specs.InRounds.{shown_by}
+use Rattle.command_runs.specs.InRounds.{IsFound, IsMade, IsTrace, ShowsFailure, code_of}
+use Rattle.command_runs.specs.InRounds.{outcome_of, shown_by, trace_of}
 use Rattle.command_runs.specs.Refused.{IsExplorable, IsNotExplored, IsPlan, IsRefusedCommand}
 use Rattle.command_runs.specs.Refused.{IsUnexplored, of_condition}
 use Rattle.command_runs.specs.Served.{FindsIn, HasTrace, IsHeader, IsProgramOf, TellsOfAll}
@@ -18,17 +20,19 @@ use Rattle.command_runs.specs.Served.{receives_of, start_of}
 use Rattle.command_runs.specs.Stages.{HoldsText, IsNotExploredAs, WritesText}
 use Rattle.command_runs.specs.Texts.{Files}
 use Rattle.command_runs.specs.declared.exploring.Found.{Found}
+use Rattle.command_runs.specs.declared.outcome.Outcome.{Outcome}
 use Rattle.command_runs.specs.declared.outcome.Outcome.TheVariants.{Done, No}
 use Rattle.command_runs.specs.declared.refusal.Refusal.{Refusal}
 use Rattle.command_runs.specs.declared.refusal.Refusal.TheVariants as refusal
 use Rattle.command_runs.proofs.Omitted.{unserved}
-use Rattle.command_runs.proofs.Telling.{last_nodes, last_write, not_in_turn}
+use Rattle.command_runs.proofs.Telling.{IsLast, last_nodes, last_write, not_in_turn}
 use Rattle.command_words.specs.declared.exploring.Exploring.{Exploring}
 use Rattle.command_words.specs.declared.values.Source.{Source}
+use Rattle.command_words.specs.declared.values.Source.TheVariants as source
 use Rattle.command_words.specs.declared.words.Words.TheVariants as words
 use Rattle.adversary.specs.declared.fault.RunFault.TheVariants as run
 use Rattle.exploration_texts.specs.Conditions.{IsFaultFor}
-use Rattle.exploration_texts.specs.Lines.{answers_text, comment_text}
+use Rattle.exploration_texts.specs.Lines.{answers_text, comment_text, name_text}
 use Rattle.exploration_texts.specs.Stops.{steps_of}
 use Rattle.exploration_texts.specs.Told.{AreAnswers, IsFirstNo, all_hold}
 use Rattle.exploration_texts.specs.declared.condition.ConditionFault.{ConditionFault}
@@ -46,9 +50,12 @@ use Rattle.round_lang.specs.Syntax.{ProgramTree}
 use Rattle.round_meaning.specs.Omissions.{is_omitted}
 use Rattle.round_meaning.specs.declared.omissions.Omission.{Omission}
 use Rattle.round_meaning.specs.declared.setup.Setup.{Setup}
-use Rattle.schedule_text.specs.Texts.{Says, counts, max_text}
+use Rattle.schedule_text.specs.Texts.{Says, counts, lines_for, max_text}
 use Rattle.schedule_text.specs.Writing.{text_of}
-use Rattle.schedule_text.proofs.Split.{is_plain, lines-first, plain-append}
+use Rattle.schedule_text.specs.Lines.{Tells}
+use Rattle.schedule_text.specs.Small.{IsSmall}
+use Rattle.schedule_text.proofs.Digits.{digits}
+use Rattle.schedule_text.proofs.Split.{is_plain, lines-first, plain-append, plain_digits}
 use Rattle.schedule_text.specs.declared.kind.Kind.TheVariants as kinds
 use Rattle.slot_plans.specs.Plan.{IsDelta, IsNodeCount}
 use Rattle.slot_plans.specs.declared.kind.PlanKind.{PlanKind}
@@ -117,12 +124,45 @@ module _ (receives start : ℕ → ℕ) (s : Setup) (c : Counterexample) (nodes 
       (steps_of s.nodes start s.rounds c.failures.items) (is_omitted c.omissions)
       (is_omitted c.omissions) stops_so (λ i r j a b low high. refl) receives
 
+drops : (line : List ℕ) (ls : List (List ℕ)) → counts line ≡ false
+    → filter counts (line ∷ ls) ≡ filter counts ls
+drops line ls none = rw none refl
+
 -- a comment before a text changes nothing of what it says
 pub says_behind : (comment text whole : List ℕ) (s : Setup) (k : PlanKind) (events : List Event)
     → is_plain comment ≡ true → counts comment ≡ false → whole ≡ comment ++ 10 ∷ text
     → (length text ≤ max_text → Says text s k events) → length whole ≤ max_text
     → Says whole s k events
-says_behind comment text whole s k events plain none made says short = ?
+says_behind comment text whole s k events plain none made says short =
+    let same : whole ≡ (comment ++ 10 ∷ []) ++ text =
+        made ∙ sym (append_assoc comment (10 ∷ []) text) in
+    let first : lines whole ≡ comment ∷ lines text =
+        ap lines same ∙ lines-first comment text plain in
+    let all : length whole ≡ length comment + length (10 ∷ text) =
+        ap length made ∙ length-append comment (10 ∷ text) in
+    let few : length text ≤ max_text = omega (arith, all, short) in
+    record {
+      short = short;
+      each = subst (λ ls. AllZip Tells ls (lines_for kinds.Schedule s k events))
+          (sym (ap (filter counts) first ∙ drops comment (lines text) none)) (says few).each;
+    }
+
+plain_name : (name : PropertyName) → is_plain (codes "# " ++ name_text name
+    ++ codes " fails in round ") ≡ true
+plain_name names.Agreement = refl
+plain_name names.Validity = refl
+plain_name names.Final = refl
+plain_name names.Termination = refl
+plain_name names.Always = refl
+
+pub plain_comment : (name : PropertyName) (round : ℕ) → IsSmall round
+    → is_plain (comment_text name round) ≡ true
+plain_comment name round small =
+    plain-append (codes "# " ++ name_text name ++ codes " fails in round ") (decimal round)
+    (plain_name name) (plain_digits (decimal round) (digits round small))
+
+pub comment_drops : (name : PropertyName) (round : ℕ) → counts (comment_text name round) ≡ false
+comment_drops name round = refl
 
 -- ---- what is told
 
@@ -151,12 +191,9 @@ has_trace s k (Some name) after told (Some text) holds is = inr (go (after name.
     go (Some bytes) same =
         subst (ShowsFailure (receives_of k) (start_of k s.nodes) s k told) (sym same) is
 
-text_of_trace : Found → Option (List ℕ)
-text_of_trace found = option_map (λ text. string_bytes text) found.trace
-
 module _ (source : Source) (files : Files) (e : Exploring) (found : Found) where
   pub tells_of_all : (file : Option (List ℕ)) (after : Files)
-      → HoldsText after e.trace (text_of_trace found) → FindsIn source files file e found
+      → HoldsText after e.trace (trace_of found) → FindsIn source files file e found
       → TellsOfAll source files after file e found.told.items
   tells_of_all None after holds h = tt
   tells_of_all (Some text) after holds (s, k, p, read, is, h) = (
@@ -166,7 +203,7 @@ module _ (source : Source) (files : Files) (e : Exploring) (found : Found) where
     read,
     is,
     h.answers,
-    has_trace s k e.trace after found.told.items (text_of_trace found) holds h.trace,
+    has_trace s k e.trace after found.told.items (trace_of found) holds h.trace,
   )
 
   -- also where nothing is known of the files after it
@@ -179,3 +216,86 @@ module _ (source : Source) (files : Files) (e : Exploring) (found : Found) where
       nothing None text = tt
       nothing (Some name) None = tt
       nothing (Some name) (Some text) = tt
+
+-- ---- how the command ends
+
+-- where a property fails it doesn't end as where all hold
+outcome_not : (told : List Told) → all_hold told ≡ false → No ≡ outcome_of told
+outcome_not told h = rw h refl
+
+pub outcome_no : (told : List Told) (name : PropertyName) (c : Counterexample)
+    → IsFirstNo told name c → No ≡ outcome_of told
+outcome_no told name c h = outcome_not told (first_no told name c h)
+
+outcome_yes : (told : List Told) → all_hold told ≡ true → Done ≡ outcome_of told
+outcome_yes told h = rw h refl
+
+-- a trace is made just where one is asked for and a property fails
+pub trace_made : (receives start : ℕ → ℕ) (s : Setup) (k : PlanKind)
+    (name : Option (Bor (List ℕ))) (told : List Told) (trace : Option (List ℕ))
+    → IsTrace receives start s k name told trace → IsMade name told trace
+trace_made receives start s k None told trace is = is
+trace_made receives start s k (Some name) told None is = is
+trace_made receives start s k (Some name) told (Some text) (n, c, first, shown) =
+    first_no told n c first
+
+-- and it is written if the command ends so
+pub trace_written : (name : Option (Bor (List ℕ))) (told : List Told)
+    (trace : Option (List ℕ)) (o : Outcome) (old new : List (List ℕ)) → IsMade name told trace
+    → o ≡ outcome_of told → WritesText name trace old new → WritesTrace name o old new
+trace_written None told trace o old new is ends wrote = wrote
+trace_written (Some name) told None o old new is ends wrote =
+    subst (λ x. WritesTrace (Some name) x old new) (outcome_yes told is ∙ sym ends) wrote
+trace_written (Some name) told (Some text) o old new is ends wrote =
+    subst (λ x. WritesTrace (Some name) x old new) (outcome_not told is ∙ sym ends) wrote
+
+-- of memory nothing is said
+no_room : (s : Source) (files : Files) (file : Option (List ℕ)) (e : Exploring)
+    → IsUnexplored s files file e refusal.NoMemory
+no_room (source.File name) files file e = inl tt
+no_room (source.Library name values) files file e = inr (inl (tt, tt))
+
+-- why the command is refused
+module _ (source : Source) (files : Files) (header : Bor (List ℕ)) (e : Exploring) where
+  never : (r : Refusal) → ((p : ProgramTree) (s : Setup) (k : PlanKind)
+      → IsNotExplored p s k e r → ⊥) → IsLast r
+      → IsUnexplored source files (files header.now) e r → ⊥
+  never r none last h =
+      not_in_turn kinds.Header (λ p s k t r. IsNotExplored p s k e r) source files
+      (files header.now) r last (λ p s k t. none p s k) h
+
+  pub explore_refused : (r : Refusal) → IsUnexplored source files (files header.now) e r
+      → IsRefusedCommand (words.Explore source header e) files r
+  explore_refused r h =
+      unserved (words.Explore source header e) files r
+      (never refusal.Write (λ p s k none. none) last_write)
+      (never refusal.NodeNoMemory (λ p s k none. none) last_nodes) h
+
+  -- nothing was written, though there was something to write
+  pub explore_unwritten : (found : Found) (r : Refusal)
+      → FindsIn source files (files header.now) e found → (r ≡ refusal.Write)
+      ⊎ (r ≡ refusal.NoMemory) → IsRefusedCommand (words.Explore source header e) files r
+  explore_unwritten found r h (inl same) =
+      subst (IsRefusedCommand (words.Explore source header e) files) (sym same)
+      ((λ name. None), answers_text found.told.items,
+      (found.told.items, tells_at_first source files e found (files header.now) h, refl))
+  explore_unwritten found r h (inr same) =
+      subst (IsRefusedCommand (words.Explore source header e) files) (sym same)
+      (no_room source files (files header.now) e)
+
+-- ---- the status
+
+-- no status is that of two outcomes
+pub code_same : (a b : Outcome) → code_of a ≡ code_of b → a ≡ b
+code_same Done Done h = refl
+code_same No No h = refl
+code_same Done No h = absurd (omega (arith, h))
+code_same No Done h = absurd (omega (arith, h))
+
+pub code_known : (o : Outcome) (n : ℕ) → n ≡ code_of o → (n ≤ 3) ⊎ (n ≡ 5)
+code_known Done n h = inl (omega (arith, h))
+code_known No n h = inr h
+
+pub code_served : {A : Type 0} (o : Outcome) (n : ℕ) → n ≡ code_of o → 0 < n → n ≤ 3 → A
+code_served Done n h some few = absurd (omega (arith, h, some))
+code_served No n h some few = absurd (omega (arith, h, few))

@@ -138,7 +138,7 @@ never_unrealised s files header omissions r last never
     (inr (inr (inr (opened, (u, k, ls, read, said, inr (p, is, none)))))) = never p u k ls none
 
 -- what isn't told last is a cause of the command as it is of what it makes
-unserved : (w : Words) (files : Files) (r : Refusal) → (IsUnserved w files refusal.Write → ⊥)
+pub unserved : (w : Words) (files : Files) (r : Refusal) → (IsUnserved w files refusal.Write → ⊥)
     → (IsUnserved w files refusal.NodeNoMemory → ⊥) → IsUnserved w files r
     → IsRefusedCommand w files r
 unserved w files refusal.Write write nodes h = absurd (write h)

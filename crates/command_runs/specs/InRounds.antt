@@ -1,7 +1,7 @@
 -- What is found in all runs in rounds, and how a command ends that was carried out.
 use Rattle.std.specs.Borrow.{Bor}
-use Rattle.std.specs.Prelude.{◌≡◌, ◌++◌, ◌∷◌, ◌≤◌, ℕ, List, None, Option, Some, length, true}
-use Rattle.std.specs.Prelude.{if◌then◌else◌, option_map, string_bytes}
+use Rattle.std.specs.Prelude.{◌≡◌, ◌++◌, ◌∷◌, ◌≤◌, ℕ, List, None, Option, Some, false, length}
+use Rattle.std.specs.Prelude.{if◌then◌else◌, option_map, string_bytes, true}
 use Rattle.command_runs.specs.declared.exploring.Found.{Found}
 use Rattle.command_runs.specs.declared.outcome.Outcome.{Outcome}
 use Rattle.command_runs.specs.declared.outcome.Outcome.TheVariants.{Done, No}
@@ -45,13 +45,17 @@ ShowsFailure receives start s k told text =
     (name : PropertyName) × (c : Counterexample) × IsFirstNo told name c
     × IsShown receives start s k name c text
 
--- the trace, where one is asked for: there is none if each property holds
+-- the same if some property fails, and there is no text if each holds
+abbrev pub ShowsFirst :
+    (receives start : ℕ → ℕ) → Setup → PlanKind → List Told → (text : Option (List ℕ)) → Type 0
+ShowsFirst receives start s k told None = all_hold told ≡ true
+ShowsFirst receives start s k told (Some text) = ShowsFailure receives start s k told text
+
+-- the trace, where one is asked for
 abbrev pub IsTrace : (receives start : ℕ → ℕ) → Setup → PlanKind → Option (Bor (List ℕ))
     → List Told → (trace : Option (List ℕ)) → Type 0
 IsTrace receives start s k None told trace = trace ≡ None
-IsTrace receives start s k (Some name) told None = all_hold told ≡ true
-IsTrace receives start s k (Some name) told (Some text) =
-    ShowsFailure receives start s k told text
+IsTrace receives start s k (Some name) told trace = ShowsFirst receives start s k told trace
 
 -- what the options ask is told, and this is the trace
 pub record IsFound (receives start : ℕ → ℕ) (p : ProgramTree) (s : Setup) (k : PlanKind)
@@ -59,6 +63,16 @@ pub record IsFound (receives start : ℕ → ℕ) (p : ProgramTree) (s : Setup) 
   pub answers : AreAnswers p s e found.told.items
   pub trace : IsTrace receives start s k e.trace found.told.items
       (option_map (λ text. string_bytes text) found.trace)
+
+-- there is a trace just where one is asked for and a property fails
+abbrev pub IsMade : Option (Bor (List ℕ)) → List Told → (trace : Option (List ℕ)) → Type 0
+IsMade None told trace = trace ≡ None
+IsMade (Some name) told None = all_hold told ≡ true
+IsMade (Some name) told (Some text) = all_hold told ≡ false
+
+-- the bytes of a trace that was found
+abbrev pub trace_of : Found → Option (List ℕ)
+trace_of found = option_map (λ text. string_bytes text) found.trace
 
 -- how `explore` ends that tells this
 abbrev pub outcome_of : List Told → Outcome

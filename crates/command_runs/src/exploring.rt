@@ -1,12 +1,11 @@
 //! What is found by going through all runs in rounds.
-ghost use Rattle.std.specs.Prelude.{◌≡◌, ◌↔◌, All, IfErr, IfNone, IfOk, IfSome, IsTrue};
-ghost use Rattle.std.specs.Prelude.{string_bytes, true};
-ghost use Rattle.command_runs.specs.InRounds.{IsFound, IsShown, ShowsFailure};
+ghost use Rattle.std.specs.Prelude.{◌≡◌, ◌↔◌, All, IfErr, IfOk, IsTrue, option_map, string_bytes};
+ghost use Rattle.command_runs.specs.InRounds.{IsFound, IsMade, IsShown, IsTrace, ShowsFirst};
+ghost use Rattle.command_runs.specs.InRounds.{trace_of};
 ghost use Rattle.command_runs.specs.Refused.{IsExplorable, IsNotExplored, IsUnexplored};
 ghost use Rattle.command_runs.specs.Served.{FindsIn, receives_of, start_of};
 ghost use Rattle.command_runs.specs.Stages.{IsNotExploredAs};
 ghost use Rattle.exploration_texts.specs.Stops.{IsShowable, IsToldToShow};
-ghost use Rattle.exploration_texts.specs.Told.{all_hold};
 ghost use Rattle.round_meaning.specs.Setups.{IsSetup};
 
 use crate::desk::Desk;
@@ -45,6 +44,8 @@ impl<'a> Exploration<'a> {
     pub fn find<D: Desk>(&self, alloc: Global, desk: &mut D) -> Result<Found, Refusal>
         ensures found { IfOk result (FindsIn self.now.source (D.files desk.old)
             (D.files desk.old self.now.header.now) self.now.exploring) }
+        ensures made { IfOk result (λ found.
+            IsMade self.now.exploring.trace found.told.items (trace_of found)) }
         ensures refused { IfErr result (IsUnexplored self.now.source (D.files desk.old)
             (D.files desk.old self.now.header.now) self.now.exploring) }
         ensures written { D.written desk.new ≡ D.written desk.old }
@@ -66,6 +67,8 @@ fn found_by(
 ) -> Result<Found, Refusal>
     ensures found { IfOk result (IsFound (receives_of kind) (start_of kind setup.now.nodes)
         program.now setup.now kind exploring.now) }
+    ensures made { IfOk result (λ found.
+        IsMade exploring.now.trace found.told.items (trace_of found)) }
     ensures refused { IfErr result (IsNotExplored program.now setup.now kind exploring.now) }
 {
     match kind {
@@ -91,16 +94,15 @@ fn found_under<P: Plan>(
     requires { P.nodes plan ≡ setup.now.nodes }
     ensures found { IfOk result (IsFound (P.receives plan) (P.start plan) program.now setup.now kind
         exploring.now) }
+    ensures made { IfOk result (λ found.
+        IsMade exploring.now.trace found.told.items (trace_of found)) }
     ensures refused { IfErr result (IsNotExploredAs program.now setup.now exploring.now) }
 {
     if !is_explorable(program, setup, exploring) {
         return Err(Refusal::Run(RunFault::BadSetup));
     }
     let told = answer_all(alloc, program, setup, exploring)?;
-    let trace = match exploring.trace {
-        Some(_) => trace_of(alloc, setup, kind, plan, &told)?,
-        None => None,
-    };
+    let trace = trace_for(alloc, setup, kind, plan, exploring.trace, &told)?;
     Ok(Found { told, trace })
 }
 
@@ -109,6 +111,27 @@ fn is_explorable(program: &Checked, setup: &Setup, exploring: &Exploring<'_>) ->
     ensures { IsTrue result ↔ IsExplorable program.now setup.now exploring.now }
 {
     setup.is_lawful(program) && exploring.hears <= setup.nodes
+}
+
+/// The schedule that shows the first property that fails, if one is asked for.
+fn trace_for<P: Plan>(
+    alloc: Global,
+    setup: &Setup,
+    kind: PlanKind,
+    plan: P,
+    name: Option<&str>,
+    told: &[Told],
+) -> Result<Option<String>, NoMemory>
+    requires nodes { P.nodes plan ≡ setup.now.nodes }
+    requires setup { IsSetup setup.now }
+    requires showable { All (IsToldToShow setup.now) told.now }
+    ensures { IfOk result (λ trace. IsTrace (P.receives plan) (P.start plan) setup.now kind
+        name.entry told.now (option_map (λ text. string_bytes text) trace)) }
+{
+    match name {
+        None => Ok(None),
+        Some(_) => trace_of(alloc, setup, kind, plan, told),
+    }
 }
 
 /// The schedule that shows the first property that fails.
@@ -122,9 +145,8 @@ fn trace_of<P: Plan>(
     requires nodes { P.nodes plan ≡ setup.now.nodes }
     requires setup { IsSetup setup.now }
     requires showable { All (IsToldToShow setup.now) told.now }
-    ensures none { IfOk result (λ trace. IfNone trace (all_hold told.now ≡ true)) }
-    ensures some { IfOk result (λ trace. IfSome trace (λ text. ShowsFailure (P.receives plan)
-        (P.start plan) setup.now kind told.now (string_bytes text))) }
+    ensures { IfOk result (λ trace. ShowsFirst (P.receives plan) (P.start plan) setup.now kind
+        told.now (option_map (λ text. string_bytes text) trace)) }
 {
     match first_failure(told) {
         None => Ok(None),
@@ -143,7 +165,7 @@ fn shown<P: Plan>(
 ) -> Result<String, NoMemory>
     requires nodes { P.nodes plan ≡ setup.now.nodes }
     requires setup { IsSetup setup.now }
-    requires showable { IsShowable setup.now failed.entry.found.now }
+    requires showable { IsShowable setup.now failed.found.now }
     ensures { IfOk result (λ text. IsShown (P.receives plan) (P.start plan) setup.now kind
         failed.entry.name failed.entry.found.now (string_bytes text)) }
 {

@@ -1,17 +1,16 @@
 -- That a schedule can show each run that is told of.
-use Rattle.std.proofs.Common.{◌≡◌, ◌∙◌, ◌⊎◌, ◌+◌, ◌<◌, ◌≤◌, ◌∷◌, [], ℕ, All, List, Option, ap, arith}
-use Rattle.std.proofs.Common.{false, get_or, inl, inr, length, refl, subst, suc, sym, true}
+use Rattle.std.proofs.Common.{◌≡◌, ◌∙◌, ◌≤◌, ◌∷◌, [], ℕ, All, List, Option, ap, arith}
+use Rattle.std.proofs.Common.{false, get_or, inl, inr, length, refl, subst, suc, sym}
 use Rattle.std.proofs.lemmas.Bool.{cases_lt}
 use Rattle.std.proofs.lemmas.List.{get_or_past}
-use Rattle.std.proofs.lemmas.List.Elements.{All-cons, All-nil}
 use Rattle.command_words.specs.declared.exploring.Exploring.{Exploring}
 use Rattle.exploration_texts.specs.Asking.{inputs_of, question_of}
 use Rattle.exploration_texts.specs.Stops.{AreWithin, CanBeShown, IsShowable, IsToldToShow}
-use Rattle.exploration_texts.specs.Told.{AreAnswers, IsFirstNo, IsRightOf, all_hold, holds}
+use Rattle.exploration_texts.specs.Told.{AreAnswers, IsFirstNo, IsRightOf, all_hold}
 use Rattle.exploration_texts.specs.declared.told.PropertyName.{PropertyName}
 use Rattle.exploration_texts.specs.declared.told.Told.{Told}
 use Rattle.round_explorer.specs.Answers.{IsRight}
-use Rattle.round_explorer.specs.Questions.{AreAsked, IsOfKind, IsPattern, failure_of}
+use Rattle.round_explorer.specs.Questions.{AreAsked, IsOfKind, failure_of}
 use Rattle.round_explorer.specs.declared.answer.Answer.{Answer}
 use Rattle.round_explorer.specs.declared.answer.Answer.TheVariants.{Fails, Holds}
 use Rattle.round_explorer.specs.declared.answer.Counterexample.{Counterexample}
@@ -59,6 +58,7 @@ module _ (p : ProgramTree) (s : Setup) (sized : IsSetup s) (question : Question)
   right_shown x Holds h = tt
   right_shown x (Fails c) h = record {
     inputs = inputs_many p.values s asked c.inputs sized h.is_asked.are_asked;
+    past = h.past;
     within = all_within question.faults s.rounds c.failures.items h.is_asked.is_pattern.kinds;
   }
 

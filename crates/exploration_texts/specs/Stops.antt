@@ -26,9 +26,11 @@ abbrev pub AreWithin : (rounds : ℕ) → List Failure → Type 0
 AreWithin rounds pattern =
     (i c : ℕ) → failure_of pattern i ≡ Crashes c → (1 ≤ c) × (c ≤ rounds)
 
--- a schedule can show the run: each node has an input, and each crash is in one of the rounds
+-- a schedule can show the run: each node has an input, and the failure and each crash are in its
+-- rounds
 pub record IsShowable (s : Setup) (c : Counterexample) : Type 0 where
   pub inputs : length c.inputs ≡ s.nodes
+  pub past : c.round ≤ s.rounds
   pub within : AreWithin s.rounds c.failures.items
 
 -- the same of what was found of a property, if it fails
