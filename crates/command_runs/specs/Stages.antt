@@ -1,6 +1,6 @@
 -- What the parts of a command answer, which proofs pass through.
 use Rattle.std.specs.Borrow.{Bor}
-use Rattle.std.specs.Prelude.{◌≡◌, ◌<◌, ◌⊎◌, ◌++◌, ◌∷◌, ⊤, ℕ, All, Bool, Err, IfSome, List, []}
+use Rattle.std.specs.Prelude.{◌≡◌, ◌<◌, ◌⊎◌, ◌++◌, ◌∷◌, ⊤, ℕ, All, Bool, IfSome, List, []}
 use Rattle.std.specs.Prelude.{Option, Some, length}
 use Rattle.std.specs.Prelude.{true}
 use Rattle.std.specs.Io.KnownBytes.{Appends}
@@ -43,7 +43,6 @@ use Rattle.round_lang.specs.declared.fault.LangFault.TheVariants as lang
 use Rattle.round_meaning.specs.Setups.{IsLawful}
 use Rattle.round_meaning.specs.declared.setup.Setup.{Setup}
 use Rattle.schedule_text.specs.Readers.{IsBegun, IsOpened, IsRefusedAs, Reading}
-use Rattle.schedule_text.specs.Readings.{IsReadingOf}
 use Rattle.schedule_text.specs.Sources.{IsNoSchedule}
 use Rattle.schedule_text.specs.Texts.{SaysOf, Tail, max_text as max_schedule}
 use Rattle.schedule_text.specs.declared.kind.Kind.{Kind}
