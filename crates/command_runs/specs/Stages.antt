@@ -205,7 +205,8 @@ IsNotRealisedAs p s ls _ = ⊥
 
 -- why an answer isn't told
 abbrev pub IsRefusedAnswer : Source → Files → Option (List ℕ) → Question → Refusal → Type 0
-IsRefusedAnswer source files file q refusal.Write = (a : RunAnswer) × AnswersRun source files file q a
+IsRefusedAnswer source files file q refusal.Write =
+    (a : RunAnswer) × AnswersRun source files file q a
 IsRefusedAnswer source files file q r = IsUnanswered source files file (listed_by q) r
 
 -- why there is no run by threads under a plan
