@@ -1,108 +1,52 @@
 -- From what going through all runs answers to what the command does.
-use Rattle.std.proofs.Common.{◌≡◌, ◌∙◌, ◌⊎◌, ◌++◌, ◌∷◌, ◌<◌, ◌≤◌, ◌+◌, ◌&&◌, inl, inr, ℕ, Bool}
-use Rattle.std.proofs.Common.{Bor, List, [], Option, Some, None, Result, Ok, Err, ap, arith, false}
-use Rattle.std.proofs.Common.{append_assoc, codes, length, length-append, map, option_map, refl}
+use Rattle.std.proofs.Common.{◌≡◌, ◌∙◌, ◌⊎◌, ◌++◌, ◌∷◌, ◌<◌, ◌≤◌, ◌+◌, inl, inr, ℕ}
+use Rattle.std.proofs.Common.{Bor, List, [], Option, Some, None, ap, arith, false}
+use Rattle.std.proofs.Common.{append_assoc, codes, length, length-append, map, refl}
 use Rattle.std.proofs.Common.{subst, sym, true}
-use Rattle.std.specs.Prelude.{IfErr, IfOk, IfSome, OnOk, filter, if◌then◌else◌, slice_index}
-use Rattle.std.specs.Prelude.{string_bytes}
+use Rattle.std.specs.Prelude.{IfSome, filter, slice_index}
 use Rattle.std.specs.Fmt.{decimal}
-use Rattle.std.specs.Io.KnownBytes.{Appends}
 use Rattle.std.specs.List.{AllZip, range_with_len}
 use Rattle.std.specs.Str.Lines.{lines}
 use Rattle.std.proofs.lemmas.List.FromFn.{get_or-map-range_with_len}
 use Rattle.command_runs.specs.Desks.{WritesTrace}
 use Rattle.command_runs.specs.InRounds.{IsFound, IsMade, IsTrace, ShowsFailure, code_of}
 use Rattle.command_runs.specs.InRounds.{outcome_of, shown_by, trace_of}
-use Rattle.command_runs.specs.Refused.{IsExplorable, IsNotExplored, IsPlan, IsRefusedCommand}
-use Rattle.command_runs.specs.Refused.{IsUnexplored, of_condition}
+use Rattle.command_runs.specs.Refused.{IsRefusedCommand}
+use Rattle.command_runs.specs.Refused.{IsUnexplored}
 use Rattle.command_runs.specs.Served.{FindsIn, HasTrace, IsHeader, IsProgramOf, TellsOfAll}
 use Rattle.command_runs.specs.Served.{receives_of, start_of}
-use Rattle.command_runs.specs.Stages.{HoldsText, IsNotExploredAs, WritesText}
+use Rattle.command_runs.specs.Stages.{HoldsText, WritesText}
 use Rattle.command_runs.specs.Texts.{Files}
 use Rattle.command_runs.specs.declared.exploring.Found.{Found}
 use Rattle.command_runs.specs.declared.outcome.Outcome.{Outcome}
 use Rattle.command_runs.specs.declared.outcome.Outcome.TheVariants.{Done, No}
 use Rattle.command_runs.specs.declared.refusal.Refusal.{Refusal}
 use Rattle.command_runs.specs.declared.refusal.Refusal.TheVariants as refusal
-use Rattle.command_runs.proofs.Omitted.{unserved}
-use Rattle.command_runs.proofs.Telling.{IsLast, last_nodes, last_write, not_in_turn}
 use Rattle.command_words.specs.declared.exploring.Exploring.{Exploring}
 use Rattle.command_words.specs.declared.values.Source.{Source}
 use Rattle.command_words.specs.declared.values.Source.TheVariants as source
 use Rattle.command_words.specs.declared.words.Words.TheVariants as words
-use Rattle.adversary.specs.declared.fault.RunFault.TheVariants as run
-use Rattle.exploration_texts.specs.Conditions.{IsFaultFor}
 use Rattle.exploration_texts.specs.Lines.{answers_text, comment_text, name_text}
 use Rattle.exploration_texts.specs.Stops.{steps_of}
-use Rattle.exploration_texts.specs.Told.{AreAnswers, IsFirstNo, all_hold}
-use Rattle.exploration_texts.specs.declared.condition.ConditionFault.{ConditionFault}
-use Rattle.exploration_texts.specs.declared.condition.ConditionFault.TheVariants as condition
+use Rattle.exploration_texts.specs.Told.{IsFirstNo, all_hold}
 use Rattle.exploration_texts.specs.declared.told.PropertyName.{PropertyName}
 use Rattle.exploration_texts.specs.declared.told.PropertyName.TheVariants as names
 use Rattle.exploration_texts.specs.declared.told.Told.{Told}
 use Rattle.exploration_texts.proofs.Showing.{first_no}
 use Rattle.omission_schedules.specs.Schedules.{schedule_with_stops}
 use Rattle.omission_schedules.proofs.Same.{schedule_same}
-use Rattle.round_explorer.specs.Answers.{with_inputs}
 use Rattle.round_explorer.specs.declared.answer.Counterexample.{Counterexample}
-use Rattle.round_explorer.specs.declared.question.Failure.{Failure}
 use Rattle.round_lang.specs.Syntax.{ProgramTree}
 use Rattle.round_meaning.specs.Omissions.{is_omitted}
-use Rattle.round_meaning.specs.declared.omissions.Omission.{Omission}
 use Rattle.round_meaning.specs.declared.setup.Setup.{Setup}
 use Rattle.schedule_text.specs.Texts.{Says, counts, lines_for, max_text}
-use Rattle.schedule_text.specs.Writing.{text_of}
 use Rattle.schedule_text.specs.Lines.{Tells}
 use Rattle.schedule_text.specs.Small.{IsSmall}
 use Rattle.schedule_text.proofs.Digits.{digits}
 use Rattle.schedule_text.proofs.Split.{is_plain, lines-first, plain-append, plain_digits}
 use Rattle.schedule_text.specs.declared.kind.Kind.TheVariants as kinds
-use Rattle.slot_plans.specs.Plan.{IsDelta, IsNodeCount}
 use Rattle.slot_plans.specs.declared.kind.PlanKind.{PlanKind}
-use Rattle.slot_plans.specs.declared.kind.PlanKind.TheVariants.{Growing, Known}
 use Rattle.step_machine.specs.declared.event.Event.{Event}
-
--- ---- why not
-
--- what the answers refuse
-pub no_answers : (p : ProgramTree) (s : Setup) (e : Exploring) (f : ConditionFault)
-    → IsExplorable p s e → IsFaultFor p e.always f → IsNotExploredAs p s e (of_condition f)
-no_answers p s e (condition.Source f) can h = (can, h)
-no_answers p s e (condition.Check f) can h = (can, h)
-no_answers p s e condition.NoMemory can h = tt
-
--- under a plan within its limits
-pub not_explored : (p : ProgramTree) (s : Setup) (k : PlanKind) (e : Exploring) (r : Refusal)
-    → IsPlan k → IsNotExploredAs p s e r → IsNotExplored p s k e r
-not_explored p s k e (refusal.Run run.BadSetup) plan none = λ both. none both.0
-not_explored p s k e (refusal.Run (run.UnknownNode n)) plan none = none
-not_explored p s k e (refusal.Run (run.UnknownMessage n)) plan none = none
-not_explored p s k e (refusal.Run run.NoMemory) plan none = none
-not_explored p s k e (refusal.Run run.NoThread) plan none = none
-not_explored p s k e (refusal.Run run.Unmatched) plan none = none
-not_explored p s k e (refusal.Condition (condition.Source f)) plan none = (none.0, plan, none.1)
-not_explored p s k e (refusal.Condition (condition.Check f)) plan none = (none.0, plan, none.1)
-not_explored p s k e (refusal.Condition condition.NoMemory) plan none = none
-not_explored p s k e refusal.NoMemory plan none = tt
-not_explored p s k e (refusal.Words fault) plan none = none
-not_explored p s k e refusal.File plan none = none
-not_explored p s k e (refusal.Source fault) plan none = none
-not_explored p s k e (refusal.Check fault) plan none = none
-not_explored p s k e (refusal.Schedule fault) plan none = none
-not_explored p s k e (refusal.Library fault) plan none = none
-not_explored p s k e refusal.NoSuchProgram plan none = none
-not_explored p s k e refusal.Write plan none = none
-not_explored p s k e refusal.NodeNoMemory plan none = none
-
--- where there is no plan, a number is past its limits
-pub no_known_search : (p : ProgramTree) (s : Setup) (delta : ℕ) (e : Exploring)
-    → ¬ (IsNodeCount s.nodes × IsDelta delta) → ¬ (IsExplorable p s e × IsPlan (Known delta))
-no_known_search p s delta e none is =
-    none ((is.0.0.sized.some_node, is.0.0.sized.few_nodes), is.1)
-
-pub no_growing_search : (p : ProgramTree) (s : Setup) (e : Exploring) → ¬ (IsNodeCount s.nodes)
-    → ¬ (IsExplorable p s e × IsPlan Growing)
-no_growing_search p s e none is = none (is.0.0.sized.some_node, is.0.0.sized.few_nodes)
 
 -- ---- the schedule that shows a failure
 
@@ -135,11 +79,11 @@ pub says_behind : (comment text whole : List ℕ) (s : Setup) (k : PlanKind) (ev
     → Says whole s k events
 says_behind comment text whole s k events plain none made says short =
     let same : whole ≡ (comment ++ 10 ∷ []) ++ text =
-        made ∙ sym (append_assoc comment (10 ∷ []) text) in
+    made ∙ sym (append_assoc comment (10 ∷ []) text) in
     let first : lines whole ≡ comment ∷ lines text =
-        ap lines same ∙ lines-first comment text plain in
+    ap lines same ∙ lines-first comment text plain in
     let all : length whole ≡ length comment + length (10 ∷ text) =
-        ap length made ∙ length-append comment (10 ∷ text) in
+    ap length made ∙ length-append comment (10 ∷ text) in
     let few : length text ≤ max_text = omega (arith, all, short) in
     record {
       short = short;
@@ -257,28 +201,16 @@ no_room (source.Library name values) files file e = inr (inl (tt, tt))
 
 -- why the command is refused
 module _ (source : Source) (files : Files) (header : Bor (List ℕ)) (e : Exploring) where
-  never : (r : Refusal) → ((p : ProgramTree) (s : Setup) (k : PlanKind)
-      → IsNotExplored p s k e r → ⊥) → IsLast r
-      → IsUnexplored source files (files header.now) e r → ⊥
-  never r none last h =
-      not_in_turn kinds.Header (λ p s k t r. IsNotExplored p s k e r) source files
-      (files header.now) r last (λ p s k t. none p s k) h
-
-  pub explore_refused : (r : Refusal) → IsUnexplored source files (files header.now) e r
-      → IsRefusedCommand (words.Explore source header e) files r
-  explore_refused r h =
-      unserved (words.Explore source header e) files r
-      (never refusal.Write (λ p s k none. none) last_write)
-      (never refusal.NodeNoMemory (λ p s k none. none) last_nodes) h
-
   -- nothing was written, though there was something to write
   pub explore_unwritten : (found : Found) (r : Refusal)
       → FindsIn source files (files header.now) e found → (r ≡ refusal.Write)
       ⊎ (r ≡ refusal.NoMemory) → IsRefusedCommand (words.Explore source header e) files r
   explore_unwritten found r h (inl same) =
-      subst (IsRefusedCommand (words.Explore source header e) files) (sym same)
-      ((λ name. None), answers_text found.told.items,
-      (found.told.items, tells_at_first source files e found (files header.now) h, refl))
+      subst (IsRefusedCommand (words.Explore source header e) files) (sym same) (
+        (λ name. None),
+        answers_text found.told.items,
+        (found.told.items, tells_at_first source files e found (files header.now) h, refl),
+      )
   explore_unwritten found r h (inr same) =
       subst (IsRefusedCommand (words.Explore source header e) files) (sym same)
       (no_room source files (files header.now) e)

@@ -1,19 +1,18 @@
 -- From what is made of omissions to what the commands do with it.
-use Rattle.std.proofs.Common.{◌≡◌, ◌⊎◌, inl, inr, ℕ, zero, suc, ◌+◌, ◌-◌, ◌<◌, ◌≤◌, All, Bool, Bor}
+use Rattle.std.proofs.Common.{◌≡◌, inl, inr, ℕ, ◌<◌, ◌≤◌, Bool, Bor}
 use Rattle.std.proofs.Common.{true}
-use Rattle.std.proofs.Common.{◌&&◌, List, [], Option, Some, None, Err, length, map, refl, sym, ap}
-use Rattle.std.proofs.Common.{ap₂, ◌∙◌}
+use Rattle.std.proofs.Common.{◌&&◌, List, Option, Some, None, Err, map, sym, ap}
+use Rattle.std.proofs.Common.{◌∙◌}
 use Rattle.std.proofs.Common.{subst, arith}
-use Rattle.std.specs.Prelude.{IfSome, nat_le, nat_lt, slice_index, string_bytes}
+use Rattle.std.specs.Prelude.{IfSome, slice_index}
 use Rattle.std.specs.List.{range_with_len}
 use Rattle.std.proofs.lemmas.Bool.{and_from, le-leb, lt-ltb}
 use Rattle.std.proofs.lemmas.List.FromFn.{get_or-map-range_with_len}
 use Rattle.adversary.specs.declared.fault.RunFault.{RunFault}
 use Rattle.adversary.specs.declared.fault.RunFault.TheVariants as run
-use Rattle.command_runs.specs.InLockstep.{IsWritten}
 use Rattle.command_runs.specs.InOmissions.{OmissionCause, RunsReportRounds, ShowsOmitting}
 use Rattle.command_runs.specs.InOmissions.{realised_by}
-use Rattle.command_runs.specs.Refused.{IsNotOpened, IsNotRealised, IsPlan, IsRefusedCommand}
+use Rattle.command_runs.specs.Refused.{IsNotRealised, IsPlan, IsRefusedCommand}
 use Rattle.command_runs.specs.Refused.{IsUnrealised, IsUnserved, fault_in, of_run, of_schedule}
 use Rattle.command_runs.specs.Refused.{omission_fault}
 use Rattle.command_runs.specs.Served.{IsOmissionText}
@@ -37,7 +36,7 @@ use Rattle.omission_schedules.proofs.Shown.{schedules_show_rounds}
 use Rattle.omission_schedules.specs.Reports.{IsExplained, IsScheduleRun, ShowsRounds}
 use Rattle.omission_schedules.specs.Schedules.{schedule_with_stops}
 use Rattle.omission_texts.specs.Meaning.{IsTableOf, is_message, omits}
-use Rattle.omission_texts.specs.Readings.{IsRead, IsReading}
+use Rattle.omission_texts.specs.Readings.{IsRead}
 use Rattle.omission_texts.specs.Stops.{steps_of}
 use Rattle.omission_texts.specs.Texts.{Says as SaysOmissions}
 use Rattle.omission_texts.specs.declared.line.OmissionLine.{OmissionLine}
@@ -53,7 +52,6 @@ use Rattle.schedule_text.specs.declared.fault.ScheduleFault.TheVariants as sched
 use Rattle.slot_plans.specs.Plan.{IsDelta, IsNodeCount}
 use Rattle.slot_plans.specs.declared.kind.PlanKind.{PlanKind}
 use Rattle.slot_plans.specs.declared.kind.PlanKind.TheVariants.{Growing, Known}
-use Rattle.step_machine.specs.declared.event.Event.{Event}
 
 -- ---- what a file says
 
@@ -138,7 +136,7 @@ never_unrealised s files header omissions r last never
     (inr (inr (inr (opened, (u, k, ls, read, said, inr (p, is, none)))))) = never p u k ls none
 
 -- what isn't told last is a cause of the command as it is of what it makes
-pub unserved : (w : Words) (files : Files) (r : Refusal) → (IsUnserved w files refusal.Write → ⊥)
+unserved : (w : Words) (files : Files) (r : Refusal) → (IsUnserved w files refusal.Write → ⊥)
     → (IsUnserved w files refusal.NodeNoMemory → ⊥) → IsUnserved w files r
     → IsRefusedCommand w files r
 unserved w files refusal.Write write nodes h = absurd (write h)

@@ -13,7 +13,7 @@ use Rattle.command_runs.specs.Refused.{IsNotOffered, IsOpened as IsSourceOpened,
 use Rattle.command_runs.specs.Refused.{IsNotRun, IsPlan, IsRunnable, of_check, of_read, of_schedule}
 use Rattle.command_runs.specs.Refused.{of_source, of_text}
 use Rattle.command_runs.specs.Served.{IsCheckedSource, IsOfKind, IsProgramOf, IsSchedule}
-use Rattle.command_runs.specs.Stages.{IsBadSchedule, IsNoProgramIn, IsNoProgramOf, IsNoReadIn}
+use Rattle.command_runs.specs.Stages.{IsBadSchedule, IsNoProgramIn, IsNoProgramOf}
 use Rattle.command_runs.specs.Stages.{IsNoReadOf, IsNotRunAs, IsProgramIn, IsReadIn, IsToldAfter}
 use Rattle.command_runs.specs.Stages.{IsUnread, IsUnreadIn, StopsSchedule}
 use Rattle.command_runs.specs.Texts.{Files, IsTextOf}

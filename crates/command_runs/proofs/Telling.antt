@@ -4,7 +4,7 @@ use Rattle.std.proofs.Common.{Result, Ok, Err, refl, sym, subst}
 use Rattle.std.specs.Prelude.{IfErr, IfSome, codes}
 use Rattle.std.specs.Global.{Vec}
 use Rattle.std.specs.Io.KnownBytes.{Keeps}
-use Rattle.command_runs.specs.Refused.{IsMissing, IsNoOffer, IsNoProgram, IsNotOffered, IsNotRun}
+use Rattle.command_runs.specs.Refused.{IsNoOffer, IsNoProgram, IsNotOffered, IsNotRun}
 use Rattle.command_runs.specs.Refused.{IsOpened, IsRefusedCommand, IsRefusedInTurn, IsSilent, IsUnanswered}
 use Rattle.command_runs.specs.Refused.{Fault, HasNoText, Later, fault_in}
 use Rattle.command_runs.specs.Served.{IsCheckedSource, JudgesRun, Opens}

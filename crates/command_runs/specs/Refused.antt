@@ -1,5 +1,6 @@
 -- Why a command is refused: the cause of each refusal, and the order in which they are told.
-use Rattle.std.specs.Prelude.{◌≡◌, ◌<◌, ◌≤◌, ◌⊎◌, ⊤, ℕ, All, Err, List, [], Option, IfSome, Some, codes}
+use Rattle.std.specs.Prelude.{◌≡◌, ◌<◌, ◌≤◌, ◌⊎◌, ⊤, ℕ, All, Err, List, [], Option, IfSome, Some}
+use Rattle.std.specs.Prelude.{codes}
 use Rattle.std.specs.Io.KnownBytes.{Keeps}
 use Rattle.adversary.specs.Driving.{IsUnknownAt}
 use Rattle.adversary.specs.declared.fault.ReadFault.{ReadFault}

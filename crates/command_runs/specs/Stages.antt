@@ -1,6 +1,6 @@
 -- What the parts of a command answer, which proofs pass through.
 use Rattle.std.specs.Borrow.{Bor}
-use Rattle.std.specs.Prelude.{◌≡◌, ◌<◌, ◌⊎◌, ◌++◌, ◌∷◌, ⊤, ℕ, All, Bool, Err, IfSome, List, []}
+use Rattle.std.specs.Prelude.{◌≡◌, ◌<◌, ◌⊎◌, ◌++◌, ◌∷◌, ⊤, ℕ, All, Bool, IfSome, List, []}
 use Rattle.std.specs.Prelude.{Option, Some, length}
 use Rattle.std.specs.Prelude.{true}
 use Rattle.std.specs.Io.KnownBytes.{Appends}
@@ -43,7 +43,6 @@ use Rattle.round_lang.specs.declared.fault.LangFault.TheVariants as lang
 use Rattle.round_meaning.specs.Setups.{IsLawful}
 use Rattle.round_meaning.specs.declared.setup.Setup.{Setup}
 use Rattle.schedule_text.specs.Readers.{IsBegun, IsOpened, IsRefusedAs, Reading}
-use Rattle.schedule_text.specs.Readings.{IsReadingOf}
 use Rattle.schedule_text.specs.Sources.{IsNoSchedule}
 use Rattle.schedule_text.specs.Texts.{SaysOf, Tail, max_text as max_schedule}
 use Rattle.schedule_text.specs.declared.kind.Kind.{Kind}
@@ -206,7 +205,8 @@ IsNotRealisedAs p s ls _ = ⊥
 
 -- why an answer isn't told
 abbrev pub IsRefusedAnswer : Source → Files → Option (List ℕ) → Question → Refusal → Type 0
-IsRefusedAnswer source files file q refusal.Write = (a : RunAnswer) × AnswersRun source files file q a
+IsRefusedAnswer source files file q refusal.Write =
+    (a : RunAnswer) × AnswersRun source files file q a
 IsRefusedAnswer source files file q r = IsUnanswered source files file (listed_by q) r
 
 -- why there is no run by threads under a plan

@@ -1,4 +1,4 @@
-use Rattle.std.proofs.Common.{◌≡◌, ap, ap₂, subst, sym}
+use Rattle.std.proofs.Common.{ap, ap₂, subst, sym}
 use Rattle.std.proofs.lemmas.Result.{IfOk-weaker}
 use Rattle.slot_plans.specs.Growing.{growing_start}
 use Rattle.slot_plans.specs.Known.{known_start}

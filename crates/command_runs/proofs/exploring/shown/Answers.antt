@@ -18,9 +18,9 @@ pub schedule_with_stops-requires-clause-stops : goal.schedule_with_stops-require
 schedule_with_stops-requires-clause-stops g c =
     let s = c.args.setup.now in
     let many : length c.deref-2.result.now ≡ s.nodes =
-        ap length (c.deref-2.ensures.value ∙ c.in_ok-stops.ensures)
-        ∙ length-map-range_with_len (steps_of (g.P.Plan.nodes c.args.plan)
-        (g.P.Plan.start c.args.plan) s.rounds c.deref.result.now) 0 s.nodes in
+    ap length (c.deref-2.ensures.value ∙ c.in_ok-stops.ensures)
+    ∙ length-map-range_with_len (steps_of (g.P.Plan.nodes c.args.plan)
+    (g.P.Plan.start c.args.plan) s.rounds c.deref.result.now) 0 s.nodes in
     omega (arith, many)
 
 pub returns : goal.returns
@@ -34,28 +34,28 @@ returns g c =
     let receives = g.P.Plan.receives c.args.plan in
     let u = with_inputs s found.inputs in
     let stop : c.deref-2.result.now
-        ≡ map (steps_of nodes start s.rounds found.failures.items) (range_with_len 0 s.nodes) =
-        c.deref-2.ensures.value ∙ c.in_ok-stops.ensures
-        ∙ ap (λ fs. map (steps_of nodes start s.rounds fs) (range_with_len 0 s.nodes))
-        c.deref.ensures.value in
+    ≡ map (steps_of nodes start s.rounds found.failures.items) (range_with_len 0 s.nodes) =
+    c.deref-2.ensures.value ∙ c.in_ok-stops.ensures
+    ∙ ap (λ fs. map (steps_of nodes start s.rounds fs) (range_with_len 0 s.nodes))
+    c.deref.ensures.value in
     let events : c.deref-3.result.now ≡ shown_by receives start s found =
-        c.deref-3.ensures.value ∙ c.in_ok-events.ensures
-        ∙ shown_so receives start s found nodes c.deref-2.result.now c.requires.nodes stop in
+    c.deref-3.ensures.value ∙ c.in_ok-events.ensures
+    ∙ shown_so receives start s found nodes c.deref-2.result.now c.requires.nodes stop in
     let made : with_inputs s c.in_ok-copy.field-0 ≡ u =
-        ap (with_inputs s) c.in_ok-copy.ensures in
+    ap (with_inputs s) c.in_ok-copy.ensures in
     let bytes = string_bytes c.in_ok-schedule.schedule in
     let comment = comment_text name found.round in
     let past = c.requires.showable.past in
     let few_rounds = c.requires.setup.few_rounds in
     let small : IsSmall found.round = omega (arith, past, few_rounds) in
     let many : length c.in_ok-copy.field-0 ≡ s.nodes =
-        ap length c.in_ok-copy.ensures ∙ c.requires.showable.inputs in
+    ap length c.in_ok-copy.ensures ∙ c.requires.showable.inputs in
     let one = c.requires.setup.some_node in
     let some : 0 < length c.in_ok-copy.field-0 = omega (arith, many, one) in
     let says : length bytes ≤ max_text → Says bytes u k (shown_by receives start s found) = λ few.
-        subst (λ es. Says bytes u k es) events
-        (subst (λ (x : Setup). Says bytes x k c.deref-3.result.now) made
-        (c.in_ok-schedule.ensures.read_back some few)) in
+    subst (λ es. Says bytes u k es) events
+    (subst (λ (x : Setup). Says bytes x k c.deref-3.result.now) made
+    (c.in_ok-schedule.ensures.read_back some few)) in
     IfOk-weaker c.commented.result _ _ (λ text h. record {
       spelled = h ∙ ap (λ t. comment ++ 10 ∷ t) (c.as_str.ensures.value
           ∙ c.in_ok-schedule.ensures.spelled ∙ ap₂ (λ x es. text_of x k es) made events);

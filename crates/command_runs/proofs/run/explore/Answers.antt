@@ -39,8 +39,7 @@ returns-clause-served g c =
     let after = g.D.Desk.files c.write_shown.new.desk in
     let out = g.O.Write.contents in
     let found = c.in_ok-told.field-0 in
-    let told = found.told.items in
-    (
+    let told = found.told.items in (
       told,
       tells_of_all x.source files x.exploring found (files x.header.now) after
           c.in_ok-write_shown.ensures.held c.in_ok-told.ensures.found,

@@ -1,4 +1,4 @@
-use Rattle.std.proofs.Common.{◌≡◌, ◌∙◌, ◌⊎◌, map, subst, sym}
+use Rattle.std.proofs.Common.{◌∙◌, ◌⊎◌, map, subst, sym}
 use Rattle.command_runs.specs.Desks.{WroteAll}
 use Rattle.command_runs.specs.Served.{AsksForHelp, IsEnded}
 use Rattle.command_runs.proofs.Explored.{code_known, code_same, code_served}

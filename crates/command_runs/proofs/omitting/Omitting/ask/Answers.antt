@@ -1,10 +1,7 @@
-use Rattle.std.proofs.Common.{◌≡◌, ◌∙◌, inl, inr, subst, sym}
+use Rattle.std.proofs.Common.{◌∙◌, subst}
 use Rattle.std.specs.Prelude.{IfSome}
-use Rattle.command_runs.specs.Refused.{IsUnrealised}
 use Rattle.command_runs.specs.Served.{IsHeader, IsOmissionText}
-use Rattle.command_runs.proofs.Refusing.{err_then}
 use Rattle.command_runs.proofs.Serving.{program_of}
-use Rattle.command_runs.proofs.Telling.{held_back, opened_is}
 use Rattle.command_runs.proofs.omitting.Omitting.ask.Goals as goal
 
 pub returns-clause-asked : goal.returns-clause-asked
