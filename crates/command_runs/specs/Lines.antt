@@ -89,7 +89,7 @@ line_of NodeNoMemory = Some memory_line
 
 -- 1 refused input, 2 a bad command line, 3 no memory
 abbrev pub status_of : Refusal → ℕ
-status_of (Words fault) = 2
+status_of (Words cause) = 2
 status_of NoMemory = 3
 status_of NodeNoMemory = 3
 status_of _ = 1
