@@ -21,7 +21,8 @@ import reading  # noqa: E402
 
 Setup = collections.namedtuple("Setup", "nodes faults inputs rounds")
 Question = collections.namedtuple("Question", "faults clear hears")
-PROPERTIES = ("agreement", "validity", "final", "termination", "always")
+SAFETY = ("agreement", "validity", "final")
+PROPERTIES = (*SAFETY, "safety", "termination", "always")
 # A failure is None, "omits", or the round of a crash.
 
 
@@ -115,6 +116,7 @@ class Level:
             "agreement": lambda states, decided, kept, true: len(decided) > 1,
             "validity": lambda states, decided, kept, true: not decided <= set(setup.inputs),
             "final": lambda states, decided, kept, true: not kept,
+            "safety": lambda *run: any(tests[it](*run) for it in SAFETY),
             "always": lambda states, decided, kept, true: not true,
             "termination": lambda states, decided, kept, true: self.number == setup.rounds and any(
                 self.pattern[node] is None and self.algorithm.decision(state) is None

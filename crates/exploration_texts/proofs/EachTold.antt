@@ -1,6 +1,6 @@
 -- The answers of all properties, one after another.
 use Rattle.std.proofs.Common.{◌≡◌, ◌∙◌, ◌++◌, ◌∷◌, [], All, Bool, List, None, Option, Some, Bor}
-use Rattle.std.proofs.Common.{ap, false, map, refl, subst, sym, true}
+use Rattle.std.proofs.Common.{ap, false, inl, inr, map, refl, subst, sym, true, ◌⊎◌}
 use Rattle.std.specs.Prelude.{is_some, option_map}
 use Rattle.std.proofs.lemmas.List.{append-nil}
 use Rattle.std.proofs.lemmas.List.Elements.{All-append, All-cons, All-nil}
@@ -15,7 +15,10 @@ use Rattle.exploration_texts.specs.declared.told.PropertyName.{PropertyName}
 use Rattle.exploration_texts.specs.declared.told.PropertyName.TheVariants as kinds
 use Rattle.exploration_texts.specs.declared.told.Told.{Told}
 use Rattle.round_explorer.specs.declared.property.Property.{Property}
-use Rattle.round_explorer.specs.declared.property.Property.TheVariants.{Always}
+use Rattle.round_explorer.specs.Answers.{IsRight}
+use Rattle.round_explorer.specs.declared.answer.Answer.TheVariants.{Holds}
+use Rattle.round_explorer.specs.declared.property.Property.TheVariants.{Agreement, Always, Final}
+use Rattle.round_explorer.specs.declared.property.Property.TheVariants.{Safety, Validity}
 use Rattle.round_lang.specs.Syntax.{ProgramTree}
 use Rattle.round_lang.specs.Tree.{Tree}
 use Rattle.round_meaning.specs.declared.setup.Setup.{Setup}
@@ -74,6 +77,24 @@ pub told_always : (w : Search) (always : Option (Bor Tree)) (names : List Proper
 told_always w (Some f) names old new h added =
     one_told w (Some f.now) names (Always f) old new refl h added
 told_always w None names old new h same = none_added w None names old new h same
+
+-- the property is one of the three that are safety
+abbrev pub IsOfSafety : Property → Type 0
+IsOfSafety x = (x ≡ Agreement) ⊎ ((x ≡ Validity) ⊎ (x ≡ Final))
+
+-- and holds if they all do
+pub holds_if_safe : (w : Search) (x : Property) → IsOfSafety x
+    → IsRight w.program.now w.setup.now w.question w.inputs Safety Holds
+    → IsRight w.program.now w.setup.now w.question w.inputs x Holds
+holds_if_safe w x (inl same) h =
+    subst (λ y. IsRight w.program.now w.setup.now w.question w.inputs y Holds) (sym same)
+    (λ inputs pattern omits asked. (h inputs pattern omits asked).0)
+holds_if_safe w x (inr (inl same)) h =
+    subst (λ y. IsRight w.program.now w.setup.now w.question w.inputs y Holds) (sym same)
+    (λ inputs pattern omits asked. (h inputs pattern omits asked).1)
+holds_if_safe w x (inr (inr same)) h =
+    subst (λ y. IsRight w.program.now w.setup.now w.question w.inputs y Holds) (sym same)
+    (λ inputs pattern omits asked. (h inputs pattern omits asked).2)
 
 -- what is asked of a search is told
 pub all_told : (w : Search) (c : Checks) (condition : Option Tree) (told : List Told)

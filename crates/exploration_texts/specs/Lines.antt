@@ -19,6 +19,7 @@ abbrev pub name_text : PropertyName → List ℕ
 name_text names.Agreement = codes "agreement"
 name_text names.Validity = codes "validity"
 name_text names.Final = codes "final"
+name_text names.Safety = codes "safety"
 name_text names.Termination = codes "termination"
 name_text names.Always = codes "always"
 

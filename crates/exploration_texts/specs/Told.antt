@@ -16,7 +16,8 @@ use Rattle.round_explorer.specs.declared.answer.Answer.TheVariants.{Fails, Holds
 use Rattle.round_explorer.specs.declared.answer.Counterexample.{Counterexample}
 use Rattle.round_explorer.specs.declared.property.Property.{Property}
 use Rattle.round_explorer.specs.declared.property.Property.TheVariants.{Agreement, Always, Final}
-use Rattle.round_explorer.specs.declared.property.Property.TheVariants.{Termination, Validity}
+use Rattle.round_explorer.specs.declared.property.Property.TheVariants.{Safety, Termination}
+use Rattle.round_explorer.specs.declared.property.Property.TheVariants.{Validity}
 use Rattle.round_explorer.specs.declared.question.AskedInputs.{AskedInputs}
 use Rattle.round_explorer.specs.declared.question.Question.{Question}
 use Rattle.round_lang.specs.Syntax.{ProgramTree}
@@ -28,6 +29,7 @@ abbrev pub name_of : Property → PropertyName
 name_of Agreement = names.Agreement
 name_of Validity = names.Validity
 name_of Final = names.Final
+name_of Safety = names.Safety
 name_of Termination = names.Termination
 name_of (Always f) = names.Always
 
@@ -78,6 +80,11 @@ IsFirstNo [] name c = ⊥
 IsFirstNo (t ∷ ts) name c =
     (t ≡ record { name = name; answer = Fails c })
     ⊎ ((holds t.answer ≡ true) × IsFirstNo ts name c)
+
+-- it's known that agreement, validity and finality hold, all at once
+abbrev pub AreKnownSafe : Search → Bool → Type 0
+AreKnownSafe w known =
+    known ≡ true → IsRight w.program.now w.setup.now w.question w.inputs Safety Holds
 
 -- the answer of one more property
 abbrev pub AddsAnswer : Search → Property → (old new : List Told) → Type 0

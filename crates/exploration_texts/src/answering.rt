@@ -3,13 +3,15 @@ ghost use Rattle.std.specs.Prelude.{IfErr, IfOk, OnOk, option_map, true};
 ghost use Rattle.round_meaning.specs.Setups.{IsLawful};
 ghost use Rattle.exploration_texts.specs.Conditions.{IsConditionFor, IsFaultFor};
 ghost use Rattle.exploration_texts.specs.Told.{Adds, AddsAlways, AreAnswers, AreAnswersOf};
+ghost use Rattle.exploration_texts.specs.Told.{AreKnownSafe};
+ghost use Rattle.round_explorer.specs.Answers.{IsRight};
 
 use crate::asking::{inputs_of, question_of};
 use crate::condition::{ConditionFault, read_condition};
 use crate::told::{PropertyName, Told};
 use command_words::{Checks, Exploring};
 use round_check::Checked;
-use round_explorer::{AskedInputs, Property, Question, explore};
+use round_explorer::{Answer, AskedInputs, Property, Question, Watch, explore};
 use round_lang::{Formula, NoMemory};
 use round_meaning::Setup;
 use std::alloc::Global;
@@ -24,12 +26,13 @@ pub struct Search<'a> {
 }
 
 /// The answers to what the options ask of all runs, in the order agreement, validity, final,
-/// termination, always.
-pub fn answer_all(
+/// termination, always. `watch` is told how far each search has come.
+pub fn answer_all<W: Watch>(
     alloc: Global,
     program: &Checked,
     setup: &Setup,
     exploring: &Exploring<'_>,
+    watch: &W,
 ) -> Result<Vec<Told>, ConditionFault>
     requires { IsLawful program.now.values setup.now }
     ensures told { IfOk result (λ told.
@@ -43,7 +46,7 @@ pub fn answer_all(
         question: question_of(exploring),
         inputs: inputs_of(exploring.inputs),
     };
-    Ok(answers(alloc, &search, exploring.checks, always.as_ref())?)
+    Ok(answers(alloc, &search, exploring.checks, always.as_ref(), watch)?)
 }
 
 /// The condition, where there is one.
@@ -62,80 +65,172 @@ fn condition_of(
 }
 
 /// The answers of a search.
-fn answers(
+fn answers<W: Watch>(
     alloc: Global,
     search: &Search<'_>,
     checks: Checks,
     always: Option<&Formula>,
+    watch: &W,
 ) -> Result<Vec<Told>, NoMemory>
     requires { IsLawful search.now.program.now.values search.now.setup.now }
     ensures { IfOk result (λ told. AreAnswersOf search.now checks
         (option_map (λ f. f.now) always.entry) told.items) }
 {
+    let safe = search.is_safe(alloc, checks, watch)?;
     let mut told = Vec::new(alloc);
-    search.add_if(alloc, checks.agreement, Property::Agreement, &mut told)?;
-    search.add_if(alloc, checks.validity, Property::Validity, &mut told)?;
-    search.add_if(alloc, checks.finality, Property::Final, &mut told)?;
-    search.add_if(alloc, checks.termination, Property::Termination, &mut told)?;
-    search.add_always(alloc, always, &mut told)?;
+    search.add_if(
+        alloc,
+        checks.agreement,
+        Property::Agreement,
+        safe,
+        &mut told,
+        watch,
+    )?;
+    search.add_if(
+        alloc,
+        checks.validity,
+        Property::Validity,
+        safe,
+        &mut told,
+        watch,
+    )?;
+    search.add_if(
+        alloc,
+        checks.finality,
+        Property::Final,
+        safe,
+        &mut told,
+        watch,
+    )?;
+    search.add_if(
+        alloc,
+        checks.termination,
+        Property::Termination,
+        safe,
+        &mut told,
+        watch,
+    )?;
+    search.add_always(alloc, always, &mut told, watch)?;
     Ok(told)
 }
 
+/// Whether more than one of agreement, validity and finality is asked.
+fn asks_several(checks: Checks) -> bool {
+    (checks.agreement && checks.validity)
+        || (checks.finality && (checks.agreement || checks.validity))
+}
+
 impl<'a> Search<'a> {
-    /// Adds the answer of a property, if it's asked.
-    fn add_if(
-        &self,
-        alloc: Global,
-        asked: bool,
-        property: Property<'_>,
-        told: &mut Vec<Told>,
-    ) -> Result<(), NoMemory>
+    /// Whether one search shows that agreement, validity and finality hold. It's made only if more
+    /// than one of them is asked, since it takes as long as the search for one.
+    fn is_safe<W: Watch>(&self, alloc: Global, checks: Checks, watch: &W) -> Result<bool, NoMemory>
         requires { IsLawful self.now.program.now.values self.now.setup.now }
-        ensures { OnOk result
-            (Adds self.now asked property.entry told.old.items told.new.items) }
+        ensures { IfOk result (AreKnownSafe self.now) }
     {
-        if asked {
-            self.add(alloc, property, told)?;
+        if !asks_several(checks) {
+            return Ok(false);
         }
-        Ok(())
-    }
-
-    /// Adds the answer of a condition, if there is one.
-    fn add_always(
-        &self,
-        alloc: Global,
-        always: Option<&Formula>,
-        told: &mut Vec<Told>,
-    ) -> Result<(), NoMemory>
-        requires { IsLawful self.now.program.now.values self.now.setup.now }
-        ensures { OnOk result
-            (AddsAlways self.now always.entry told.old.items told.new.items) }
-    {
-        match always {
-            Some(formula) => self.add(alloc, Property::Always(formula), told),
-            None => Ok(()),
+        match self.explore(alloc, Property::Safety, watch)? {
+            Answer::Holds => Ok(true),
+            Answer::Fails(_) => Ok(false),
         }
     }
 
-    /// Adds the answer of a property.
-    fn add(
+    /// The answer of a search for a property.
+    fn explore<W: Watch>(
         &self,
         alloc: Global,
         property: Property<'_>,
-        told: &mut Vec<Told>,
-    ) -> Result<(), NoMemory>
+        watch: &W,
+    ) -> Result<Answer, NoMemory>
         requires { IsLawful self.now.program.now.values self.now.setup.now }
-        ensures { OnOk result (Adds self.now true property.entry told.old.items told.new.items) }
+        ensures { IfOk result (λ answer. IsRight self.now.program.now self.now.setup.now
+            self.now.question self.now.inputs property.entry answer) }
     {
-        let name = PropertyName::of(property);
-        let answer = explore(
+        explore(
             alloc,
             self.program,
             self.setup,
             self.question,
             self.inputs,
             property,
-        )?;
+            watch,
+        )
+    }
+
+    /// The answer of a property, without a search if it's known already.
+    fn answer<W: Watch>(
+        &self,
+        alloc: Global,
+        property: Property<'_>,
+        safe: bool,
+        watch: &W,
+    ) -> Result<Answer, NoMemory>
+        requires lawful { IsLawful self.now.program.now.values self.now.setup.now }
+        requires safe { AreKnownSafe self.now safe }
+        ensures { IfOk result (λ answer. IsRight self.now.program.now self.now.setup.now
+            self.now.question self.now.inputs property.entry answer) }
+    {
+        match property {
+            Property::Agreement | Property::Validity | Property::Final if safe => Ok(Answer::Holds),
+            _ => self.explore(alloc, property, watch),
+        }
+    }
+
+    /// Adds the answer of a property, if it's asked.
+    fn add_if<W: Watch>(
+        &self,
+        alloc: Global,
+        asked: bool,
+        property: Property<'_>,
+        safe: bool,
+        told: &mut Vec<Told>,
+        watch: &W,
+    ) -> Result<(), NoMemory>
+        requires lawful { IsLawful self.now.program.now.values self.now.setup.now }
+        requires safe { AreKnownSafe self.now safe }
+        ensures { OnOk result
+            (Adds self.now asked property.entry told.old.items told.new.items) }
+    {
+        if asked {
+            self.add(alloc, property, safe, told, watch)?;
+        }
+        Ok(())
+    }
+
+    /// Adds the answer of a condition, if there is one.
+    fn add_always<W: Watch>(
+        &self,
+        alloc: Global,
+        always: Option<&Formula>,
+        told: &mut Vec<Told>,
+        watch: &W,
+    ) -> Result<(), NoMemory>
+        requires { IsLawful self.now.program.now.values self.now.setup.now }
+        ensures { OnOk result
+            (AddsAlways self.now always.entry told.old.items told.new.items) }
+    {
+        match always {
+            Some(formula) => self.add(alloc, Property::Always(formula), false, told, watch),
+            None => Ok(()),
+        }
+    }
+
+    /// Adds the answer of a property.
+    fn add<W: Watch>(
+        &self,
+        alloc: Global,
+        property: Property<'_>,
+        safe: bool,
+        told: &mut Vec<Told>,
+        watch: &W,
+    ) -> Result<(), NoMemory>
+        requires lawful { IsLawful self.now.program.now.values self.now.setup.now }
+        requires safe { AreKnownSafe self.now safe }
+        ensures { OnOk result (Adds self.now true property.entry told.old.items told.new.items) }
+    {
+        let name = PropertyName::of(property);
+        let answer = self.answer(alloc, property, safe, watch)?;
         told.push(Told { name, answer })?;
         Ok(())
     }

@@ -14,6 +14,8 @@ pub enum PropertyName {
     Agreement,
     Validity,
     Final,
+    /// Agreement, validity and finality at once.
+    Safety,
     Termination,
     /// EXPR.
     Always,
@@ -42,6 +44,7 @@ impl PropertyName {
             Property::Agreement => PropertyName::Agreement,
             Property::Validity => PropertyName::Validity,
             Property::Final => PropertyName::Final,
+            Property::Safety => PropertyName::Safety,
             Property::Termination => PropertyName::Termination,
             Property::Always(_) => PropertyName::Always,
         }
@@ -55,6 +58,7 @@ impl PropertyName {
             PropertyName::Agreement => "agreement",
             PropertyName::Validity => "validity",
             PropertyName::Final => "final",
+            PropertyName::Safety => "safety",
             PropertyName::Termination => "termination",
             PropertyName::Always => "always",
         }

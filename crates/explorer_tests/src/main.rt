@@ -1,7 +1,8 @@
 //! What exploring all runs of a program answers.
 //!
 //! ```text
-//! explorer_tests SOURCE KIND CLEAR HEARS NODES FAULTS ROUNDS [INPUT ..] [always WORD ..]
+//! explorer_tests [watched] SOURCE KIND CLEAR HEARS NODES FAULTS ROUNDS [INPUT ..]
+//!     [always WORD ..]
 //! ```
 //!
 //! SOURCE is a program's file, or `@NAME` for a program of the library over two values. KIND is
@@ -10,24 +11,31 @@
 //! property says whether it holds of all runs, or the first round in which it fails in a run, that
 //! run's inputs, and how its nodes fail: `-` for not at all, `omits`, or the round of a crash. The
 //! words after `always` are an expression, which is asked about too.
+//!
+//! With `watched` a line behind each answer says what the search told of how far it had come: how
+//! many notes, whether each followed on the one before, and the last one.
 #![tactic(auto)]
 
+ghost use Rattle.round_meaning.specs.Setups.{IsLawful};
 ghost use Rattle.std.specs.Prelude.{◌≤◌, length};
 
-mod fault;
 mod reading;
+mod record;
 
-use fault::Fault;
 use reading::{checked_of, formula_in, offered, program_with, question_of, setup_of};
+use record::Record;
 use round_check::Checked;
-use round_explorer::{Answer, AskedInputs, Counterexample, Failure, Property, Question, explore};
-use round_lang::Formula;
+use round_explorer::{
+    Answer, AskedInputs, Counterexample, Failure, Property, Question, Unwatched, Watch, explore,
+};
+use round_lang::{Formula, NoMemory};
 use round_meaning::Setup;
 use std::alloc::Global;
 use std::fmt::Write as _;
 use std::io::Write;
 use std::process::ExitCode;
 use std::{env, fs};
+use test_kit::{Fault, texts};
 
 fn tell_failure(out: &mut String, failure: Failure) -> Result<(), Fault> {
     match failure {
@@ -52,12 +60,21 @@ fn tell(out: &mut String, found: &Counterexample) -> Result<(), Fault> {
     Ok(())
 }
 
+fn tell_answer(out: &mut String, answer: &Answer) -> Result<(), Fault> {
+    match answer {
+        Answer::Holds => out.push_str(" yes\n")?,
+        Answer::Fails(found) => tell(out, found)?,
+    }
+    Ok(())
+}
+
 /// What a property is called.
 fn name_of(property: Property<'_>) -> &'static str {
     match property {
         Property::Agreement => "agreement",
         Property::Validity => "validity",
         Property::Final => "final",
+        Property::Safety => "safety",
         Property::Termination => "termination",
         Property::Always(_) => "always",
     }
@@ -69,6 +86,7 @@ fn properties<'a>(alloc: Global, formula: Option<&'a Formula>) -> Result<Vec<Pro
     properties.push(Property::Agreement)?;
     properties.push(Property::Validity)?;
     properties.push(Property::Final)?;
+    properties.push(Property::Safety)?;
     properties.push(Property::Termination)?;
     if let Some(formula) = formula {
         properties.push(Property::Always(formula))?;
@@ -76,27 +94,66 @@ fn properties<'a>(alloc: Global, formula: Option<&'a Formula>) -> Result<Vec<Pro
     Ok(properties)
 }
 
-/// A line for each property.
-fn tell_all(
-    alloc: Global,
-    program: &Checked,
-    setup: &Setup,
+/// Which runs are gone through, and whether the search is watched.
+#[derive(Clone, Copy)]
+struct Search<'a> {
+    program: &'a Checked,
+    setup: &'a Setup,
     question: Question,
     asked: AskedInputs,
-    formula: Option<&Formula>,
-    out: &mut String,
-) -> Result<(), Fault> {
-    if !setup.is_lawful(program) {
-        return Err(Fault::Unreadable);
+    is_watched: bool,
+}
+
+impl<'a> Search<'a> {
+    /// Tells the answer of each property.
+    fn tell_all(
+        &self,
+        alloc: Global,
+        formula: Option<&Formula>,
+        out: &mut String,
+    ) -> Result<(), Fault> {
+        if !self.setup.is_lawful(self.program) {
+            return Err(Fault::Unreadable);
+        }
+        for property in &properties(alloc, formula)? {
+            self.tell(alloc, *property, out)?;
+        }
+        Ok(())
     }
-    for property in &properties(alloc, formula)? {
-        out.push_str(name_of(*property))?;
-        match explore(alloc, program, setup, question, asked, *property)? {
-            Answer::Holds => out.push_str(" yes\n")?,
-            Answer::Fails(found) => tell(out, &found)?,
+
+    /// Tells the answer of a property, and of a watched search what it told.
+    fn tell(&self, alloc: Global, property: Property<'_>, out: &mut String) -> Result<(), Fault>
+        requires { IsLawful self.now.program.now.values self.now.setup.now }
+    {
+        out.push_str(name_of(property))?;
+        if self.is_watched {
+            let record = Record::new();
+            tell_answer(out, &self.answer(alloc, property, &record)?)?;
+            write!(out, "{record}\n")?;
+            Ok(())
+        } else {
+            tell_answer(out, &self.answer(alloc, property, &Unwatched)?)
         }
     }
-    Ok(())
+
+    fn answer<W: Watch>(
+        &self,
+        alloc: Global,
+        property: Property<'_>,
+        watch: &W,
+    ) -> Result<Answer, NoMemory>
+        requires { IsLawful self.now.program.now.values self.now.setup.now }
+    {
+        explore(
+            alloc,
+            self.program,
+            self.setup,
+            self.question,
+            self.asked,
+            property,
+            watch,
+        )
+    }
 }
 
 fn program_of(
@@ -114,19 +171,15 @@ fn program_of(
     }
 }
 
-fn texts<'a>(alloc: Global, words: &'a [String]) -> Result<Vec<&'a str>, Fault> {
-    let mut texts = Vec::new(alloc);
-    for word in words.iter().skip(1) {
-        texts.push(word.as_str())?;
-    }
-    Ok(texts)
-}
-
 /// Does what the words say, and gives what is to be printed.
 fn answer(rt: &HostRuntime, alloc: Global) -> Result<String, Fault> {
     let words = env::args(rt)?.collect::<Vec<String>>(alloc)?;
     let words = texts(alloc, words.as_slice())?;
-    let [source, faults, clear, hears, words @ ..] = words.as_slice() else {
+    let (is_watched, words) = match words.as_slice() {
+        ["watched", words @ ..] => (true, words),
+        words => (false, words),
+    };
+    let [source, faults, clear, hears, words @ ..] = words else {
         return Err(Fault::Unreadable);
     };
     let place = place_of_always(words);
@@ -136,7 +189,14 @@ fn answer(rt: &HostRuntime, alloc: Global) -> Result<String, Fault> {
     let holder = program_with(alloc, &words[place..])?;
     let formula = holder.as_ref().and_then(formula_in);
     let mut out = String::new(alloc);
-    tell_all(alloc, &program, &setup, question, asked, formula, &mut out)?;
+    let search = Search {
+        program: &program,
+        setup: &setup,
+        question,
+        asked,
+        is_watched,
+    };
+    search.tell_all(alloc, formula, &mut out)?;
     Ok(out)
 }
 

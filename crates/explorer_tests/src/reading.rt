@@ -1,15 +1,11 @@
 //! Programs, setups and questions in words.
-use crate::fault::Fault;
-use algorithm_library::{count_votes, dls1, gather};
+use algorithm_library::{LibraryFault, count_votes, dls1, gather};
 use round_check::{Checked, check};
 use round_explorer::{AskedInputs, FaultKind, Question};
 use round_lang::{Formula, Program, VariableKind, parse};
 use round_meaning::{Inputs, Setup};
 use std::alloc::Global;
-
-pub fn number(text: &str) -> Result<u32, Fault> {
-    text.parse().map_err(|_| Fault::Unreadable)
-}
+use test_kit::{Fault, number, numbers};
 
 /// A setup: nodes, faults and rounds, and then the inputs, or none if each list is asked about.
 pub fn setup_of(alloc: Global, words: &[&str]) -> Result<(Setup, AskedInputs), Fault> {
@@ -17,10 +13,7 @@ pub fn setup_of(alloc: Global, words: &[&str]) -> Result<(Setup, AskedInputs), F
         return Err(Fault::Unreadable);
     };
     let nodes = number(nodes)?;
-    let mut inputs = Vec::new(alloc);
-    for word in words {
-        inputs.push(number(word)?)?;
-    }
+    let mut inputs = numbers(alloc, words.iter().copied())?;
     let asked = if inputs.is_empty() {
         AskedInputs::Any
     } else {
@@ -62,14 +55,22 @@ pub fn checked_of(alloc: Global, text: &str) -> Result<Checked, Fault> {
     Ok(check(alloc, parse(alloc, text)?)?)
 }
 
+fn library_fault(fault: LibraryFault) -> Fault {
+    match fault {
+        LibraryFault::NoMemory => Fault::NoMemory,
+        _ => Fault::Unreadable,
+    }
+}
+
 /// The program of the library with this name, over two values and for the nodes of a setup.
 pub fn offered(alloc: Global, name: &str, setup: &Setup) -> Result<Checked, Fault> {
-    match name {
-        "gather" => Ok(gather(alloc, 2)?),
-        "count_votes" => Ok(count_votes(alloc, 2)?),
-        "dls1" => Ok(dls1(alloc, setup.nodes, setup.faults, 2)?),
-        _ => Err(Fault::Unreadable),
-    }
+    let program = match name {
+        "gather" => gather(alloc, 2),
+        "count_votes" => count_votes(alloc, 2),
+        "dls1" => dls1(alloc, setup.nodes, setup.faults, 2),
+        _ => return Err(Fault::Unreadable),
+    };
+    program.map_err(library_fault)
 }
 
 /// A program with the words behind the first one as its variable's formula; none without words.

@@ -4,7 +4,7 @@ use Rattle.exploration_texts.proofs.EachTold.{answers_asked}
 use Rattle.exploration_texts.proofs.answering.answer_all.Goals as goal
 
 pub returns-clause-told : goal.returns-clause-told
-returns-clause-told c =
+returns-clause-told g c =
     let w : Search = record {
       program = c.args.program;
       setup = c.args.setup;

@@ -6,7 +6,7 @@ use Rattle.round_explorer.specs.declared.property.Property.TheVariants.{Agreemen
 use Rattle.round_explorer.specs.declared.property.Property.TheVariants.{Termination, Validity}
 
 pub returns : goal.returns
-returns c =
+returns g c =
     let w = c.args.search.now in
     let checks = c.args.checks in
     let condition = option_map (λ f. f.now) c.args.always in
