@@ -26,7 +26,11 @@ use Rattle.step_book.specs.World.{World}
 
 -- a run of `gather` under the known plan with one receive a round
 abbrev world : List ℕ → ℕ → ℕ → World
-world inputs nodes last = record { algorithm = algorithm gather nodes 0 (slice_index inputs); rounds = last; start = known_start nodes 1 }
+world inputs nodes last = record {
+  algorithm = algorithm gather nodes 0 (slice_index inputs);
+  rounds = last;
+  start = known_start nodes 1;
+}
 
 abbrev name : ℕ → ℕ → ℕ → ℕ → Name
 name j i r k = record { from = j; to = i; round = r; copy = k }
@@ -60,13 +64,16 @@ missed_own_state = refl
 
 -- one of two nodes ends its round before the other has sent
 abbrev one_misses : List Event
-one_misses = reverse (Step 0 ∷ Step 0 ∷ release 0 0 1 ∷ Step 0 ∷ Step 1 ∷ Step 1 ∷ release 0 1 1 ∷ release 1 1 1 ∷ Step 1 ∷ [])
+one_misses = reverse (Step 0 ∷ Step 0 ∷ release 0 0 1 ∷ Step 0 ∷ Step 1 ∷ Step 1 ∷ release 0 1 1
+    ∷ release 1 1 1 ∷ Step 1 ∷ [])
 
-one_misses_carried : map (λ j. carried (world (0 ∷ 1 ∷ []) 2 1) one_misses 0 1 j) (0 ∷ 1 ∷ []) ≡ true ∷ false ∷ []
+one_misses_carried : map (λ j. carried (world (0 ∷ 1 ∷ []) 2 1) one_misses 0 1 j) (0 ∷ 1 ∷ [])
+    ≡ true ∷ false ∷ []
 unfolding carried fate steps algorithm
 one_misses_carried = refl
 
-other_hears_carried : map (λ j. carried (world (0 ∷ 1 ∷ []) 2 1) one_misses 1 1 j) (0 ∷ 1 ∷ []) ≡ true ∷ true ∷ []
+other_hears_carried : map (λ j. carried (world (0 ∷ 1 ∷ []) 2 1) one_misses 1 1 j) (0 ∷ 1 ∷ [])
+    ≡ true ∷ true ∷ []
 unfolding carried fate steps algorithm
 other_hears_carried = refl
 
@@ -92,9 +99,11 @@ before_send_answers = refl
 
 -- a message of round 2 is taken in round 1, and kept for its round
 abbrev early : List Event
-early = reverse (Step 1 ∷ Step 1 ∷ Step 1 ∷ Step 1 ∷ release 1 0 2 ∷ Step 0 ∷ Step 0 ∷ Step 0 ∷ Step 0 ∷ Step 0 ∷ Step 0 ∷ [])
+early = reverse (Step 1 ∷ Step 1 ∷ Step 1 ∷ Step 1 ∷ release 1 0 2 ∷ Step 0 ∷ Step 0 ∷ Step 0
+    ∷ Step 0 ∷ Step 0 ∷ Step 0 ∷ [])
 
-early_carried : map (λ r. carried (world (0 ∷ 1 ∷ []) 2 2) early 0 r 1) (1 ∷ 2 ∷ []) ≡ false ∷ true ∷ []
+early_carried : map (λ r. carried (world (0 ∷ 1 ∷ []) 2 2) early 0 r 1) (1 ∷ 2 ∷ []) ≡ false ∷ true
+    ∷ []
 unfolding carried fate steps algorithm
 early_carried = refl
 
@@ -104,9 +113,11 @@ early_state = refl
 
 -- a message is kept for three rounds, and not for four
 abbrev far_early : ℕ → ℕ → List Event
-far_early r last = reverse (replicate (3 * r - 2) (Step 1) ++ release 1 0 r ∷ replicate (3 * last) (Step 0))
+far_early r last = reverse (replicate (3 * r - 2) (Step 1)
+    ++ release 1 0 r ∷ replicate (3 * last) (Step 0))
 
-kept_for_three : map (λ r. carried (world (0 ∷ 1 ∷ []) 2 4) (far_early 4 4) 0 r 1) (3 ∷ 4 ∷ []) ≡ false ∷ true ∷ []
+kept_for_three : map (λ r. carried (world (0 ∷ 1 ∷ []) 2 4) (far_early 4 4) 0 r 1) (3 ∷ 4 ∷ [])
+    ≡ false ∷ true ∷ []
 unfolding carried fate steps algorithm
 kept_for_three = refl
 
@@ -114,7 +125,8 @@ kept_for_three_state : state (world (0 ∷ 1 ∷ []) 2 4) (far_early 4 4) 4 0 �
 unfolding carried fate steps algorithm inbox rounds set_of is_in
 kept_for_three_state = refl
 
-too_early_for_four : map (λ r. carried (world (0 ∷ 1 ∷ []) 2 5) (far_early 5 5) 0 r 1) (4 ∷ 5 ∷ []) ≡ false ∷ false ∷ []
+too_early_for_four : map (λ r. carried (world (0 ∷ 1 ∷ []) 2 5) (far_early 5 5) 0 r 1) (4 ∷ 5 ∷ [])
+    ≡ false ∷ false ∷ []
 unfolding carried fate steps algorithm
 too_early_for_four = refl
 
@@ -123,23 +135,34 @@ abbrev speaks_of_one : ProgramTree
 speaks_of_one = record {
   values = 2;
   period = 1;
-  variables = record { name = codes "x"; kind = Input } ∷ record { name = codes "s"; kind = State SetTy (TFixed Empty) } ∷ [];
+  variables = record { name = codes "x"; kind = Input } ∷ record {
+    name = codes "s";
+    kind = State SetTy (TFixed Empty);
+  } ∷ [];
   decides = codes "s" ∷ [];
   blocks = record {
     number = 1;
     fields = [];
     condition = TBinary Equal (TNamed (codes "x")) (TNumber 1);
     sent = [];
-    on_message = record { target = codes "s"; formula = TBinary Union (TNamed (codes "s")) (TUnary Single (TFixed From)) } ∷ [];
+    on_message = record {
+      target = codes "s";
+      formula = TBinary Union (TNamed (codes "s")) (TUnary Single (TFixed From));
+    } ∷ [];
     end = [];
   } ∷ [];
 }
 
 abbrev silent_world : World
-silent_world = record { algorithm = algorithm speaks_of_one 2 0 (slice_index (0 ∷ 1 ∷ [])); rounds = 1; start = known_start 2 1 }
+silent_world = record {
+  algorithm = algorithm speaks_of_one 2 0 (slice_index (0 ∷ 1 ∷ []));
+  rounds = 1;
+  start = known_start 2 1;
+}
 
 abbrev silent : List Event
-silent = reverse (Step 0 ∷ Step 0 ∷ Step 1 ∷ Step 1 ∷ release 0 1 1 ∷ release 1 0 1 ∷ release 1 1 1 ∷ Step 0 ∷ Step 1 ∷ [])
+silent = reverse (Step 0 ∷ Step 0 ∷ Step 1 ∷ Step 1 ∷ release 0 1 1 ∷ release 1 0 1 ∷ release 1 1 1
+    ∷ Step 0 ∷ Step 1 ∷ [])
 
 silent_mark : mark_of silent_world silent (name 0 1 1 0) ≡ Silent
 unfolding mark_of carried fate steps algorithm inbox rounds set_of is_in

@@ -8,17 +8,21 @@ use Rattle.round_meaning.proofs.Consensus.{decisions_agree, decisions_are_inputs
 use Rattle.algorithm_library.specs.Agreeing.{IsFor, KeepsAgreement, KeepsValidity}
 
 -- a setup that it was made for has fewer than half of its nodes faulty
-has_majority : (k n t : ℕ) (s : Setup) → k ≤ max_values → 2 * t + 1 ≤ n → IsFor (dls1 k) n t s → HasMajority k s
+has_majority : (k n t : ℕ) (s : Setup) → k ≤ max_values → 2 * t + 1 ≤ n → IsFor (dls1 k) n t s
+    → HasMajority k s
 has_majority k n t s few most is = record {
   values = few;
   lawful = is.lawful;
-  majority = subst (λ x. 2 * s.faults + 1 ≤ x) (sym is.nodes) (subst (λ x. 2 * x + 1 ≤ n) (sym is.faults) most);
+  majority = subst (λ x. 2 * s.faults + 1 ≤ x) (sym is.nodes)
+      (subst (λ x. 2 * x + 1 ≤ n) (sym is.faults) most);
 }
 
 pub keeps_agreement : (k n t : ℕ) → k ≤ max_values → 2 * t + 1 ≤ n → KeepsAgreement (dls1 k) n t
 keeps_agreement k n t few most s omits is i j r q v u hi hj a b =
-    decisions_agree k s omits (has_majority k n t s few most is) i j r q v u (subst (λ x. i < x) (sym is.nodes) hi) (subst (λ x. j < x) (sym is.nodes) hj) a b
+    decisions_agree k s omits (has_majority k n t s few most is) i j r q v u
+    (subst (λ x. i < x) (sym is.nodes) hi) (subst (λ x. j < x) (sym is.nodes) hj) a b
 
 pub keeps_validity : (k n t : ℕ) → k ≤ max_values → 2 * t + 1 ≤ n → KeepsValidity (dls1 k) n t
 keeps_validity k n t few most s omits is i r v hi a =
-    decisions_are_inputs k s omits (has_majority k n t s few most is) i r v (subst (λ x. i < x) (sym is.nodes) hi) a
+    decisions_are_inputs k s omits (has_majority k n t s few most is) i r v
+    (subst (λ x. i < x) (sym is.nodes) hi) a

@@ -19,20 +19,28 @@ scanned n [] = Some []
 scanned zero (b ∷ bs) = None
 scanned (suc n) (b ∷ bs) = onward (step (b ∷ bs)) (b ∷ bs) (scanned n)
 
-pub scanned_good : (n : ℕ) (text : List ℕ) (ls : List Lexeme) → scanned n text ≡ Some ls → Tokens text ls
+pub scanned_good : (n : ℕ) (text : List ℕ) (ls : List Lexeme) → scanned n text ≡ Some ls
+    → Tokens text ls
 scanned_good n [] ls h = let e : [] ≡ ls = cc in subst (λ x. Tokens [] x) e t.end
 scanned_good zero (b ∷ bs) ls h = absurd (cc)
-scanned_good (suc n) (b ∷ bs) ls h = go (λ m others e. scanned_good n (drop m (b ∷ bs)) others e) (step (b ∷ bs)) (step_says (b ∷ bs) (omega arith)) h
+scanned_good (suc n) (b ∷ bs) ls h =
+    go (λ m others e. scanned_good n (drop m (b ∷ bs)) others e) (step (b ∷ bs))
+    (step_says (b ∷ bs) (omega arith)) h
   where
-    found : (m : ℕ) (l : Lexeme) → ((others : List Lexeme) → scanned n (drop m (b ∷ bs)) ≡ Some others → Tokens (drop m (b ∷ bs)) others) → IsLongest (b ∷ bs) m l
-        → (o : Option (List Lexeme)) → scanned n (drop m (b ∷ bs)) ≡ o → option_map (λ ls. l ∷ ls) o ≡ Some ls → Tokens (b ∷ bs) ls
+    found : (m : ℕ) (l : Lexeme)
+        → ((others : List Lexeme) → scanned n (drop m (b ∷ bs)) ≡ Some others
+        → Tokens (drop m (b ∷ bs)) others) → IsLongest (b ∷ bs) m l
+        → (o : Option (List Lexeme)) → scanned n (drop m (b ∷ bs)) ≡ o
+        → option_map (λ ls. l ∷ ls) o ≡ Some ls → Tokens (b ∷ bs) ls
     found m l ih longest None same e = absurd (cc)
     found m l ih longest (Some others) same e =
         let is : l ∷ others ≡ ls = cc in
         subst (λ x. Tokens (b ∷ bs) x) is (t.token m longest (ih others same))
 
-    go : ((m : ℕ) (others : List Lexeme) → scanned n (drop m (b ∷ bs)) ≡ Some others → Tokens (drop m (b ∷ bs)) others)
-        → (x : Step) → Says (b ∷ bs) x → onward x (b ∷ bs) (scanned n) ≡ Some ls → Tokens (b ∷ bs) ls
+    go : ((m : ℕ) (others : List Lexeme) → scanned n (drop m (b ∷ bs)) ≡ Some others
+        → Tokens (drop m (b ∷ bs)) others)
+        → (x : Step) → Says (b ∷ bs) x → onward x (b ∷ bs) (scanned n) ≡ Some ls
+        → Tokens (b ∷ bs) ls
     go ih (skip m) says e = says.on ls (ih m ls e)
     go ih (token m l) says e = found m l (ih m) says.is (scanned n (drop m (b ∷ bs))) refl e
     go ih bad says e = absurd (cc)

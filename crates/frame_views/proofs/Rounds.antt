@@ -24,7 +24,8 @@ drop_front [] b (suc n) len = absurd (omega arith)
 drop_front (x ∷ a) b zero len = absurd (omega arith)
 drop_front (x ∷ a) b (suc n) len = drop_front a b n (omega arith)
 
-later_is : (n : ℕ) (a b : List ℕ) (i : ℕ) → length a ≡ n → nth_frame n (a ++ b) (suc i) ≡ nth_frame n b i
+later_is : (n : ℕ) (a b : List ℕ) (i : ℕ) → length a ≡ n
+    → nth_frame n (a ++ b) (suc i) ≡ nth_frame n b i
 later_is n a b i len =
     let e : suc i * n ≡ n + i * n = omega arith in
     nth_is n (a ++ b) (suc i)
@@ -39,7 +40,8 @@ room_split n to size within =
     ap (λ (x : ℕ). x * size) e ∙ omega arith
 
 -- a frame to another node
-pub addressed_spells : (s : Format) (from to next round : ℕ) (m : List Value) (frame : List ℕ) → next < s.nodes → Spells s frame (first_copy from to round m)
+pub addressed_spells : (s : Format) (from to next round : ℕ) (m : List Value) (frame : List ℕ)
+    → next < s.nodes → Spells s frame (first_copy from to round m)
     → Spells s (addressed frame next) (first_copy from next round m)
 addressed_spells s from to next round m frame within h = record {
   from = h.from;
@@ -52,10 +54,12 @@ addressed_spells s from to next round m frame within h = record {
 }
 
 -- a copy more in front
-pub addressed_one_more : (nodes : ℕ) (frame : List ℕ) (to : ℕ) (a b : List ℕ) → to < nodes → a ≡ addressed frame to
+pub addressed_one_more : (nodes : ℕ) (frame : List ℕ) (to : ℕ) (a b : List ℕ) → to < nodes
+    → a ≡ addressed frame to
     → AreAddressed nodes frame (to + 1) b → AreAddressed nodes frame to (a ++ b)
 addressed_one_more nodes frame to a b within here rest = record {
-  long = length-append a b ∙ omega (arith, len, rest.long) ∙ sym (room_split nodes to (length frame) within);
+  long = length-append a b ∙ omega (arith, len, rest.long)
+      ∙ sym (room_split nodes to (length frame) within);
   each = at;
 }
   where
@@ -71,30 +75,42 @@ addressed_one_more nodes frame to a b within here rest = record {
         later_is (length frame) a b i len ∙ rest.each i (omega arith) ∙ ap (addressed frame) e
 
 -- all copies of a frame say what it says
-pub addressed_to_all : (s : Format) (from to first round : ℕ) (m : List Value) (frame bytes : List ℕ) → length frame ≡ frame_size s round → Spells s frame (first_copy from to round m)
+pub addressed_to_all : (s : Format) (from to first round : ℕ) (m : List Value)
+    (frame bytes : List ℕ) → length frame ≡ frame_size s round
+    → Spells s frame (first_copy from to round m)
     → AreAddressed s.nodes frame first bytes → AreToAll s from round m first bytes
 addressed_to_all s from to first round m frame bytes len here all = record {
   long = all.long ∙ ap (λ (x : ℕ). (s.nodes - first) * x) len;
   each = λ place within.
-      subst (λ (n : ℕ). Spells s (nth_frame n bytes place) (first_copy from (first + place) round m)) len
-      (subst (λ (x : List ℕ). Spells s x (first_copy from (first + place) round m)) (sym (all.each place within))
+      subst (λ (n : ℕ). Spells s (nth_frame n bytes place)
+      (first_copy from (first + place) round m)) len
+      (subst (λ (x : List ℕ). Spells s x (first_copy from (first + place) round m))
+      (sym (all.each place within))
       (addressed_spells s from to (first + place) round m frame within here));
 }
 
 -- one node more in front
-pub to_one_more : (s : Format) (from round : ℕ) (m : List Value) (to : ℕ) (a b : List ℕ) → to < s.nodes → length a ≡ frame_size s round
-    → Spells s a (first_copy from to round m) → AreToAll s from round m (to + 1) b → AreToAll s from round m to (a ++ b)
+pub to_one_more : (s : Format) (from round : ℕ) (m : List Value) (to : ℕ) (a b : List ℕ)
+    → to < s.nodes → length a ≡ frame_size s round
+    → Spells s a (first_copy from to round m) → AreToAll s from round m (to + 1) b
+    → AreToAll s from round m to (a ++ b)
 to_one_more s from round m to a b within len here rest = record {
-  long = length-append a b ∙ omega (arith, len, rest.long) ∙ sym (room_split s.nodes to (frame_size s round) within);
+  long = length-append a b ∙ omega (arith, len, rest.long)
+      ∙ sym (room_split s.nodes to (frame_size s round) within);
   each = at;
 }
   where
-    at : (i : ℕ) → to + i < s.nodes → Spells s (nth_frame (frame_size s round) (a ++ b) i) (first_copy from (to + i) round m)
+    at : (i : ℕ) → to + i < s.nodes
+        → Spells s (nth_frame (frame_size s round) (a ++ b) i) (first_copy from (to + i) round m)
     at zero l =
         let e : to ≡ to + 0 = omega arith in
-        subst (λ (x : ℕ). Spells s (nth_frame (frame_size s round) (a ++ b) 0) (first_copy from x round m)) e
-        (subst (λ (x : List ℕ). Spells s x (first_copy from to round m)) (sym (first_is (frame_size s round) a b len)) here)
+        subst (λ (x : ℕ). Spells s (nth_frame (frame_size s round) (a ++ b) 0)
+        (first_copy from x round m)) e
+        (subst (λ (x : List ℕ). Spells s x (first_copy from to round m))
+        (sym (first_is (frame_size s round) a b len)) here)
     at (suc i) l =
         let e : to + 1 + i ≡ to + suc i = omega arith in
-        subst (λ (x : ℕ). Spells s (nth_frame (frame_size s round) (a ++ b) (suc i)) (first_copy from x round m)) e
-        (subst (λ (x : List ℕ). Spells s x (first_copy from (to + 1 + i) round m)) (sym (later_is (frame_size s round) a b i len)) (rest.each i (omega arith)))
+        subst (λ (x : ℕ). Spells s (nth_frame (frame_size s round) (a ++ b) (suc i))
+        (first_copy from x round m)) e
+        (subst (λ (x : List ℕ). Spells s x (first_copy from (to + 1 + i) round m))
+        (sym (later_is (frame_size s round) a b i len)) (rest.each i (omega arith)))

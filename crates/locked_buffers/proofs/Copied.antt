@@ -5,7 +5,9 @@ use Rattle.step_book.specs.Log.{HasNoCopy, IsLeastCopy, Recorded}
 use Rattle.step_machine.specs.declared.event.Name.{Name}
 use Rattle.locked_buffers.specs.Runs.{IsNextCopy}
 
-pub next_is : {P : Type 0} (start : P → ℕ → ℕ) (one : Recorded P) (n : Name) (o : Option Name) → IfSome o (λ m. (m ≡ record n { copy = m.copy }) × IsLeastCopy (start one.plan) one.log n m.copy)
+pub next_is : {P : Type 0} (start : P → ℕ → ℕ) (one : Recorded P) (n : Name) (o : Option Name)
+    → IfSome o (λ m. (m ≡ record n { copy = m.copy })
+    × IsLeastCopy (start one.plan) one.log n m.copy)
     → (o ≡ None → HasNoCopy (start one.plan) one.log n) → IsNextCopy start one n o
 next_is start one n None some none = none refl
 next_is start one n (Some m) some none = some

@@ -14,8 +14,11 @@ use Rattle.step_journal.specs.Fits.{IsOfRun}
 use Rattle.step_journal.proofs.Handed.{mail_to}
 use Rattle.locked_buffers.specs.Runs.{Run, algorithm_by}
 
-pub mail_waits : {P : Type 0} (start : P → ℕ → ℕ) (r : Run P) (b : Recorded P) (s : BufferView) (i : ℕ) (frames : List Frame) (ns ws : List Name)
-    → IsOfRun r.program r.setup s → ns ≡ names_in s.waiting → All (IsName r.setup) ns → ns ≡ ws → ws ≡ waiting_in (start b.plan) b.log i
+pub mail_waits : {P : Type 0} (start : P → ℕ
+    → ℕ) (r : Run P) (b : Recorded P) (s : BufferView) (i : ℕ) (frames : List Frame)
+    (ns ws : List Name)
+    → IsOfRun r.program r.setup s → ns ≡ names_in s.waiting → All (IsName r.setup) ns → ns ≡ ws
+    → ws ≡ waiting_in (start b.plan) b.log i
     → AreHonest (run_of s) s.flying s.waiting → frames ≡ s.waiting
     → All (IsMail (algorithm_by r) r.setup.nodes i) frames
 mail_waits start r b s i frames ns ws buffer named known same waits honest taken =
@@ -24,10 +27,13 @@ mail_waits start r b s i frames ns ws buffer named known same waits honest taken
     let long = length-map s.waiting (λ (x : Frame). x.name) in
     let own : IsName r.setup f.name =
     subst (IsName r.setup) (get_or-map (λ (x : Frame). x.name) s.waiting k d d.name l)
-    (All-same (IsName r.setup) (names_in s.waiting) ns (sym named) known k d.name (omega (arith, l, long))) in
+    (All-same (IsName r.setup) (names_in s.waiting) ns (sym named) known k d.name
+    (omega (arith, l, long))) in
     record {
       from = own.from;
       copy = own.copy;
-      to = mail_to (world_of (start b.plan) b.log) i (history b.log) s.waiting (sym named ∙ same ∙ waits) k d l;
-      honest = subst (λ u. IsHonest (algorithm_of r.program u) f) buffer.setup (subst (λ p. IsHonest (algorithm_of p s.setup) f) buffer.program (honest.waits k d l));
+      to = mail_to (world_of (start b.plan) b.log) i (history b.log) s.waiting (sym named ∙ same
+          ∙ waits) k d l;
+      honest = subst (λ u. IsHonest (algorithm_of r.program u) f) buffer.setup
+          (subst (λ p. IsHonest (algorithm_of p s.setup) f) buffer.program (honest.waits k d l));
     })

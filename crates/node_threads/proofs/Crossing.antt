@@ -3,7 +3,16 @@ use Rattle.std.proofs.Crossing.{crosses}
 use denote.RattleType.{RattleType}
 use Rattle.std.proofs.Common.{◌∷◌, []}
 use mir.Syntax.{Sym}
-use denote.Param.Send.{IsSend, IsSync, recorded_send, sendable, shr_send, struct_send, view_send, view_sync}
+use denote.Param.Send.{
+  IsSend,
+  IsSync,
+  recorded_send,
+  sendable,
+  shr_send,
+  struct_send,
+  view_send,
+  view_sync,
+}
 use denote.Ref.{NamedLft}
 use denote.Struct.Declared.{shape}
 use denote.Struct.Tuple.{TupleAt, field_at, type_at}
@@ -86,10 +95,24 @@ pub program_sync : IsSync program.the_row
 program_sync = search (leaves, crosses, knot.crosses, sendable) depth 60 fits 20000
 
 pub checked_send : IsSend checked.the_row
-checked_send = search (program_send, program_sync, leaves, crosses, knot.crosses, sendable) depth 60 fits 20000
+checked_send = search (
+  program_send,
+  program_sync,
+  leaves,
+  crosses,
+  knot.crosses,
+  sendable,
+) depth 60 fits 20000
 
 pub checked_sync : IsSync checked.the_row
-checked_sync = search (program_send, program_sync, leaves, crosses, knot.crosses, sendable) depth 60 fits 20000
+checked_sync = search (
+  program_send,
+  program_sync,
+  leaves,
+  crosses,
+  knot.crosses,
+  sendable,
+) depth 60 fits 20000
 
 pub buffer_send : IsSend buffer.the_row
 buffer_send = view_send buffer_inside.the_row _ _ _ _ (declared_send buffer_inside.the_type (
@@ -98,7 +121,10 @@ buffer_send = view_send buffer_inside.the_row _ _ _ _ (declared_send buffer_insi
     search (round_frames.the_send, crosses, sendable) depth 30,
     (
       search (spare_places.the_send, sendable) depth 30,
-      (search (crosses, sendable) depth 30, (as_row_send checked.the_field checked_send, (setup.the_send, tt))),
+      (
+        search (crosses, sendable) depth 30,
+        (as_row_send checked.the_field checked_send, (setup.the_send, tt)),
+      ),
     ),
   ),
 ))
@@ -110,7 +136,10 @@ buffer_sync = view_sync buffer_inside.the_row _ _ _ _ (declared_sync buffer_insi
     search (round_frames.the_sync, crosses, sendable) depth 30,
     (
       search (spare_places.the_sync, sendable) depth 30,
-      (search (crosses, sendable) depth 30, (as_row_sync checked.the_field checked_sync, (setup.the_sync, tt))),
+      (
+        search (crosses, sendable) depth 30,
+        (as_row_sync checked.the_field checked_sync, (setup.the_sync, tt)),
+      ),
     ),
   ),
 ))
@@ -155,50 +184,71 @@ pub ruleset parts = (
 
 module _ (P : RattleType) (p : plan.Ghosts P.Denot) (e : eq.Ghosts P.Denot) where
   pub book_send : IsSend P → IsSend (book.the_row P p e)
-  book_send s = view_send (book_inside.the_row P p e) _ _ _ _ (declared_send (book_inside.the_type P p e) (
-    search (event.the_send, crosses, sendable) depth 30,
-    (
-      search (name.the_send, crosses, sendable) depth 30,
-      (
-        search (crosses, sendable) depth 30,
+  book_send s = view_send (book_inside.the_row P p e) _ _ _ _
+      (declared_send (book_inside.the_type P p e) (
+        search (event.the_send, crosses, sendable) depth 30,
         (
-          search (crosses, sendable) depth 30,
+          search (name.the_send, crosses, sendable) depth 30,
           (
-            search (vars.the_send, vars.the_sync, crosses, sendable) depth 30,
+            search (crosses, sendable) depth 30,
             (
-              search (marks.the_send, sendable) depth 30,
+              search (crosses, sendable) depth 30,
               (
-                search (mail.the_send, crosses, sendable) depth 30,
-                (as_row_send checked.the_field checked_send, (setup.the_send, (as_row_send (row_field P) s, tt))),
+                search (vars.the_send, vars.the_sync, crosses, sendable) depth 30,
+                (
+                  search (marks.the_send, sendable) depth 30,
+                  (
+                    search (mail.the_send, crosses, sendable) depth 30,
+                    (
+                      as_row_send checked.the_field checked_send,
+                      (setup.the_send, (as_row_send (row_field P) s, tt)),
+                    ),
+                  ),
+                ),
               ),
             ),
           ),
         ),
-      ),
-    ),
-  ))
+      ))
 
   pub run_sync : IsSync P → IsSync (run.the_row P p e)
-  run_sync y = view_sync (run_inside.the_row P p e) _ _ _ _ (declared_sync (run_inside.the_type P p e) (
-    as_row_sync checked.the_field checked_sync,
-    (setup.the_sync, (as_row_sync (row_field P) y, tt)),
-  ))
+  run_sync y = view_sync (run_inside.the_row P p e) _ _ _ _
+      (declared_sync (run_inside.the_type P p e) (
+        as_row_sync checked.the_field checked_sync,
+        (setup.the_sync, (as_row_sync (row_field P) y, tt)),
+      ))
 
   pub post_sync : IsSend P → IsSync P → IsSync (post.the_row P p e)
-  post_sync s y = view_sync (post_inside.the_row P p e) _ _ _ _ (declared_sync (post_inside.the_type P p e) (
-    search (crosses, sendable) depth 30,
-    (
-      as_row_sync (run.the_field P p e) (run_sync y),
-      (search (book_send s, crosses, sendable) depth 30, (search (buffer_send, crosses, sendable) depth 30, (search (buffer_sync, crosses, sendable) depth 30, tt))),
-    ),
-  ))
+  post_sync s y = view_sync (post_inside.the_row P p e) _ _ _ _
+      (declared_sync (post_inside.the_type P p e) (
+        search (crosses, sendable) depth 30,
+        (
+          as_row_sync (run.the_field P p e) (run_sync y),
+          (
+            search (book_send s, crosses, sendable) depth 30,
+            (
+              search (buffer_send, crosses, sendable) depth 30,
+              (search (buffer_sync, crosses, sendable) depth 30, tt),
+            ),
+          ),
+        ),
+      ))
 
   pub network_send : (κ : NamedLft) → IsSend P → IsSync P → IsSend (network.the_row κ P p e)
   network_send κ s y = declared_send (network.the_type κ P p e) (
     as_row_send (shr_ref_field κ (post.the_row P p e) tt) (shr_send _ _ _ (post_sync s y)),
     (
       as_row_send (shr_ref_field κ setup_type.the_row tt) (shr_send _ _ _ setup.the_sync),
-      (as_row_send (row_field P) s, (relay.the_send, (flight.the_send, (search sendable, (search (name.the_send, crosses, sendable) depth 30, tt))))),
+      (
+        as_row_send (row_field P) s,
+        (
+          relay.the_send,
+          (
+            flight.the_send,
+            (search sendable, (search (name.the_send, crosses, sendable) depth 30, tt)),
+          ),
+        ),
+      ),
     ),
   )
 
@@ -207,12 +257,20 @@ module _ (P : RattleType) (p : plan.Ghosts P.Denot) (e : eq.Ghosts P.Denot) wher
     as_row_send (shr_ref_field κ (post.the_row P p e) tt) (shr_send _ _ _ (post_sync s y)),
     (
       as_row_send (row_field P) s,
-      (search sendable, (search (crosses, sendable) depth 30, (seat.the_send, (as_row_send node.the_field node_send, tt)))),
+      (
+        search sendable,
+        (
+          search (crosses, sendable) depth 30,
+          (seat.the_send, (as_row_send node.the_field node_send, tt)),
+        ),
+      ),
     ),
   )
 
 -- a closure may go where all that it captures may
-pub closure_send : (ν : Sym) (A B C D : RattleType) → IsSend A → IsSend B → IsSend C → IsSend D → IsSend (TupleAt ν (A ∷ B ∷ C ∷ D ∷ []))
+pub closure_send : (ν : Sym) (A B C D : RattleType) → IsSend A → IsSend B → IsSend C → IsSend D
+    → IsSend (TupleAt ν (A ∷ B ∷ C ∷ D ∷ []))
 closure_send ν A B C D a b c d =
     let all = A ∷ B ∷ C ∷ D ∷ [] in
-    recorded_send (field_at ν all).row _ _ (type_at ν all).to_one (struct_send (shape (type_at ν all)) (a, (b, (c, (d, tt)))))
+    recorded_send (field_at ν all).row _ _ (type_at ν all).to_one
+    (struct_send (shape (type_at ν all)) (a, (b, (c, (d, tt)))))

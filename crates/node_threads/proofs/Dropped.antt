@@ -1,5 +1,24 @@
 -- Lists whose first elements are left out.
-use Rattle.std.proofs.Common.{◌≡◌, ℕ, zero, suc, ◌+◌, ◌≤◌, List, [], ◌∷◌, ◌++◌, drop, take, length, ap, sym, ◌∙◌, refl, arith}
+use Rattle.std.proofs.Common.{
+  ◌≡◌,
+  ℕ,
+  zero,
+  suc,
+  ◌+◌,
+  ◌≤◌,
+  List,
+  [],
+  ◌∷◌,
+  ◌++◌,
+  drop,
+  take,
+  length,
+  ap,
+  sym,
+  ◌∙◌,
+  refl,
+  arith,
+}
 use Rattle.std.proofs.lemmas.List.{drop-append-le, drop-take, length-take-le}
 use Rattle.std.proofs.Math.Seq.{drop-nil}
 use Rattle.std.specs.List.{insert, remove}
@@ -14,7 +33,8 @@ pub drop_drop : {X : Type 0} (k n : ℕ) (xs : List X) → drop (k + n) xs ≡ d
 drop_drop k n xs = drop_at k n (k + n) xs refl
 
 -- an element that is removed, or added, behind those that are left out
-pub drop_remove : {X : Type 0} (k i : ℕ) (xs : List X) → k + i ≤ length xs → drop k (remove xs (k + i)) ≡ remove (drop k xs) i
+pub drop_remove : {X : Type 0} (k i : ℕ) (xs : List X) → k + i ≤ length xs
+    → drop k (remove xs (k + i)) ≡ remove (drop k xs) i
 drop_remove k i xs le =
     let l : k ≤ length (take (k + i) xs) = let e = length-take-le (k + i) xs le in omega arith in
     let e : suc (k + i) ≡ k + suc i = omega arith in
@@ -22,7 +42,8 @@ drop_remove k i xs le =
     ∙ ap (λ ys. ys ++ drop (suc (k + i)) xs) (drop-take k i xs)
     ∙ ap (λ ys. take i (drop k xs) ++ ys) (ap (λ n. drop n xs) e ∙ drop_drop k (suc i) xs)
 
-pub drop_insert : {X : Type 0} (k i : ℕ) (x : X) (xs : List X) → k + i ≤ length xs → drop k (insert xs (k + i) x) ≡ insert (drop k xs) i x
+pub drop_insert : {X : Type 0} (k i : ℕ) (x : X) (xs : List X) → k + i ≤ length xs
+    → drop k (insert xs (k + i) x) ≡ insert (drop k xs) i x
 drop_insert k i x xs le =
     let l : k ≤ length (take (k + i) xs) = let e = length-take-le (k + i) xs le in omega arith in
     drop-append-le k (take (k + i) xs) (x ∷ drop (k + i) xs) l

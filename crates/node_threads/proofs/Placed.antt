@@ -1,6 +1,22 @@
 -- Where a seat stands in its rounds.
 use Rattle.std.specs.Option.{ForSome, unwrap_or}
-use Rattle.std.proofs.Common.{subst, Option, Some, ◌≡◌, ℕ, zero, suc, ◌+◌, ◌-◌, ◌<◌, ◌≤◌, length, ap, ◌∙◌, arith}
+use Rattle.std.proofs.Common.{
+  subst,
+  Option,
+  Some,
+  ◌≡◌,
+  ℕ,
+  zero,
+  suc,
+  ◌+◌,
+  ◌-◌,
+  ◌<◌,
+  ◌≤◌,
+  length,
+  ap,
+  ◌∙◌,
+  arith,
+}
 use Rattle.slot_plans.specs.Plan.{PlanLaws}
 use Rattle.locked_buffers.specs.Seats.{Account, IsDueBy, round_by}
 use Rattle.node_threads.specs.declared.ended.Ended.TheVariants.{Stopped}
@@ -22,22 +38,32 @@ module _ (start receives : ℕ → ℕ) (nodes : ℕ) (laws : PlanLaws nodes rec
       omega (arith, ap start e, longer (a + d) (omega arith), rises a d some)
 
   pub starts_le : (a b : ℕ) → 0 < a → a ≤ b → start a ≤ start b
-  starts_le a b some le = let e : a + (b - a) ≡ b = omega arith in omega (arith, ap start e, rises a (b - a) some)
+  starts_le a b some le = let e : a + (b - a) ≡ b = omega arith in
+      omega (arith, ap start e, rises a (b - a) some)
 
   -- before the first step
-  pub placed_first : (rounds : ℕ) (a : Account) → a.steps ≡ 0 → round_by a ≡ 1 → IsInPlace start rounds a
+  pub placed_first : (rounds : ℕ) (a : Account) → a.steps ≡ 0 → round_by a ≡ 1
+      → IsInPlace start rounds a
   placed_first rounds a none one = record {
     first = omega (arith, one);
     last = omega (arith, one);
     begun = omega (arith, none, ap start one, laws.first_start);
-    early = λ l. omega (arith, none, ap (λ r. start (r + 1)) one, longer 1 (omega arith), laws.first_start);
+    early = λ l. omega (
+      arith,
+      none,
+      ap (λ r. start (r + 1)) one,
+      longer 1 (omega arith),
+      laws.first_start,
+    );
     whole = λ e.
         let z : rounds + 1 ≡ 1 = omega (arith, e, one) in
         none ∙ omega (arith, ap start z, laws.first_start);
   }
 
   -- after a step that isn't the last of its round
-  pub placed_within : (rounds : ℕ) (a b : Account) → IsInPlace start rounds a → round_by a ≤ rounds → b.states ≡ a.states → b.steps ≡ a.steps + 1 → (b.steps ≡ start (round_by a + 1) → ⊥) → IsInPlace start rounds b
+  pub placed_within : (rounds : ℕ) (a b : Account) → IsInPlace start rounds a → round_by a ≤ rounds
+      → b.states ≡ a.states → b.steps ≡ a.steps + 1 → (b.steps ≡ start (round_by a + 1) → ⊥)
+      → IsInPlace start rounds b
   placed_within rounds a b h l same more not =
       let r : round_by b ≡ round_by a = ap length same in
       let before : b.steps < start (round_by a + 1) = omega (arith, h.early l, more, not) in
@@ -50,33 +76,48 @@ module _ (start receives : ℕ → ℕ) (nodes : ℕ) (laws : PlanLaws nodes rec
       }
 
   -- after the last, with the round closed
-  pub placed_closed : (rounds : ℕ) (a b c : Account) → IsInPlace start rounds a → round_by a ≤ rounds → b.states ≡ a.states → b.steps ≡ start (round_by a + 1) → c.steps ≡ b.steps → round_by c ≡ round_by b + 1 → IsInPlace start rounds c
+  pub placed_closed : (rounds : ℕ) (a b c : Account) → IsInPlace start rounds a
+      → round_by a ≤ rounds → b.states ≡ a.states → b.steps ≡ start (round_by a + 1)
+      → c.steps ≡ b.steps → round_by c ≡ round_by b + 1 → IsInPlace start rounds c
   placed_closed rounds a b c h l same last kept next =
       let r : round_by c ≡ round_by a + 1 = next ∙ ap (λ x. length x + 1) same in
       record {
         first = omega (arith, r);
         last = omega (arith, r, l);
         begun = omega (arith, kept, last, ap start r);
-        early = λ m. omega (arith, kept, last, ap (λ x. start (x + 1)) r, longer (round_by a + 1) (omega arith));
+        early = λ m. omega (
+          arith,
+          kept,
+          last,
+          ap (λ x. start (x + 1)) r,
+          longer (round_by a + 1) (omega arith),
+        );
         whole = λ e.
             let z : rounds + 1 ≡ round_by a + 1 = omega (arith, e, r) in
             kept ∙ last ∙ ap start (omega (arith, z));
       }
 
   -- a seat in its place has taken fewer steps than all, and has no due round open
-  pub before_all : (rounds : ℕ) (a : Account) → IsInPlace start rounds a → round_by a ≤ rounds → a.steps < start (rounds + 1)
-  before_all rounds a h l = omega (arith, h.early l, starts_le (round_by a + 1) (rounds + 1) (omega arith) (omega (arith, l)))
+  pub before_all : (rounds : ℕ) (a : Account) → IsInPlace start rounds a → round_by a ≤ rounds
+      → a.steps < start (rounds + 1)
+  before_all rounds a h l = omega (
+    arith,
+    h.early l,
+    starts_le (round_by a + 1) (rounds + 1) (omega arith) (omega (arith, l)),
+  )
 
   pub not_due : (rounds : ℕ) (a : Account) → IsInPlace start rounds a → IsDueBy start rounds a → ⊥
   not_due rounds a h due = omega (arith, h.early due.0, due.1)
 
   -- at its stop it has ended so
-  pub stopped_there : (rounds : ℕ) (stop : Option ℕ) (a : Account) → IsInPlace start rounds a → round_by a ≤ rounds → stop ≡ Some a.steps → IsEnded start rounds stop a Stopped
+  pub stopped_there : (rounds : ℕ) (stop : Option ℕ) (a : Account) → IsInPlace start rounds a
+      → round_by a ≤ rounds → stop ≡ Some a.steps → IsEnded start rounds stop a Stopped
   stopped_there rounds stop a h l e = record {
     done = λ is. cc;
     stopped = λ is. (e, before_all rounds a h l, not_due rounds a h);
   }
 
   -- the steps that are left
-  pub fewer : (rounds : ℕ) (a b : Account) → IsInPlace start rounds a → round_by a ≤ rounds → b.steps ≡ a.steps + 1 → start (rounds + 1) - b.steps < start (rounds + 1) - a.steps
+  pub fewer : (rounds : ℕ) (a b : Account) → IsInPlace start rounds a → round_by a ≤ rounds
+      → b.steps ≡ a.steps + 1 → start (rounds + 1) - b.steps < start (rounds + 1) - a.steps
   fewer rounds a b h l more = omega (arith, before_all rounds a h l, more)

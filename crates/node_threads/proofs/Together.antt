@@ -1,6 +1,22 @@
 -- A seat and its node, step by step.
 use Rattle.std.specs.Prelude.{replicate}
-use Rattle.std.proofs.Common.{◌≡◌, ℕ, suc, None, refl, ◌+◌, ◌<◌, List, [], ◌∷◌, ◌++◌, length, ap, subst, sym}
+use Rattle.std.proofs.Common.{
+  ◌≡◌,
+  ℕ,
+  suc,
+  None,
+  refl,
+  ◌+◌,
+  ◌<◌,
+  List,
+  [],
+  ◌∷◌,
+  ◌++◌,
+  length,
+  ap,
+  subst,
+  sym,
+}
 use Rattle.std.proofs.Common.{◌∙◌, arith, length-append}
 use Rattle.round_lang.specs.declared.value.Value.{Value}
 use Rattle.round_lang.specs.Syntax.{ProgramTree}
@@ -15,7 +31,8 @@ use Rattle.step_machine.specs.Sealed.{Frame}
 use Rattle.node_threads.specs.Bodies.{IsTogether}
 
 -- after a send
-pub together_sent : {P : Type 0} (r : Run P) (a b : Account) (n m : NodeView) → IsTogether r a n → b ≡ record a { steps = a.steps + 1 } → m ≡ n → IsTogether r b m
+pub together_sent : {P : Type 0} (r : Run P) (a b : Account) (n m : NodeView) → IsTogether r a n
+    → b ≡ record a { steps = a.steps + 1 } → m ≡ n → IsTogether r b m
 together_sent r a b n m h e f =
     let P : Account → Type 0 = λ x. IsTogether r x m in
     let Q : NodeView → Type 0 = λ x. IsTogether r (record a { steps = a.steps + 1 }) x in
@@ -29,7 +46,8 @@ together_sent r a b n m h e f =
     }))
 
 -- after a receive
-pub together_received : {P : Type 0} (r : Run P) (a b : Account) (n m : NodeView) (fs : List Frame) → IsTogether r a n → b.node ≡ a.node → b.states ≡ a.states → HasTaken n m fs → IsTogether r b m
+pub together_received : {P : Type 0} (r : Run P) (a b : Account) (n m : NodeView) (fs : List Frame)
+    → IsTogether r a n → b.node ≡ a.node → b.states ≡ a.states → HasTaken n m fs → IsTogether r b m
 together_received r a b n m fs h e f t = record {
   program = t.same.program ∙ h.program;
   setup = t.same.setup ∙ h.setup;
@@ -40,7 +58,9 @@ together_received r a b n m fs h e f t = record {
 }
 
 -- after the end of the round
-pub together_closed : {P : Type 0} (r : Run P) (a b : Account) (n m o : NodeView) (s : List Value) → IsTogether r a n → b ≡ record a { states = a.states ++ s ∷ [] } → IsSameTurn n m → HasSettled m o → IsTogether r b o
+pub together_closed : {P : Type 0} (r : Run P) (a b : Account) (n m o : NodeView) (s : List Value)
+    → IsTogether r a n → b ≡ record a { states = a.states ++ s ∷ [] } → IsSameTurn n m
+    → HasSettled m o → IsTogether r b o
 together_closed r a b n m o s h e t g =
     let P : Account → Type 0 = λ x. IsTogether r x o in
     subst P (sym e) (record {
@@ -53,8 +73,17 @@ together_closed r a b n m o s h e t g =
     })
 
 -- before the first step
-pub together_first : {P : Type 0} (r : Run P) (p : P) (t : ProgramTree) (s : Setup) (me : ℕ) (a : Account) (n : NodeView) → r ≡ record { plan = p; program = t; setup = s }
-    → n ≡ record { program = t; setup = s; me = me; round = 1; state = (algorithm_of t s).init me; held = replicate (suc ahead) (replicate s.nodes None); next = None }
+pub together_first : {P : Type 0} (r : Run P) (p : P) (t : ProgramTree) (s : Setup) (me : ℕ)
+    (a : Account) (n : NodeView) → r ≡ record { plan = p; program = t; setup = s }
+    → n ≡ record {
+      program = t;
+      setup = s;
+      me = me;
+      round = 1;
+      state = (algorithm_of t s).init me;
+      held = replicate (suc ahead) (replicate s.nodes None);
+      next = None;
+    }
     → me ≡ a.node → me < s.nodes → round_by a ≡ 1 → IsTogether r a n
 together_first {P} r p t s me a n is e own l one =
     let R : Run P = record { plan = p; program = t; setup = s } in

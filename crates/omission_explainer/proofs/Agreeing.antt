@@ -14,8 +14,10 @@ use Rattle.step_book.specs.Log.{Log}
 both : {X : Type 0} (P Q R : X → Type 0) → ((x : X) → P x → Q x → R x) → (xs : List X)
     → All P xs → All Q xs → AllByRecursion R xs
 both P Q R f [] a b = tt
-both P Q R f (x ∷ xs) a b =
-    (f x (All-head P x xs a) (All-head Q x xs b), both P Q R f xs (All-tail P x xs a) (All-tail Q x xs b))
+both P Q R f (x ∷ xs) a b = (
+  f x (All-head P x xs a) (All-head Q x xs b),
+  both P Q R f xs (All-tail P x xs a) (All-tail Q x xs b),
+)
 
 -- the rows are of the run in rounds under the omissions that they print
 of_run : (start : ℕ → ℕ) (v : Log) (rows : List ClosedRound) → All (IsReported start v) rows
@@ -32,4 +34,5 @@ pub rows_agree : (start : ℕ → ℕ) (v : Log) (rows : List ClosedRound) → A
     → All (IsOfRounds (algorithm_of v.program v.setup) (printed_omits rows)) rows
     → RunsAlgorithm1 v.program v.setup → AreAgreed rows × AreInputs v.setup rows
 rows_agree start v rows reported in_rounds runs =
-    runs_agree rows v.program v.setup (printed_omits rows) runs (of_run start v rows reported in_rounds)
+    runs_agree rows v.program v.setup (printed_omits rows) runs
+    (of_run start v rows reported in_rounds)

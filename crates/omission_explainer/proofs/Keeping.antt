@@ -22,25 +22,32 @@ has_member members i small h = and_from _ _ (lt-ltb i 64 small) h
 pub member_of : (members i : ℕ) → has_node members i ≡ true → is_in members i ≡ true
 member_of members i h = (and_parts _ _ h).1
 
-module _ (w : World) (t : List Event) (correct delta gst : ℕ) (counts : List ℕ) (j : ℕ) (plan : IsPlan w) where
+module _ (w : World) (t : List Event) (correct delta gst : ℕ) (counts : List ℕ) (j : ℕ)
+    (plan : IsPlan w) where
   pub keeps_early : get_or counts j 0 < gst → KeepsBound w t correct delta gst counts j
   keeps_early early n own here late = absurd (omega arith)
 
   pub keeps_silent : IsNoMessageAt w (get_or counts j 0) → KeepsBound w t correct delta gst counts j
   keeps_silent none n own here late = absurd (none n own.named own.slot)
 
-  pub keeps_other : (n : Name) → IsMessageAt w j (get_or counts j 0) n → (is_in correct n.to ≡ true → ⊥) → KeepsBound w t correct delta gst counts j
+  pub keeps_other : (n : Name) → IsMessageAt w j (get_or counts j 0) n
+      → (is_in correct n.to ≡ true → ⊥) → KeepsBound w t correct delta gst counts j
   keeps_other n s out m own here late has =
       let same = one_message w plan j (get_or counts j 0) n m s own in
       out (ap (λ (x : Name). is_in correct x.to) same ∙ here)
 
   -- what a receive of the slot's receiver may find too late
   abbrev pub Late : Name → Type 0
-  Late n = HasReceive w (max (get_or counts j 0 + delta) (get_or counts n.to 0)) (open_until (steps n.to t) (marks_of w t n))
+  Late n = HasReceive w (max (get_or counts j 0 + delta) (get_or counts n.to 0))
+      (open_until (steps n.to t) (marks_of w t n))
 
-  pub keeps_at : (n : Name) (b : Bool) → IsMessageAt w j (get_or counts j 0) n → is_in correct n.to ≡ true → gst ≤ get_or counts j 0 → (b ≡ true) ↔ Late n → (not b ≡ true) ↔ KeepsBound w t correct delta gst counts j
+  pub keeps_at : (n : Name) (b : Bool) → IsMessageAt w j (get_or counts j 0) n
+      → is_in correct n.to ≡ true → gst ≤ get_or counts j 0 → (b ≡ true) ↔ Late n
+      → (not b ≡ true) ↔ KeepsBound w t correct delta gst counts j
   keeps_at n b s here late both = (
-    λ h m own member due has. both_ways b (not_is b h) (both.1 (subst (λ (x : Name). Late x) (sym (one_message w plan j (get_or counts j 0) n m s own)) has)),
+    λ h m own member due has. both_ways b (not_is b h)
+        (both.1 (subst (λ (x : Name). Late x)
+        (sym (one_message w plan j (get_or counts j 0) n m s own)) has)),
     λ keeps. is_not b (λ on. keeps n s here late (both.0 on)),
   )
     where
@@ -53,9 +60,15 @@ module _ (w : World) (t : List Event) (correct delta gst : ℕ) (counts : List �
       is_not false h = refl
 
 -- a slot's step number with a delay fits 64 bits
-pub slot_small : (start receives : ℕ → ℕ) (nodes : ℕ) (v : Log) → PlanLaws nodes receives start → nodes ≡ v.setup.nodes → v.setup.rounds ≤ 4096 → (j x : ℕ) (n : Name) → IsMessageAt (world_of start v) j x n → n.to < nodes → x < 2 ^ 32
+pub slot_small : (start receives : ℕ → ℕ) (nodes : ℕ) (v : Log) → PlanLaws nodes receives start
+    → nodes ≡ v.setup.nodes → v.setup.rounds ≤ 4096 → (j x : ℕ) (n : Name)
+    → IsMessageAt (world_of start v) j x n → n.to < nodes → x < 2 ^ 32
 slot_small start receives nodes v laws sized few j x n s to =
     let first = s.named.first in
     let last = s.named.last in
     let at = s.slot in
-    omega (arith, sends_small start receives nodes v laws sized few n.round (omega arith) (omega arith))
+    omega (
+      arith,
+      sends_small start receives nodes v laws sized few n.round (omega arith)
+          (omega arith),
+    )

@@ -22,26 +22,31 @@ use Rattle.omission_explainer.specs.declared.summary.Decided.TheVariants as d
 
 -- ---- one row more
 
-was : (rows : List ClosedRound) (row : ClosedRound) (v : ℕ) → IsDecided (rows ++ row ∷ []) v → IsDecided rows v ⊎ (row.decision ≡ Some v)
+was : (rows : List ClosedRound) (row : ClosedRound) (v : ℕ) → IsDecided (rows ++ row ∷ []) v
+    → IsDecided rows v ⊎ (row.decision ≡ Some v)
 was [] row v (inl e) = inr e
 was [] row v (inr h) = absurd h
 was (r ∷ rows) row v (inl e) = inl (inl e)
 was (r ∷ rows) row v (inr h) = go (was rows row v h)
   where
-    go : IsDecided rows v ⊎ (row.decision ≡ Some v) → ((r.decision ≡ Some v) ⊎ IsDecided rows v) ⊎ (row.decision ≡ Some v)
+    go : IsDecided rows v ⊎ (row.decision ≡ Some v)
+        → ((r.decision ≡ Some v) ⊎ IsDecided rows v) ⊎ (row.decision ≡ Some v)
     go (inl x) = inl (inr x)
     go (inr x) = inr x
 
-stays : (rows : List ClosedRound) (row : ClosedRound) (v : ℕ) → IsDecided rows v → IsDecided (rows ++ row ∷ []) v
+stays : (rows : List ClosedRound) (row : ClosedRound) (v : ℕ) → IsDecided rows v
+    → IsDecided (rows ++ row ∷ []) v
 stays [] row v h = absurd h
 stays (r ∷ rows) row v (inl e) = inl e
 stays (r ∷ rows) row v (inr h) = inr (stays rows row v h)
 
-last : (rows : List ClosedRound) (row : ClosedRound) (v : ℕ) → row.decision ≡ Some v → IsDecided (rows ++ row ∷ []) v
+last : (rows : List ClosedRound) (row : ClosedRound) (v : ℕ) → row.decision ≡ Some v
+    → IsDecided (rows ++ row ∷ []) v
 last [] row v e = inl e
 last (r ∷ rows) row v e = inr (last rows row v e)
 
-no_more : (rows : List ClosedRound) (row : ClosedRound) (all : Decided) → row.decision ≡ None → IsSummary rows all → IsSummary (rows ++ row ∷ []) all
+no_more : (rows : List ClosedRound) (row : ClosedRound) (all : Decided) → row.decision ≡ None
+    → IsSummary rows all → IsSummary (rows ++ row ∷ []) all
 no_more rows row all e h = go all h
   where
     back : (v : ℕ) → IsDecided (rows ++ row ∷ []) v → IsDecided rows v
@@ -56,7 +61,9 @@ no_more rows row all e h = go all h
     go (d.One v) h = (stays rows row v h.0, λ u x. h.1 u (back u x))
     go d.Split h = (h.0, h.1, stays rows row h.0 h.2, stays rows row h.1 h.3, h.4)
 
-one_more : (rows : List ClosedRound) (row : ClosedRound) (v : ℕ) (all : Decided) → row.decision ≡ Some v → IsSummary rows all → IsSummary (rows ++ row ∷ []) (with_decision all (Some v))
+one_more : (rows : List ClosedRound) (row : ClosedRound) (v : ℕ) (all : Decided)
+    → row.decision ≡ Some v → IsSummary rows all
+    → IsSummary (rows ++ row ∷ []) (with_decision all (Some v))
 one_more rows row v d.None e h = (last rows row v e, λ u x. only u (was rows row u x))
   where
     only : (u : ℕ) → IsDecided rows u ⊎ (row.decision ≡ Some u) → u ≡ v
@@ -70,10 +77,17 @@ one_more rows row v (d.One w) e h = go (v == w) refl
         only : (u : ℕ) → IsDecided rows u ⊎ (row.decision ≡ Some u) → u ≡ w
         only u (inl y) = h.1 u y
         only u (inr y) = let is : u ≡ v = cc (sym y ∙ e) in is ∙ eqb-true v w same
-    go false other = (w, v, stays rows row w h.0, last rows row v e, λ x. eqb-false v w other (sym x))
+    go false other = (
+      w,
+      v,
+      stays rows row w h.0,
+      last rows row v e,
+      λ x. eqb-false v w other (sym x),
+    )
 one_more rows row v d.Split e h = (h.0, h.1, stays rows row h.0 h.2, stays rows row h.1 h.3, h.4)
 
-pub one_row_more : (rows : List ClosedRound) (row : ClosedRound) (all : Decided) → IsSummary rows all → IsSummary (rows ++ row ∷ []) (with_decision all row.decision)
+pub one_row_more : (rows : List ClosedRound) (row : ClosedRound) (all : Decided)
+    → IsSummary rows all → IsSummary (rows ++ row ∷ []) (with_decision all row.decision)
 one_row_more rows row all h = go row.decision refl
   where
     go : (o : Option ℕ) → row.decision ≡ o → IsSummary (rows ++ row ∷ []) (with_decision all o)
@@ -86,27 +100,37 @@ one_row_more rows row all h = go row.decision refl
 abbrev pub IsSummedUp : List ClosedRound → ℕ → Decided → Type 0
 IsSummedUp rows i all = (all ≡ summary_of (take i rows)) × IsSummary (take i rows) all
 
-pub next_summary : (rows items : List ClosedRound) (i : ℕ) (row : ClosedRound) (all next : Decided) (o : Option ℕ) → items ≡ rows → i < length items → row ≡ get_or items i row → o ≡ row.decision
+pub next_summary : (rows items : List ClosedRound) (i : ℕ) (row : ClosedRound) (all next : Decided)
+    (o : Option ℕ) → items ≡ rows → i < length items → row ≡ get_or items i row → o ≡ row.decision
     → next ≡ with_decision all o → IsSummedUp rows i all → IsSummedUp rows (i + 1) next
 next_summary rows items i row all next o same inside at is made h =
     let lt = subst (λ (xs : List ClosedRound). i < length xs) same inside in
-    let here : row ≡ get_or rows i row = subst (λ (xs : List ClosedRound). row ≡ get_or xs i row) same at in
-    let more : take (i + 1) rows ≡ take i rows ++ row ∷ [] = take_more rows i row lt ∙ ap (λ r. take i rows ++ r ∷ []) (sym here) in
+    let here : row ≡ get_or rows i row =
+    subst (λ (xs : List ClosedRound). row ≡ get_or xs i row) same at in
+    let more : take (i + 1) rows ≡ take i rows ++ row ∷ [] = take_more rows i row lt
+    ∙ ap (λ r. take i rows ++ r ∷ []) (sym here) in
     let now : next ≡ with_decision all row.decision = made ∙ ap (with_decision all) is in
-    let summed : summary_of (take i rows ++ row ∷ []) ≡ with_decision (summary_of (take i rows)) row.decision = fold-append (λ all (row : ClosedRound). with_decision all row.decision) d.None (take i rows) (row ∷ []) in
+    let summed : summary_of (take i rows ++ row ∷ [])
+    ≡ with_decision (summary_of (take i rows)) row.decision =
+    fold-append (λ all (row : ClosedRound). with_decision all row.decision) d.None (take i rows)
+    (row ∷ []) in
     subst (λ xs. (next ≡ summary_of xs) × IsSummary xs next) (sym more) (
       now ∙ ap (λ a. with_decision a row.decision) h.0 ∙ sym summed,
-      subst (IsSummary (take i rows ++ row ∷ [])) (sym now) (one_row_more (take i rows) row all h.1),
+      subst (IsSummary (take i rows ++ row ∷ [])) (sym now)
+          (one_row_more (take i rows) row all h.1),
     )
 
-pub whole_summary : (rows items : List ClosedRound) (i : ℕ) (all : Decided) → items ≡ rows → length items ≤ i → IsSummedUp rows i all → (all ≡ summary_of rows) × IsSummary rows all
+pub whole_summary : (rows items : List ClosedRound) (i : ℕ) (all : Decided) → items ≡ rows
+    → length items ≤ i → IsSummedUp rows i all → (all ≡ summary_of rows) × IsSummary rows all
 whole_summary rows items i all same past h =
-    subst (λ xs. (all ≡ summary_of xs) × IsSummary xs all) (take_all i rows (subst (λ (xs : List ClosedRound). length xs ≤ i) same past)) h
+    subst (λ xs. (all ≡ summary_of xs) × IsSummary xs all)
+    (take_all i rows (subst (λ (xs : List ClosedRound). length xs ≤ i) same past)) h
 
 -- ---- runs of Algorithm 1
 
 -- a decision of some row is one of some node after some round
-found : (p : ProgramTree) (s : Setup) (omits : ℕ → ℕ → ℕ → Bool) → p ≡ dls1 p.values → (rows : List ClosedRound) → AreOfRun p s omits rows → (v : ℕ) → IsDecided rows v
+found : (p : ProgramTree) (s : Setup) (omits : ℕ → ℕ → ℕ → Bool) → p ≡ dls1 p.values
+    → (rows : List ClosedRound) → AreOfRun p s omits rows → (v : ℕ) → IsDecided rows v
     → (i : ℕ) × (r : ℕ) × (i < s.nodes) × HasDecided p.values s omits r i v
 found p s omits e [] all v h = absurd h
 found p s omits e (row ∷ rows) all v (inl x) =
@@ -114,22 +138,28 @@ found p s omits e (row ∷ rows) all v (inl x) =
       row.node,
       row.round,
       here.0,
-      ap (λ q. decision q (rounds (algorithm_of q s) omits row.round row.node)) (sym e) ∙ ap (decision p) (sym here.1) ∙ sym here.2 ∙ x,
+      ap (λ q. decision q (rounds (algorithm_of q s) omits row.round row.node)) (sym e)
+          ∙ ap (decision p) (sym here.1) ∙ sym here.2 ∙ x,
     )
-found p s omits e (row ∷ rows) all v (inr x) = found p s omits e rows (All-tail (IsOfRun p s omits) row rows all) v x
+found p s omits e (row ∷ rows) all v (inr x) =
+    found p s omits e rows (All-tail (IsOfRun p s omits) row rows all) v x
 
 -- rows of a run of Algorithm 1 agree, and their decisions are inputs
-pub runs_agree : (rows : List ClosedRound) (p : ProgramTree) (s : Setup) (omits : ℕ → ℕ → ℕ → Bool) → RunsAlgorithm1 p s
+pub runs_agree : (rows : List ClosedRound) (p : ProgramTree) (s : Setup) (omits : ℕ → ℕ → ℕ → Bool)
+    → RunsAlgorithm1 p s
     → AreOfRun p s omits rows → AreAgreed rows × AreInputs s rows
 runs_agree rows p s omits runs all = (
   λ v u x y.
       let a = found p s omits runs.0 rows all v x in
       let b = found p s omits runs.0 rows all u y in
       decisions_agree p.values s omits runs.1 a.0 b.0 a.1 b.1 v u a.2 b.2 a.3 b.3,
-  λ v x. let a = found p s omits runs.0 rows all v x in decisions_are_inputs p.values s omits runs.1 a.0 a.1 v a.2 a.3,
+  λ v x. let a = found p s omits runs.0 rows all v x in
+      decisions_are_inputs p.values s omits runs.1 a.0 a.1 v a.2 a.3,
 )
 
-pub never_split : (rows : List ClosedRound) (all : Decided) → IsSummary rows all → IsNeverSplit rows all
+pub never_split : (rows : List ClosedRound) (all : Decided) → IsSummary rows all
+    → IsNeverSplit rows all
 never_split rows d.None h p s omits runs of e = absurd (cc)
 never_split rows (d.One v) h p s omits runs of e = absurd (cc)
-never_split rows d.Split h p s omits runs of e = h.4 ((runs_agree rows p s omits runs of).0 h.0 h.1 h.2 h.3)
+never_split rows d.Split h p s omits runs of e =
+    h.4 ((runs_agree rows p s omits runs of).0 h.0 h.1 h.2 h.3)

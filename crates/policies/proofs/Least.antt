@@ -8,8 +8,10 @@ use Rattle.policies.specs.Policies.{IsDue}
 pub record IsLeastAmong (b : Bounded) (now : ℕ) (flight : List InFlight) (n k : ℕ) : Type 0 where
   pub within : k < n
   pub due : (d : InFlight) → IsDue b now (get_or flight k d)
-  pub least : (j : ℕ) (d : InFlight) → j < n → IsDue b now (get_or flight j d) → (get_or flight k d).serial ≤ (get_or flight j d).serial
-  pub first : (j : ℕ) (d : InFlight) → j < k → IsDue b now (get_or flight j d) → (get_or flight k d).serial < (get_or flight j d).serial
+  pub least : (j : ℕ) (d : InFlight) → j < n → IsDue b now (get_or flight j d)
+      → (get_or flight k d).serial ≤ (get_or flight j d).serial
+  pub first : (j : ℕ) (d : InFlight) → j < k → IsDue b now (get_or flight j d)
+      → (get_or flight k d).serial < (get_or flight j d).serial
 
 -- none of the first n messages is due
 abbrev pub NoneIsDue : Bounded → ℕ → List InFlight → ℕ → Type 0

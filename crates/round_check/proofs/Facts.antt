@@ -37,8 +37,12 @@ pub record IsClear (p : ProgramTree) : Type 0 where
 
 -- where none of eight causes stands, each test fails
 none_of_eight : (a b c d e f g h : Bool)
-    → is_none (first_standing ((DoubleName, a) ∷ (NoInput, b) ∷ (NoDecision, c) ∷ (MissingRound, d) ∷ (UnknownName, e) ∷ (NotAllowedHere, f) ∷ (FieldCount, g) ∷ (WrongType, h) ∷ [])) ≡ true
-    → (a ≡ false) × (b ≡ false) × (c ≡ false) × (d ≡ false) × (e ≡ false) × (f ≡ false) × (g ≡ false) × (h ≡ false)
+    → is_none
+    (first_standing
+    ((DoubleName, a) ∷ (NoInput, b) ∷ (NoDecision, c) ∷ (MissingRound, d) ∷ (UnknownName, e) ∷
+    (NotAllowedHere, f) ∷ (FieldCount, g) ∷ (WrongType, h) ∷ [])) ≡ true
+    → (a ≡ false) × (b ≡ false) × (c ≡ false) × (d ≡ false) × (e ≡ false) × (f ≡ false)
+    × (g ≡ false) × (h ≡ false)
 none_of_eight true b c d e f g h q = absurd cc
 none_of_eight false true c d e f g h q = absurd cc
 none_of_eight false false true d e f g h q = absurd cc
@@ -47,13 +51,15 @@ none_of_eight false false false false true f g h q = absurd cc
 none_of_eight false false false false false true g h q = absurd cc
 none_of_eight false false false false false false true h q = absurd cc
 none_of_eight false false false false false false false true q = absurd cc
-none_of_eight false false false false false false false false q = (refl, refl, refl, refl, refl, refl, refl, refl)
+none_of_eight false false false false false false false false q =
+    (refl, refl, refl, refl, refl, refl, refl, refl)
 
 -- no cause stands against a checked program
 pub IsClear-typed : (p : ProgramTree) → is_typed p ≡ true → IsClear p
 unfolding is_typed fault_of
 IsClear-typed p h =
-    let n = none_of_eight (double_name p) (no_input p) (no_decision p) (missing_round p) (unknown_name p) (not_allowed_here p) (field_count p) (wrong_type p) h in
+    let n = none_of_eight (double_name p) (no_input p) (no_decision p) (missing_round p)
+    (unknown_name p) (not_allowed_here p) (field_count p) (wrong_type p) h in
     record {
       names = n.0;
       input = n.1;
@@ -66,7 +72,8 @@ IsClear-typed p h =
     }
 
 -- a checked program has an input
-pub is_some-first_input : (p : ProgramTree) → is_typed p ≡ true → is_some (first_input p.variables) ≡ true
+pub is_some-first_input : (p : ProgramTree) → is_typed p ≡ true → is_some (first_input p.variables)
+    ≡ true
 unfolding no_input
 is_some-first_input p h = go (is_some (first_input p.variables)) (IsClear-typed p h).input
   where
@@ -123,14 +130,16 @@ has_type-some (Some Row) Set h = absurd cc
 
 -- nothing has a wrong type: no initial value, no part of a block and no variable after `decide`
 pub record IsWellTyped (p : ProgramTree) : Type 0 where
-  pub starts : list_any (λ (v : Variable). wrong_start (context_with [] p) v.kind) p.variables ≡ false
+  pub starts : list_any (λ (v : Variable). wrong_start (context_with [] p) v.kind) p.variables
+      ≡ false
   pub blocks : list_any (wrong_block (context_with [] p)) p.blocks ≡ false
   pub decides : list_any (wrong_decide (context_with [] p)) p.decides ≡ false
 
 pub IsWellTyped-typed : (p : ProgramTree) → is_typed p ≡ true → IsWellTyped p
 unfolding wrong_type
 IsWellTyped-typed p h =
-    let starts : Bool = list_any (λ (v : Variable). wrong_start (context_with [] p) v.kind) p.variables in
+    let starts : Bool =
+    list_any (λ (v : Variable). wrong_start (context_with [] p) v.kind) p.variables in
     let blocks : Bool = list_any (wrong_block (context_with [] p)) p.blocks in
     let decides : Bool = list_any (wrong_decide (context_with [] p)) p.decides in
     let two = neither (starts || blocks) decides (IsClear-typed p h).types in
@@ -144,24 +153,28 @@ pub record IsWellTypedBlock (c : Context) (b : BlockTree) : Type 0 where
   pub on_message : list_any (wrong_assignment (record c { fields = b.fields })) b.on_message ≡ false
   pub end : list_any (wrong_assignment c) b.end ≡ false
 
-pub IsWellTypedBlock-wrong_block : (c : Context) (b : BlockTree) → wrong_block c b ≡ false → IsWellTypedBlock c b
+pub IsWellTypedBlock-wrong_block : (c : Context) (b : BlockTree) → wrong_block c b ≡ false
+    → IsWellTypedBlock c b
 IsWellTypedBlock-wrong_block c b h =
     let condition : Bool = not (has_type (type_of b.condition c) Truth) in
     let sent : Bool = wrong_sent c b.fields b.sent in
-    let on_message : Bool = list_any (wrong_assignment (record c { fields = b.fields })) b.on_message in
+    let on_message : Bool =
+    list_any (wrong_assignment (record c { fields = b.fields })) b.on_message in
     let at_end : Bool = list_any (wrong_assignment c) b.end in
     let three = neither (condition || sent || on_message) at_end h in
     let two = neither (condition || sent) on_message three.0 in
     let one = neither condition sent two.0 in
     record {
-      condition = has_type-some (type_of b.condition c) Truth (fails-not (has_type (type_of b.condition c) Truth) one.0);
+      condition = has_type-some (type_of b.condition c) Truth
+          (fails-not (has_type (type_of b.condition c) Truth) one.0);
       sent = one.1;
       on_message = two.1;
       end = three.1;
     }
 
 -- the input's name is the first after `input`
-pub first_input-typed : (p : ProgramTree) → is_typed p ≡ true → first_input p.variables ≡ Some (input_name p)
+pub first_input-typed : (p : ProgramTree) → is_typed p ≡ true
+    → first_input p.variables ≡ Some (input_name p)
 first_input-typed p h = go (first_input p.variables) (is_some-first_input p h)
   where
     go : (o : Option (List ℕ)) → is_some o ≡ true → o ≡ Some (unwrap_or o [])
@@ -178,19 +191,24 @@ decides-typed p h =
     let before : Bool = repeats_variable p.variables || second_input p.variables in
     let two : Bool = nat_lt 1 (length p.decides) in
     let fields : Bool = list_any (double_field p.variables) p.blocks in
-    let last = neither (before || two || fields) (breaks_program Fresh p) (IsClear-typed p h).names in
+    let last =
+    neither (before || two || fields) (breaks_program Fresh p) (IsClear-typed p h).names in
     let third = neither (before || two) fields last.0 in
     go p.decides (some-decides p h) (neither before two third.0).1
   where
-    go : (ds : List (List ℕ)) → 0 < length ds → nat_lt 1 (length ds) ≡ false → ds ≡ unwrap_or (slice_get ds 0) [] ∷ []
+    go : (ds : List (List ℕ)) → 0 < length ds → nat_lt 1 (length ds) ≡ false
+        → ds ≡ unwrap_or (slice_get ds 0) [] ∷ []
     go [] some one = absurd (omega arith)
     go (d ∷ []) some one = refl
     go (d ∷ e ∷ ds) some one = absurd (few (length ds) one)
 
 -- the variable after `decide` is a set
-pub variable_type-decided : (p : ProgramTree) → is_typed p ≡ true → variable_type p.variables (decided_name p) ≡ Some Set
+pub variable_type-decided : (p : ProgramTree) → is_typed p ≡ true
+    → variable_type p.variables (decided_name p) ≡ Some Set
 variable_type-decided p h =
     let wrong : list_any (wrong_decide (context_with [] p)) (decided_name p ∷ []) ≡ false =
-    subst (λ (ds : List (List ℕ)). list_any (wrong_decide (context_with [] p)) ds ≡ false) (decides-typed p h) (IsWellTyped-typed p h).decides in
+    subst (λ (ds : List (List ℕ)). list_any (wrong_decide (context_with [] p)) ds ≡ false)
+    (decides-typed p h) (IsWellTyped-typed p h).decides in
     let one = neither (wrong_decide (context_with [] p) (decided_name p)) false wrong in
-    has_type-some (variable_type p.variables (decided_name p)) Set (fails-not (has_type (variable_type p.variables (decided_name p)) Set) one.0)
+    has_type-some (variable_type p.variables (decided_name p)) Set
+    (fails-not (has_type (variable_type p.variables (decided_name p)) Set) one.0)

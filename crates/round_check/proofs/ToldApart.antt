@@ -37,13 +37,19 @@ abbrev ty_from : ℕ → Ty
 ty_from n = slice_index_or (Num ∷ Bool ∷ Set ∷ Row ∷ []) n Num
 
 abbrev constant_from : ℕ → Constant
-constant_from n = slice_index_or (True ∷ False ∷ Empty ∷ All ∷ Zero ∷ Me ∷ Nodes ∷ Faults ∷ Round ∷ Phase ∷ Dest ∷ From ∷ []) n True
+constant_from n =
+    slice_index_or
+    (True ∷ False ∷ Empty ∷ All ∷ Zero ∷ Me ∷ Nodes ∷ Faults ∷ Round ∷ Phase ∷ Dest ∷ From ∷ []) n
+    True
 
 abbrev unary_from : ℕ → UnaryOperator
 unary_from n = slice_index_or (Not ∷ Single ∷ Size ∷ Least ∷ []) n Not
 
 abbrev binary_from : ℕ → BinaryOperator
-binary_from n = slice_index_or (Add ∷ Sub ∷ Div ∷ Mod ∷ Equal ∷ Differs ∷ Less ∷ AtMost ∷ More ∷ AtLeast ∷ And ∷ Or ∷ Union ∷ Inter ∷ Minus ∷ Has ∷ Entry ∷ []) n Add
+binary_from n =
+    slice_index_or
+    (Add ∷ Sub ∷ Div ∷ Mod ∷ Equal ∷ Differs ∷ Less ∷ AtMost ∷ More ∷ AtLeast ∷ And ∷ Or ∷ Union ∷
+    Inter ∷ Minus ∷ Has ∷ Entry ∷ []) n Add
 
 ty_back : (t : Ty) → ty_from (ty_number t) ≡ t
 ty_back Num = refl
@@ -113,7 +119,11 @@ name_left [] r = refl
 name_left (c ∷ x) r = name_left x r
 
 name_apart : Apart name_then
-name_apart x y r s e = (sym (name_back x r) ∙ ap name_of e ∙ name_back y s, sym (name_left x r) ∙ ap behind_name e ∙ name_left y s)
+name_apart x y r s e = (
+  sym (name_back x r) ∙ ap name_of e ∙ name_back y s,
+  sym (name_left x r) ∙ ap behind_name e
+      ∙ name_left y s,
+)
 
 -- a word of a tree's code, and what follows it
 abbrev first : List ℕ → ℕ
@@ -125,10 +135,13 @@ behind [] = []
 behind (n ∷ l) = l
 
 abbrev words_tagged : List ℕ → List Word
-words_tagged l = WNumber (first l) ∷ WFixed (constant_from (first l)) ∷ WNamed (name_of l) ∷ WUnary (unary_from (first l)) ∷ WBinary (binary_from (first l)) ∷ WIf ∷ WSetOf (name_of l) ∷ WRowOf (name_of l) ∷ []
+words_tagged l = WNumber (first l) ∷ WFixed (constant_from (first l)) ∷ WNamed (name_of l) ∷ WUnary
+    (unary_from (first l)) ∷ WBinary (binary_from (first l)) ∷ WIf ∷ WSetOf (name_of l) ∷ WRowOf
+    (name_of l) ∷ []
 
 abbrev behind_tagged : List ℕ → List (List ℕ)
-behind_tagged l = behind l ∷ behind l ∷ behind_name l ∷ behind l ∷ behind l ∷ l ∷ behind_name l ∷ behind_name l ∷ []
+behind_tagged l = behind l ∷ behind l ∷ behind_name l ∷ behind l ∷ behind l ∷ l ∷ behind_name l ∷
+    behind_name l ∷ []
 
 abbrev word_of : List ℕ → Word
 word_of l = slice_index_or (words_tagged (behind l)) (first l) WIf
@@ -157,7 +170,11 @@ word_left (WSetOf x) r = name_left x r
 word_left (WRowOf x) r = name_left x r
 
 word_apart : Apart word_then
-word_apart v w r s e = (sym (word_back v r) ∙ ap word_of e ∙ word_back w s, sym (word_left v r) ∙ ap behind_word e ∙ word_left w s)
+word_apart v w r s e = (
+  sym (word_back v r) ∙ ap word_of e ∙ word_back w s,
+  sym (word_left v r) ∙ ap behind_word e
+      ∙ word_left w s,
+)
 
 -- lists of what is told apart
 list_apart : {A : Type 0} (f : A → List ℕ → List ℕ) → Apart f → Apart (list_then f)
@@ -204,8 +221,10 @@ variable_apart v w r s e =
     let made : List ℕ → VariableKind → Variable = λ x k. record { name = x; kind = k } in
     (ap₂ made name.0 kind.0, kind.1)
 
-abbrev made_block : ℕ → List Field → Tree → List Tree → List Assignment → List Assignment → BlockTree
-made_block n f c s m e = record { number = n; fields = f; condition = c; sent = s; on_message = m; end = e }
+abbrev made_block : ℕ → List Field → Tree → List Tree → List Assignment → List Assignment
+    → BlockTree
+made_block n f c s m e =
+    record { number = n; fields = f; condition = c; sent = s; on_message = m; end = e }
 
 block_apart : Apart block_then
 block_apart b c r s e =
@@ -215,7 +234,9 @@ block_apart b c r s e =
     let sent = list_apart tree_then tree_apart b.sent c.sent _ _ condition.1 in
     let heard = list_apart assignment_then assignment_apart b.on_message c.on_message _ _ sent.1 in
     let end = list_apart assignment_then assignment_apart b.end c.end _ _ heard.1 in
-    let same : made_block b.number b.fields b.condition b.sent b.on_message b.end ≡ made_block c.number c.fields c.condition c.sent c.on_message c.end = cc (number, fields.0, condition.0, sent.0, heard.0, end.0) in
+    let same : made_block b.number b.fields b.condition b.sent b.on_message b.end
+    ≡ made_block c.number c.fields c.condition c.sent c.on_message c.end =
+    cc (number, fields.0, condition.0, sent.0, heard.0, end.0) in
     (same, end.1)
 
 abbrev made_program : ℕ → ℕ → List Variable → List (List ℕ) → List BlockTree → ProgramTree
@@ -225,10 +246,13 @@ program_apart : Apart program_then
 program_apart p q r s e =
     let values = ap first e in
     let period = ap (λ l. first (behind l)) e in
-    let variables = list_apart variable_then variable_apart p.variables q.variables _ _ (ap (λ l. behind (behind l)) e) in
+    let variables = list_apart variable_then variable_apart p.variables q.variables _ _
+    (ap (λ l. behind (behind l)) e) in
     let decides = list_apart name_then name_apart p.decides q.decides _ _ variables.1 in
     let blocks = list_apart block_then block_apart p.blocks q.blocks _ _ decides.1 in
-    let same : made_program p.values p.period p.variables p.decides p.blocks ≡ made_program q.values q.period q.variables q.decides q.blocks = cc (values, period, variables.0, decides.0, blocks.0) in
+    let same : made_program p.values p.period p.variables p.decides p.blocks ≡ made_program q.values
+    q.period q.variables q.decides q.blocks =
+    cc (values, period, variables.0, decides.0, blocks.0) in
     (same, blocks.1)
 
 pub told_apart : (p q : ProgramTree) → spelled p ≡ spelled q → p ≡ q

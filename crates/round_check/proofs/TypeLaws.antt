@@ -30,7 +30,8 @@ same-types ty.Row ty.Bool h = cc
 same-types ty.Row ty.Set h = cc
 
 -- what a checked part tells
-pub wanted : (a : Option Ty) (t : Ty) (r : Option Ty) (u : Ty) → wants a t r ≡ Some u → (a ≡ Some t) × (r ≡ Some u)
+pub wanted : (a : Option Ty) (t : Ty) (r : Option Ty) (u : Ty) → wants a t r ≡ Some u
+    → (a ≡ Some t) × (r ≡ Some u)
 wanted None t r u h = absurd cc
 wanted (Some a) t r u h = go (same_type a t) refl h
   where
@@ -38,14 +39,16 @@ wanted (Some a) t r u h = go (same_type a t) refl h
     go true q k = (ap Some (same-types a t (sym q)), k)
     go false q k = absurd cc
 
-pub two_wanted : (a : Option Ty) (s : Ty) (b : Option Ty) (t r u : Ty) → both a s b t r ≡ Some u → (a ≡ Some s) × (b ≡ Some t) × (r ≡ u)
+pub two_wanted : (a : Option Ty) (s : Ty) (b : Option Ty) (t r u : Ty) → both a s b t r ≡ Some u
+    → (a ≡ Some s) × (b ≡ Some t) × (r ≡ u)
 two_wanted a s b t r u h =
     let x = wanted a s (wants b t (Some r)) u h in
     let y = wanted b t (Some r) u x.1 in
     let z : r ≡ u = cc y.1 in
     (x.0, y.0, z)
 
-pub two_alike : (a b r : Option Ty) (u : Ty) → alike a b r ≡ Some u → (t : Ty) × (a ≡ Some t) × (b ≡ Some t) × (r ≡ Some u)
+pub two_alike : (a b r : Option Ty) (u : Ty) → alike a b r ≡ Some u → (t : Ty) × (a ≡ Some t)
+    × (b ≡ Some t) × (r ≡ Some u)
 two_alike None b r u h = absurd cc
 two_alike (Some t) b r u h = let x = wanted b t r u h in (t, refl, x.0, x.1)
 
@@ -59,30 +62,37 @@ same_type-same ty.Bool = refl
 same_type-same ty.Set = refl
 same_type-same ty.Row = refl
 
-pub wants_keeps : (a b : Option Ty) (t : Ty) (r s : Option Ty) → Keeps a b → Keeps r s → Keeps (wants a t r) (wants b t s)
+pub wants_keeps : (a b : Option Ty) (t : Ty) (r s : Option Ty) → Keeps a b → Keeps r s
+    → Keeps (wants a t r) (wants b t s)
 wants_keeps a b t r s part rest u h =
     let found = wanted a t r u h in
-    ap (λ o. wants o t s) (part t found.0) ∙ ap (λ c. cond c s None) (same_type-same t) ∙ rest u found.1
+    ap (λ o. wants o t s) (part t found.0) ∙ ap (λ c. cond c s None) (same_type-same t)
+    ∙ rest u found.1
 
 pub same_keeps : (a : Option Ty) → Keeps a a
 same_keeps a t h = h
 
-pub both_keeps : (a a' b b' : Option Ty) (s t r : Ty) → Keeps a a' → Keeps b b' → Keeps (both a s b t r) (both a' s b' t r)
+pub both_keeps : (a a' b b' : Option Ty) (s t r : Ty) → Keeps a a' → Keeps b b'
+    → Keeps (both a s b t r) (both a' s b' t r)
 both_keeps a a' b b' s t r one other =
-    wants_keeps a a' s (wants b t (Some r)) (wants b' t (Some r)) one (wants_keeps b b' t (Some r) (Some r) other (same_keeps (Some r)))
+    wants_keeps a a' s (wants b t (Some r)) (wants b' t (Some r)) one
+    (wants_keeps b b' t (Some r) (Some r) other (same_keeps (Some r)))
 
-pub alike_keeps : (a a' b b' r r' : Option Ty) → Keeps a a' → Keeps b b' → Keeps r r' → Keeps (alike a b r) (alike a' b' r')
+pub alike_keeps : (a a' b b' r r' : Option Ty) → Keeps a a' → Keeps b b' → Keeps r r'
+    → Keeps (alike a b r) (alike a' b' r')
 alike_keeps None a' b b' r r' one other rest u h = absurd cc
 alike_keeps (Some t) a' b b' r r' one other rest u h =
     ap (λ o. alike o b' r') (one t refl) ∙ wants_keeps b b' t r r' other rest u h
 
-pub unary_keeps : (op : UnaryOperator) (a b : Option Ty) → Keeps a b → Keeps (unary_type op a) (unary_type op b)
+pub unary_keeps : (op : UnaryOperator) (a b : Option Ty) → Keeps a b
+    → Keeps (unary_type op a) (unary_type op b)
 unary_keeps Not a b part = wants_keeps a b ty.Bool _ _ part (same_keeps _)
 unary_keeps Single a b part = wants_keeps a b ty.Num _ _ part (same_keeps _)
 unary_keeps Size a b part = wants_keeps a b ty.Set _ _ part (same_keeps _)
 unary_keeps Least a b part = wants_keeps a b ty.Set _ _ part (same_keeps _)
 
-pub binary_keeps : (op : BinaryOperator) (a a' b b' : Option Ty) → Keeps a a' → Keeps b b' → Keeps (binary_type op a b) (binary_type op a' b')
+pub binary_keeps : (op : BinaryOperator) (a a' b b' : Option Ty) → Keeps a a' → Keeps b b'
+    → Keeps (binary_type op a b) (binary_type op a' b')
 binary_keeps Add a a' b b' one other = both_keeps a a' b b' _ _ _ one other
 binary_keeps Sub a a' b b' one other = both_keeps a a' b b' _ _ _ one other
 binary_keeps Div a a' b b' one other = both_keeps a a' b b' _ _ _ one other

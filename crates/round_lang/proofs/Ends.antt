@@ -119,5 +119,6 @@ each_operator binary.Inter rest = refl
 each_operator binary.Has rest = tt
 each_operator binary.Entry rest = tt
 
-pub ends_at_operator : (level : Level) (op : BinaryOperator) (rest : List Lexeme) → level_of op ≡ Some level → Ends (tighter level) (infix_word op ∷ rest)
+pub ends_at_operator : (level : Level) (op : BinaryOperator) (rest : List Lexeme)
+    → level_of op ≡ Some level → Ends (tighter level) (infix_word op ∷ rest)
 ends_at_operator level op rest e = subst (EndsAt op rest) e (each_operator op rest)

@@ -18,7 +18,8 @@ begins_in_name b h = grind (arith, nat_tests)
 
 names_ascii : (bs : List ℕ) → list_all is_in_name bs ≡ true → IsAscii bs
 names_ascii [] h = IsAscii-nil
-names_ascii (b ∷ bs) h = let p = and_parts (is_in_name b) (list_all is_in_name bs) h in IsAscii-cons b bs (in_name_ascii b p.0) (names_ascii bs p.1)
+names_ascii (b ∷ bs) h = let p = and_parts (is_in_name b) (list_all is_in_name bs) h in
+    IsAscii-cons b bs (in_name_ascii b p.0) (names_ascii bs p.1)
 
 pub spelt_ascii : (bs : List ℕ) → is_name bs ≡ true → IsAscii bs
 spelt_ascii [] h = IsAscii-nil
@@ -27,7 +28,10 @@ spelt_ascii (b ∷ bs) h =
     IsAscii-cons b bs (in_name_ascii b (begins_in_name b p.0)) (names_ascii bs p.1)
 
 -- the front of a text that begins as a name is spelt as one
-pub front_is_name : (text : List ℕ) (n : ℕ) → 0 < length text → begins_name (get_or text 0 0) ≡ true → n ≡ prefix_len is_in_name (drop 1 text) → is_name (take (1 + n) text) ≡ true
+pub front_is_name : (text : List ℕ) (n : ℕ) → 0 < length text → begins_name (get_or text 0 0) ≡ true
+    → n ≡ prefix_len is_in_name (drop 1 text) → is_name (take (1 + n) text) ≡ true
 front_is_name [] n lt h e = absurd (omega arith)
 front_is_name (a ∷ bs) n lt h e =
-    rw (one-add, e) (and_from (begins_name a) (list_all is_in_name (take (prefix_len is_in_name bs) bs)) h (all_in_run is_in_name bs))
+    rw (one-add, e)
+    (and_from (begins_name a) (list_all is_in_name (take (prefix_len is_in_name bs) bs)) h
+    (all_in_run is_in_name bs))

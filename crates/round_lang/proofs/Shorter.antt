@@ -10,7 +10,8 @@ use Rattle.round_lang.specs.Source.{Many}
 use Rattle.round_lang.specs.Source as p
 use Rattle.round_lang.specs.Reading.{begins_with}
 
-pub reads_shorter : {level : Level} {n : ℕ} {t : Tree} {ws rest : List Lexeme} → Reads level n t ws rest → length rest < length ws
+pub reads_shorter : {level : Level} {n : ℕ} {t : Tree} {ws rest : List Lexeme}
+    → Reads level n t ws rest → length rest < length ws
 reads_shorter (g.looser r) = reads_shorter r
 reads_shorter (g.choice r s t) = omega (arith, reads_shorter r, reads_shorter s, reads_shorter t)
 reads_shorter (g.operation e r s) = omega (arith, reads_shorter r, reads_shorter s)
@@ -26,7 +27,8 @@ reads_shorter (g.set_of le r) = omega (arith, reads_shorter r)
 reads_shorter (g.row_of le r) = omega (arith, reads_shorter r)
 
 -- no expression begins with )
-pub no_close : {level : Level} {n : ℕ} {t : Tree} {ws rest : List Lexeme} → Reads level n t ws rest → begins_with m.Close ws ≡ false
+pub no_close : {level : Level} {n : ℕ} {t : Tree} {ws rest : List Lexeme} → Reads level n t ws rest
+    → begins_with m.Close ws ≡ false
 unfolding begins_with same_mark
 no_close (g.looser r) = no_close r
 no_close (g.choice r s t) = refl
@@ -42,6 +44,10 @@ no_close (g.brackets r) = refl
 no_close (g.set_of le r) = refl
 no_close (g.row_of le r) = refl
 
-pub many_shorter : {A : Type 0} {Item : A → List Lexeme → List Lexeme → Type 0} {found : List A} {ws rest : List Lexeme} → ((a : A) (ws rest : List Lexeme) → Item a ws rest → length rest < length ws) → Many Item found ws rest → length rest ≤ length ws
+pub many_shorter : {A : Type 0} {Item : A → List Lexeme → List Lexeme → Type 0} {found : List A}
+    {ws rest : List Lexeme}
+    → ((a : A) (ws rest : List Lexeme) → Item a ws rest → length rest < length ws)
+    → Many Item found ws rest → length rest ≤ length ws
 many_shorter h p.none = omega arith
-many_shorter h (p.more {a = a} {ws = ws} {xs = xs} r others) = omega (arith, h a ws xs r, many_shorter h others)
+many_shorter h (p.more {a = a} {ws = ws} {xs = xs} r others) =
+    omega (arith, h a ws xs r, many_shorter h others)

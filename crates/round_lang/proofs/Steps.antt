@@ -17,11 +17,13 @@ use Rattle.round_lang.specs.Grammar.{level_of, value_of}
 use Rattle.round_lang.specs.Reading.{◌>>=◌, after, after_equal, name_at, type_at, value_within}
 use Rattle.round_lang.specs.Reading.{number_at, same_level, operator_of, operator_at}
 
-pub some_then : {A B : Type 0} (o : Option A) (f : A → Option B) (y : B) → (o >>= f) ≡ Some y → (a : A) × (o ≡ Some a) × (f a ≡ Some y)
+pub some_then : {A B : Type 0} (o : Option A) (f : A → Option B) (y : B) → (o >>= f) ≡ Some y
+    → (a : A) × (o ≡ Some a) × (f a ≡ Some y)
 some_then (Some a) f y e = (a, refl, e)
 some_then None f y e = absurd cc
 
-pub guard_some : {A : Type 0} (b : Bool) (o : Option A) (y : A) → cond b o None ≡ Some y → (b ≡ true) × (o ≡ Some y)
+pub guard_some : {A : Type 0} (b : Bool) (o : Option A) (y : A) → cond b o None ≡ Some y
+    → (b ≡ true) × (o ≡ Some y)
 guard_some true o y e = (refl, e)
 guard_some false o y e = absurd cc
 
@@ -41,7 +43,8 @@ pub level_itself : (a : Level) → same_level a a ≡ true
 unfolding same_level
 level_itself a = true_same level.the_type a a refl
 
-pub after_is : (sign : Mark) (ws rest : List Lexeme) → after sign ws ≡ Some rest → ws ≡ mark sign ∷ rest
+pub after_is : (sign : Mark) (ws rest : List Lexeme) → after sign ws ≡ Some rest
+    → ws ≡ mark sign ∷ rest
 unfolding after
 after_is sign (mark k ∷ ws) rest e =
     let g = guard_some (same_mark k sign) (Some ws) rest e in
@@ -49,12 +52,14 @@ after_is sign (mark k ∷ ws) rest e =
     let ws-is = same_Some ws rest g.1 in cc
 after_is sign _ rest e = absurd cc
 
-pub after_equal_is : (ws rest : List Lexeme) → after_equal ws ≡ Some rest → ws ≡ infix_word binary.Equal ∷ rest
+pub after_equal_is : (ws rest : List Lexeme) → after_equal ws ≡ Some rest
+    → ws ≡ infix_word binary.Equal ∷ rest
 unfolding after_equal
 after_equal_is (infix_word binary.Equal ∷ ws) rest e = let ws-is = same_Some ws rest e in cc
 after_equal_is _ rest e = absurd cc
 
-pub name_is : (ws : List Lexeme) (x : List ℕ) (rest : List Lexeme) → name_at ws ≡ Some (x, rest) → (ws ≡ name x ∷ rest) × (length x ≤ max_name)
+pub name_is : (ws : List Lexeme) (x : List ℕ) (rest : List Lexeme) → name_at ws ≡ Some (x, rest)
+    → (ws ≡ name x ∷ rest) × (length x ≤ max_name)
 unfolding name_at
 name_is (name y ∷ ws) x rest e =
     let g = guard_some (leb (length y) max_name) (Some (y, ws)) (x, rest) e in
@@ -64,7 +69,8 @@ name_is (name y ∷ ws) x rest e =
     (cc, subst (λ v. length v ≤ max_name) y-is (leb-true (length y) max_name g.0))
 name_is _ x rest e = absurd cc
 
-pub type_is : (ws : List Lexeme) (ty : Ty) (rest : List Lexeme) → type_at ws ≡ Some (ty, rest) → ws ≡ kind ty ∷ rest
+pub type_is : (ws : List Lexeme) (ty : Ty) (rest : List Lexeme) → type_at ws ≡ Some (ty, rest)
+    → ws ≡ kind ty ∷ rest
 unfolding type_at
 type_is (kind k ∷ ws) ty rest e =
     let p = same_Some (k, ws) (ty, rest) e in
@@ -80,15 +86,22 @@ pub record Numeral (low high : ℕ) (ws : List Lexeme) (v : ℕ) (rest : List Le
   pub least : low ≤ v
   pub most : v ≤ high
 
-value_is : (low high : ℕ) (digits : List ℕ) (v : ℕ) → value_within low high digits ≡ Some v → (value_of digits ≡ v) × (low ≤ v) × (v ≤ high)
+value_is : (low high : ℕ) (digits : List ℕ) (v : ℕ) → value_within low high digits ≡ Some v
+    → (value_of digits ≡ v) × (low ≤ v) × (v ≤ high)
 unfolding value_within
 value_is low high digits v e =
-    let g = guard_some (leb low (value_of digits) && leb (value_of digits) high) (Some (value_of digits)) v e in
+    let g = guard_some (leb low (value_of digits) && leb (value_of digits) high)
+    (Some (value_of digits)) v e in
     let v-is = same_Some (value_of digits) v g.1 in
-    let b = and_parts (leb low (value_of digits)) (leb (value_of digits) high) g.0 in
-    (v-is, subst (λ u. low ≤ u) v-is (leb-true low (value_of digits) b.0), subst (λ u. u ≤ high) v-is (leb-true (value_of digits) high b.1))
+    let b = and_parts (leb low (value_of digits)) (leb (value_of digits) high) g.0 in (
+      v-is,
+      subst (λ u. low ≤ u) v-is (leb-true low (value_of digits) b.0),
+      subst (λ u. u ≤ high)
+          v-is (leb-true (value_of digits) high b.1),
+    )
 
-pub number_is : (low high : ℕ) (ws : List Lexeme) (v : ℕ) (rest : List Lexeme) → number_at low high ws ≡ Some (v, rest) → Numeral low high ws v rest
+pub number_is : (low high : ℕ) (ws : List Lexeme) (v : ℕ) (rest : List Lexeme)
+    → number_at low high ws ≡ Some (v, rest) → Numeral low high ws v rest
 unfolding number_at
 number_is low high (number digits ∷ ws) v rest e =
     let o = some_then (value_within low high digits) (λ v. Some (v, ws)) (v, rest) e in
@@ -105,7 +118,10 @@ number_is low high (number digits ∷ ws) v rest e =
     }
 number_is low high _ v rest e = absurd cc
 
-operator_of_is : (level : Level) (q : BinaryOperator) (ws : List Lexeme) (found : Option Level) (op : BinaryOperator) (xs : List Lexeme) → level_of q ≡ found → operator_of level q ws found ≡ Some (op, xs) → (infix_word q ∷ ws ≡ infix_word op ∷ xs) × (level_of op ≡ Some level)
+operator_of_is : (level : Level) (q : BinaryOperator) (ws : List Lexeme) (found : Option Level)
+    (op : BinaryOperator) (xs : List Lexeme) → level_of q ≡ found
+    → operator_of level q ws found ≡ Some (op, xs) → (infix_word q ∷ ws ≡ infix_word op ∷ xs)
+    × (level_of op ≡ Some level)
 operator_of_is level q ws None op xs h e = absurd cc
 operator_of_is level q ws (Some l) op xs h e =
     let g = guard_some (same_level l level) (Some (q, ws)) (op, xs) e in
@@ -115,7 +131,8 @@ operator_of_is level q ws (Some l) op xs h e =
     let ws-is : ws ≡ xs = ap (λ (v : BinaryOperator × List Lexeme). v.1) p in
     (cc, subst (λ v. level_of v ≡ Some level) q-is (h ∙ ap (λ v. Some v) l-is))
 
-pub operator_is : (level : Level) (ws : List Lexeme) (op : BinaryOperator) (xs : List Lexeme) → operator_at level ws ≡ Some (op, xs) → (ws ≡ infix_word op ∷ xs) × (level_of op ≡ Some level)
+pub operator_is : (level : Level) (ws : List Lexeme) (op : BinaryOperator) (xs : List Lexeme)
+    → operator_at level ws ≡ Some (op, xs) → (ws ≡ infix_word op ∷ xs) × (level_of op ≡ Some level)
 unfolding operator_at
 operator_is level (infix_word q ∷ ws) op xs e = operator_of_is level q ws (level_of q) op xs refl e
 operator_is level _ op xs e = absurd cc

@@ -22,7 +22,8 @@ pub set_of_same : (k : ℕ) (p q : ℕ → Bool) → ((v : ℕ) → p v ≡ q v)
 unfolding set_of
 set_of_same k p q h = ap mask_l (map_same p q 0 k (λ v lo hi. h v))
 
-constant_same : (c : Constant) (env : Env) (i k : ℕ) → is_dest c ≡ false → constant c (with_dest i env) ≡ constant c (with_dest k env)
+constant_same : (c : Constant) (env : Env) (i k : ℕ) → is_dest c ≡ false
+    → constant c (with_dest i env) ≡ constant c (with_dest k env)
 constant_same True env i k h = refl
 constant_same False env i k h = refl
 constant_same Empty env i k h = refl
@@ -37,7 +38,8 @@ constant_same Dest env i k h = absurd cc
 constant_same From env i k h = refl
 
 -- the value of an expression without `dest`
-value_same : (e : Tree) (env : Env) (i k : ℕ) → names_dest e ≡ false → value e (with_dest i env) ≡ value e (with_dest k env)
+value_same : (e : Tree) (env : Env) (i k : ℕ) → names_dest e ≡ false
+    → value e (with_dest i env) ≡ value e (with_dest k env)
 value_same (TNumber n) env i k h = refl
 value_same (TFixed c) env i k h = constant_same c env i k h
 value_same (TNamed x) env i k h = refl
@@ -49,13 +51,20 @@ value_same (TBinary op a b) env i k h =
 value_same (TIf c a b) env i k h =
     let no = or_parts (names_dest c) _ h in
     let both = or_parts (names_dest a) (names_dest b) no.1 in
-    ap (λ v. cond (flag v) (value a (with_dest i env)) (value b (with_dest i env))) (value_same c env i k no.0)
-    ∙ ap (λ v. cond (flag (value c (with_dest k env))) v (value b (with_dest i env))) (value_same a env i k both.0)
-    ∙ ap (λ v. cond (flag (value c (with_dest k env))) (value a (with_dest k env)) v) (value_same b env i k both.1)
-value_same (TSetOf x e) env i k h = ap of_set (set_of_same env.values _ _ (λ v. ap flag (value_same e (bind x env v) i k h)))
-value_same (TRowOf x e) env i k h = ap Row (map_same _ _ 0 env.values (λ v lo hi. ap num (value_same e (bind x env v) i k h)))
+    ap (λ v. cond (flag v) (value a (with_dest i env)) (value b (with_dest i env)))
+    (value_same c env i k no.0)
+    ∙ ap (λ v. cond (flag (value c (with_dest k env))) v (value b (with_dest i env)))
+    (value_same a env i k both.0)
+    ∙ ap (λ v. cond (flag (value c (with_dest k env))) (value a (with_dest k env)) v)
+    (value_same b env i k both.1)
+value_same (TSetOf x e) env i k h =
+    ap of_set (set_of_same env.values _ _ (λ v. ap flag (value_same e (bind x env v) i k h)))
+value_same (TRowOf x e) env i k h =
+    ap Row (map_same _ _ 0 env.values (λ v lo hi. ap num (value_same e (bind x env v) i k h)))
 
-values_same : (es : List Tree) (env : Env) (i k : ℕ) → any_names_dest es ≡ false → map (λ (e : Tree). value e (with_dest i env)) es ≡ map (λ (e : Tree). value e (with_dest k env)) es
+values_same : (es : List Tree) (env : Env) (i k : ℕ) → any_names_dest es ≡ false
+    → map (λ (e : Tree). value e (with_dest i env)) es
+    ≡ map (λ (e : Tree). value e (with_dest k env)) es
 values_same [] env i k h = refl
 values_same (e ∷ es) env i k h =
     let no = or_parts (names_dest e) (any_names_dest es) h in
@@ -63,9 +72,12 @@ values_same (e ∷ es) env i k h =
     ∙ ap (λ vs. value e (with_dest k env) ∷ vs) (values_same es env i k no.1)
 
 -- what a block without `dest` sends
-pub sent_same : (b : Option BlockTree) (env : Env) (i k : ℕ) → sends_by_dest b ≡ false → sent b (with_dest i env) ≡ sent b (with_dest k env)
+pub sent_same : (b : Option BlockTree) (env : Env) (i k : ℕ) → sends_by_dest b ≡ false
+    → sent b (with_dest i env) ≡ sent b (with_dest k env)
 sent_same None env i k h = refl
 sent_same (Some b) env i k h =
     let no = or_parts (names_dest b.condition) (any_names_dest b.sent) h in
-    ap (λ v. cond (flag v) (Some (map (λ (e : Tree). value e (with_dest i env)) b.sent)) None) (value_same b.condition env i k no.0)
-    ∙ ap (λ vs. cond (flag (value b.condition (with_dest k env))) (Some vs) None) (values_same b.sent env i k no.1)
+    ap (λ v. cond (flag v) (Some (map (λ (e : Tree). value e (with_dest i env)) b.sent)) None)
+    (value_same b.condition env i k no.0)
+    ∙ ap (λ vs. cond (flag (value b.condition (with_dest k env))) (Some vs) None)
+    (values_same b.sent env i k no.1)

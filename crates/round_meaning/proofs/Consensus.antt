@@ -26,7 +26,8 @@ suits k s h = record {
   values = h.values;
   nodes = omega (arith, h.lawful.sized.few_nodes);
   faults = h.majority;
-  inputs_in = λ i l. All-get_or (λ x. x < k) s.inputs i 0 (omega (arith, h.lawful.sized.inputs)) h.lawful.inputs;
+  inputs_in = λ i l. All-get_or (λ x. x < k) s.inputs i 0
+      (omega (arith, h.lawful.sized.inputs)) h.lawful.inputs;
 }
 
 -- a decision of the program is one of the steps
@@ -34,44 +35,65 @@ stepped : (k : ℕ) (s : Setup) (omits : ℕ → ℕ → ℕ → Bool) (r i v : 
     → node_decision (run (setting k s) (slice_index s.inputs) omits r i) ≡ Some v
 stepped k s omits r i v h = sym (decides_run (setting k s) (slice_index s.inputs) omits r i) ∙ h
 
-pub decisions_agree : (k : ℕ) (s : Setup) (omits : ℕ → ℕ → ℕ → Bool) → HasMajority k s → (i j r q v u : ℕ) → i < s.nodes → j < s.nodes
+pub decisions_agree : (k : ℕ) (s : Setup) (omits : ℕ → ℕ → ℕ → Bool) → HasMajority k s
+    → (i j r q v u : ℕ) → i < s.nodes → j < s.nodes
     → HasDecided k s omits r i v → HasDecided k s omits q j u → v ≡ u
 decisions_agree k s omits h i j r q v u hi hj a b =
-    agreement (setting k s) (slice_index s.inputs) omits (suits k s h) i j r q v u hi hj (stepped k s omits r i v a) (stepped k s omits q j u b)
+    agreement (setting k s) (slice_index s.inputs) omits (suits k s h) i j r q v u hi hj
+    (stepped k s omits r i v a) (stepped k s omits q j u b)
 
-pub decisions_are_inputs : (k : ℕ) (s : Setup) (omits : ℕ → ℕ → ℕ → Bool) → HasMajority k s → (i r v : ℕ) → i < s.nodes
+pub decisions_are_inputs : (k : ℕ) (s : Setup) (omits : ℕ → ℕ → ℕ → Bool) → HasMajority k s
+    → (i r v : ℕ) → i < s.nodes
     → HasDecided k s omits r i v → IsInput s v
 decisions_are_inputs k s omits h i r v hi a =
-    validity (setting k s) (slice_index s.inputs) omits (suits k s h) i r v hi (stepped k s omits r i v a)
+    validity (setting k s) (slice_index s.inputs) omits (suits k s h) i r v hi
+    (stepped k s omits r i v a)
 
 -- the lock invariant
-pub decisions_are_locked : (k : ℕ) (s : Setup) (omits : ℕ → ℕ → ℕ → Bool) → HasMajority k s → (i r d v : ℕ) → i < s.nodes → DecidesNext k s omits r i v
-    → (s.faults + 1 ≤ count_by (λ j. nat_le (phase_of (dls1 k) (suc r)) (lock_in (state_after k s omits (suc r + d) j) v)) (range_with_len 0 s.nodes))
-    × ((j u : ℕ) → j < s.nodes → u < k → u ≢ v → lock_in (state_after k s omits (suc r + d) j) u < phase_of (dls1 k) (suc r))
+pub decisions_are_locked : (k : ℕ) (s : Setup) (omits : ℕ → ℕ → ℕ → Bool) → HasMajority k s
+    → (i r d v : ℕ) → i < s.nodes → DecidesNext k s omits r i v
+    → (s.faults + 1 ≤ count_by
+    (λ j. nat_le (phase_of (dls1 k) (suc r)) (lock_in (state_after k s omits (suc r + d) j) v))
+    (range_with_len 0 s.nodes))
+    × ((j u : ℕ) → j < s.nodes → u < k → u ≢ v
+    → lock_in (state_after k s omits (suc r + d) j) u < phase_of (dls1 k) (suc r))
 decisions_are_locked k s omits h i r d v hi a =
-    let l = locked_since (setting k s) (slice_index s.inputs) omits (suits k s h) i r d v hi (sym (decides_run (setting k s) (slice_index s.inputs) omits r i) ∙ a.0) (stepped k s omits (suc r) i v a.1) in
-    let P : ℕ → (ℕ → List Value) → Type 0 = λ h f. (s.faults + 1 ≤ count_by (λ j. nat_le h (lock_in (f j) v)) (range_with_len 0 s.nodes)) × ((j u : ℕ) → j < s.nodes → u < k → u ≢ v → lock_in (f j) u < h) in
+    let l = locked_since (setting k s) (slice_index s.inputs) omits (suits k s h) i r d v hi
+    (sym (decides_run (setting k s) (slice_index s.inputs) omits r i)
+    ∙ a.0) (stepped k s omits (suc r) i v a.1) in
+    let P : ℕ → (ℕ → List Value)
+    → Type 0 = λ h f. (s.faults + 1 ≤ count_by (λ j. nat_le h (lock_in (f j) v))
+    (range_with_len 0 s.nodes)) × ((j u : ℕ) → j < s.nodes → u < k → u ≢ v
+    → lock_in (f j) u < h) in
     let phase : r / 4 + 1 ≡ phase_of (dls1 k) (suc r) = ap (λ n. n / 4 + 1) (before r) in
     subst (λ h. P h (state_after k s omits (suc r + d))) phase
-    (subst (P (r / 4 + 1)) (sym (rounds_run (setting k s) (slice_index s.inputs) omits (suc r + d))) (locked_counts (setting k s) (run (setting k s) (slice_index s.inputs) omits (suc r + d)) v (r / 4 + 1) l))
+    (subst (P (r / 4 + 1)) (sym (rounds_run (setting k s) (slice_index s.inputs) omits (suc r + d)))
+    (locked_counts (setting k s) (run (setting k s) (slice_index s.inputs) omits (suc r + d)) v
+    (r / 4 + 1) l))
   where
     before : (r : ℕ) → r ≡ suc r - 1
     before r = omega arith
 
 -- a decision in a table of the program's states is one of the program
-tabled : (p : ProgramTree) (s : Setup) (omits : ℕ → ℕ → ℕ → Bool) (t : States) → t.program ≡ p → t.nodes ≡ s.nodes → HasRun t (algorithm_of p s) omits → p ≡ dls1 p.values
-    → (r i v : ℕ) → i < t.nodes → r ≤ t.rounds → decision t.program (state_of t i r) ≡ Some v → HasDecided p.values s omits r i v
+tabled : (p : ProgramTree) (s : Setup) (omits : ℕ → ℕ → ℕ → Bool) (t : States) → t.program ≡ p
+    → t.nodes ≡ s.nodes → HasRun t (algorithm_of p s) omits → p ≡ dls1 p.values
+    → (r i v : ℕ) → i < t.nodes → r ≤ t.rounds → decision t.program (state_of t i r) ≡ Some v
+    → HasDecided p.values s omits r i v
 tabled p s omits t same nodes has e r i v hi hr d =
     ap (λ q. decision q (rounds (algorithm_of q s) omits r i)) (sym e)
     ∙ sym (ap (λ q. decision q (state_of t i r)) same ∙ ap (decision p) (has r i hr hi)) ∙ d
 
-pub table_agrees : (p : ProgramTree) (s : Setup) (omits : ℕ → ℕ → ℕ → Bool) (t : States) → t.program ≡ p → t.nodes ≡ s.nodes → HasRun t (algorithm_of p s) omits → RunsAlgorithm1 p s
+pub table_agrees : (p : ProgramTree) (s : Setup) (omits : ℕ → ℕ → ℕ → Bool) (t : States)
+    → t.program ≡ p → t.nodes ≡ s.nodes → HasRun t (algorithm_of p s) omits → RunsAlgorithm1 p s
     → DecisionsAgree t
 table_agrees p s omits t same nodes has runs i j r q v u hi hj hr hq a b =
     decisions_agree p.values s omits runs.1 i j r q v u (omega arith) (omega arith)
-    (tabled p s omits t same nodes has runs.0 r i v hi hr a) (tabled p s omits t same nodes has runs.0 q j u hj hq b)
+    (tabled p s omits t same nodes has runs.0 r i v hi hr a)
+    (tabled p s omits t same nodes has runs.0 q j u hj hq b)
 
-pub table_decides_inputs : (p : ProgramTree) (s : Setup) (omits : ℕ → ℕ → ℕ → Bool) (t : States) → t.program ≡ p → t.nodes ≡ s.nodes → HasRun t (algorithm_of p s) omits → RunsAlgorithm1 p s
+pub table_decides_inputs : (p : ProgramTree) (s : Setup) (omits : ℕ → ℕ → ℕ → Bool) (t : States)
+    → t.program ≡ p → t.nodes ≡ s.nodes → HasRun t (algorithm_of p s) omits → RunsAlgorithm1 p s
     → DecisionsAreInputs s t
 table_decides_inputs p s omits t same nodes has runs i r v hi hr a =
-    decisions_are_inputs p.values s omits runs.1 i r v (omega arith) (tabled p s omits t same nodes has runs.0 r i v hi hr a)
+    decisions_are_inputs p.values s omits runs.1 i r v (omega arith)
+    (tabled p s omits t same nodes has runs.0 r i v hi hr a)

@@ -37,45 +37,77 @@ sent_number = TBinary Sub (TBinary Add (named (codes "x")) (TFixed Round)) (TFix
 
 -- {y : y <= x or y = 2}
 abbrev sent_set : Tree
-sent_set = TSetOf (codes "y") (TBinary Or (TBinary AtMost (named (codes "y")) (named (codes "x"))) (TBinary Equal (named (codes "y")) (TNumber 2)))
+sent_set = TSetOf (codes "y")
+    (TBinary Or (TBinary AtMost (named (codes "y")) (named (codes "x")))
+    (TBinary Equal (named (codes "y")) (TNumber 2)))
 
 -- [y : if y < 2 then y + n else y div 2]
 abbrev sent_row : Tree
-sent_row = TRowOf (codes "y") (TIf (TBinary Less (named (codes "y")) (TNumber 2)) (TBinary Add (named (codes "y")) (TFixed Nodes)) (TBinary Div (named (codes "y")) (TNumber 2)))
+sent_row = TRowOf (codes "y")
+    (TIf (TBinary Less (named (codes "y")) (TNumber 2))
+    (TBinary Add (named (codes "y")) (TFixed Nodes)) (TBinary Div (named (codes "y")) (TNumber 2)))
 
 -- (s union q) minus single(from)
 abbrev next_set : Tree
-next_set = TBinary Minus (TBinary Union (named (codes "s")) (named (codes "q"))) (TUnary Single (TFixed From))
+next_set = TBinary Minus (TBinary Union (named (codes "s")) (named (codes "q")))
+    (TUnary Single (TFixed From))
 
 -- [y : r[y] + w[y] mod 3]
 abbrev next_row : Tree
-next_row = TRowOf (codes "y") (TBinary Add (TBinary Entry (named (codes "r")) (named (codes "y"))) (TBinary Mod (TBinary Entry (named (codes "w")) (named (codes "y"))) (TNumber 3)))
+next_row = TRowOf (codes "y")
+    (TBinary Add (TBinary Entry (named (codes "r")) (named (codes "y")))
+    (TBinary Mod (TBinary Entry (named (codes "w")) (named (codes "y"))) (TNumber 3)))
 
 -- has(s, 2) and size(s inter all) >= 1 and true
 abbrev flag_at_end : Tree
-flag_at_end = TBinary And (TBinary And (TBinary Has (named (codes "s")) (TNumber 2)) (TBinary AtLeast (TUnary Size (TBinary Inter (named (codes "s")) (TFixed All))) (TNumber 1))) (TFixed True)
+flag_at_end =
+    TBinary And (TBinary And (TBinary Has (named (codes "s")) (TNumber 2))
+    (TBinary AtLeast (TUnary Size (TBinary Inter (named (codes "s")) (TFixed All))) (TNumber 1)))
+    (TFixed True)
 
 -- if c and least(s) > 0 then a + phase else a mod 2
 abbrev number_at_end : Tree
-number_at_end = TIf (TBinary And (named (codes "c")) (TBinary More (TUnary Least (named (codes "s"))) (TNumber 0))) (TBinary Add (named (codes "a")) (TFixed Phase)) (TBinary Mod (named (codes "a")) (TNumber 2))
+number_at_end =
+    TIf (TBinary And (named (codes "c"))
+    (TBinary More (TUnary Least (named (codes "s"))) (TNumber 0)))
+    (TBinary Add (named (codes "a")) (TFixed Phase)) (TBinary Mod (named (codes "a")) (TNumber 2))
 
 abbrev every_operator : ProgramTree
 every_operator = record {
   values = 3;
   period = 1;
-  variables = record { name = codes "x"; kind = Input } ∷ record { name = codes "a"; kind = State NumTy (TNumber 0) }
-      ∷ record { name = codes "c"; kind = State BoolTy (TFixed False) } ∷ record { name = codes "s"; kind = State SetTy (TFixed Empty) }
+  variables = record { name = codes "x"; kind = Input } ∷ record {
+    name = codes "a";
+    kind = State NumTy (TNumber 0);
+  }
+      ∷ record { name = codes "c"; kind = State BoolTy (TFixed False) } ∷ record {
+        name = codes "s";
+        kind = State SetTy (TFixed Empty);
+      }
       ∷ record { name = codes "r"; kind = State RowTy (TFixed Zero) } ∷ [];
   decides = codes "s" ∷ [];
   blocks = record {
     number = 1;
-    fields = record { name = codes "m"; ty = NumTy } ∷ record { name = codes "q"; ty = SetTy } ∷ record { name = codes "w"; ty = RowTy } ∷ [];
+    fields = record { name = codes "m"; ty = NumTy } ∷ record { name = codes "q"; ty = SetTy }
+        ∷ record { name = codes "w"; ty = RowTy } ∷ [];
     condition = condition;
     sent = sent_number ∷ sent_set ∷ sent_row ∷ [];
-    on_message = record { target = codes "s"; formula = next_set } ∷ record { target = codes "r"; formula = next_row }
-        ∷ record { target = codes "a"; formula = TBinary Add (named (codes "a")) (named (codes "m")) } ∷ [];
-    end = record { target = codes "c"; formula = flag_at_end } ∷ record { target = codes "a"; formula = number_at_end }
-        ∷ record { target = codes "s"; formula = TIf (named (codes "c")) (named (codes "s")) (TFixed Empty) } ∷ [];
+    on_message = record { target = codes "s"; formula = next_set } ∷ record {
+      target = codes "r";
+      formula = next_row;
+    }
+        ∷ record {
+          target = codes "a";
+          formula = TBinary Add (named (codes "a")) (named (codes "m"));
+        } ∷ [];
+    end = record { target = codes "c"; formula = flag_at_end } ∷ record {
+      target = codes "a";
+      formula = number_at_end;
+    }
+        ∷ record {
+          target = codes "s";
+          formula = TIf (named (codes "c")) (named (codes "s")) (TFixed Empty);
+        } ∷ [];
   } ∷ [];
 }
 
@@ -84,7 +116,8 @@ abbrev omission : Omission
 omission = record { receiver = 0; round = 2; sender = 1 }
 
 abbrev after : ℕ → ℕ → List Value
-after = rounds (algorithm every_operator 2 1 (slice_index (0 ∷ 1 ∷ []))) (is_omitted (omission ∷ []))
+after = rounds (algorithm every_operator 2 1 (slice_index (0 ∷ 1 ∷ [])))
+    (is_omitted (omission ∷ []))
 
 -- node 0 gets 1, {0,1,2} and [2,3,1]
 first_after_one : after 1 0 ≡ Num 0 ∷ Num 1 ∷ Flag true ∷ of_set 5 ∷ Row (2 ∷ 0 ∷ 1 ∷ []) ∷ []

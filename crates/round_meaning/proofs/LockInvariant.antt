@@ -62,17 +62,21 @@ pub record Proposed (s : Setting) (inputs : ℕ → ℕ) (q : ℕ) (w : World) :
   pub proposals : Proposals s inputs w
   pub got : NoneGot s w
   pub bound : Bound s q w
-  pub support : (v : ℕ) → IsProposed s w v → (c : ℕ → Bool) × (s.nodes - s.faults ≤ count c 0 s.nodes) × ((j u : ℕ) → j < s.nodes → c j ≡ true → u < s.values → u ≢ v → lock (w j) u ≡ 0)
+  pub support : (v : ℕ) → IsProposed s w v
+      → (c : ℕ → Bool) × (s.nodes - s.faults ≤ count c 0 s.nodes)
+      × ((j u : ℕ) → j < s.nodes → c j ≡ true → u < s.values → u ≢ v → lock (w j) u ≡ 0)
 
 -- before the third round of phase q+1
 pub record Locking (s : Setting) (inputs : ℕ → ℕ) (q : ℕ) (w : World) : Type 0 where
   pub always : Always s inputs w
   pub proposals : Proposals s inputs w
   pub bound : Bound s (q + 1) w
-  pub got_locks : (j v : ℕ) → j < s.nodes → flag (w j).got ≡ true → IsProposed s w v → q + 1 ≤ lock (w j) v
+  pub got_locks : (j v : ℕ) → j < s.nodes → flag (w j).got ≡ true → IsProposed s w v
+      → q + 1 ≤ lock (w j) v
   pub new_locks : (j u : ℕ) → j < s.nodes → u < s.values → q + 1 ≤ lock (w j) u → IsProposed s w u
 
-pub below_values : (s : Setting) (inputs : ℕ → ℕ) → Suits s inputs → (v : ℕ) → IsInput s inputs v → v < s.values
+pub below_values : (s : Setting) (inputs : ℕ → ℕ) → Suits s inputs → (v : ℕ) → IsInput s inputs v
+    → v < s.values
 below_values s inputs ok v h = subst (λ n. n < s.values) h.2 (ok.inputs_in h.0 h.1)
 
 pub locked_along : (s : Setting) (w w' : World) (v k : ℕ)
@@ -87,13 +91,15 @@ locked_along s w w' v k up down l = record {
 }
 
 -- the same locks
-pub locked_same : (s : Setting) (w w' : World) (v k : ℕ) → ((j : ℕ) → j < s.nodes → (w' j).locks ≡ (w j).locks) → Locked s w v k → Locked s w' v k
+pub locked_same : (s : Setting) (w w' : World) (v k : ℕ)
+    → ((j : ℕ) → j < s.nodes → (w' j).locks ≡ (w j).locks) → Locked s w v k → Locked s w' v k
 locked_same s w w' v k e =
     locked_along s w w' v k
     (λ j h. subst (λ a. k ≤ slice_index (row a) v) (sym (e j h)))
     (λ j u h hu ne. subst (λ a. slice_index (row a) u < k) (sym (e j h)))
 
-pub proper_more : (s : Setting) (inputs : ℕ → ℕ) (w : World) → ((i v : ℕ) → i < s.nodes → Has (w i).proper v → IsInput s inputs v)
+pub proper_more : (s : Setting) (inputs : ℕ → ℕ) (w : World)
+    → ((i v : ℕ) → i < s.nodes → Has (w i).proper v → IsInput s inputs v)
     → (j : ℕ) → j < s.nodes → (a : ℕ) → ((v : ℕ) → is_in a v ≡ true → IsInput s inputs v)
     → (v : ℕ) → is_in (union a (set (w j).proper)) v ≡ true → IsInput s inputs v
 proper_more s inputs w all j hj a h v t = go (in_union a (set (w j).proper) v t)
@@ -103,7 +109,8 @@ proper_more s inputs w all j hj a h v t = go (in_union a (set (w j).proper) v t)
     go (inr x) = all j v hj x
 
 -- two decided values are one
-pub one_decided : (s : Setting) (w : World) (v u k l : ℕ) → v < s.values → u < s.values → Locked s w v k → Locked s w u l → v ≡ u
+pub one_decided : (s : Setting) (w : World) (v u k l : ℕ) → v < s.values → u < s.values
+    → Locked s w v k → Locked s w u l → v ≡ u
 one_decided s w v u k l hv hu a b = go (cases_eq v u) (cases_lt k l)
   where
     clash : (x y m n : ℕ) → y < s.values → Locked s w x m → Locked s w y n → m ≤ n → (y ≢ x) → ⊥

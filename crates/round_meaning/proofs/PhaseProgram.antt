@@ -34,36 +34,44 @@ env_in s r k i = record (node_env (dls1 s.values) s.nodes s.faults r i) { phase 
 
 -- what a message does, by computing
 takes1 : (s : Setting) (r k i j : ℕ) (n : Node) (m : Message)
-    → runs (with_message j listing.fields (two m) (env_in s r k i)) listing.on_message (values_of n) ≡ values_of (take1 s n m)
+    → runs (with_message j listing.fields (two m) (env_in s r k i)) listing.on_message (values_of n)
+    ≡ values_of (take1 s n m)
 takes1 s r k i j n m = refl
 
 sends1 : (s : Setting) (r k i j : ℕ) (n : Node)
-    → sent (Some listing) (with_dest i (with_vars (values_of n) (env_in s r k j))) ≡ cond (i == owner s k) (Some (two (message1 s n))) None
+    → sent (Some listing) (with_dest i (with_vars (values_of n) (env_in s r k j)))
+    ≡ cond (i == owner s k) (Some (two (message1 s n))) None
 sends1 s r k i j n = refl
 
 takes2 : (s : Setting) (r k i j : ℕ) (n : Node) (m : Message)
-    → runs (with_message j locking.fields (two m) (env_in s r k i)) locking.on_message (values_of n) ≡ values_of (take2 s k n m)
+    → runs (with_message j locking.fields (two m) (env_in s r k i)) locking.on_message (values_of n)
+    ≡ values_of (take2 s k n m)
 takes2 s r k i j n m = refl
 
 sends2 : (s : Setting) (r k i j : ℕ) (n : Node)
-    → sent (Some locking) (with_dest i (with_vars (values_of n) (env_in s r k j))) ≡ cond (nat_lt 0 (size (set n.prop))) (Some (two (message2 n))) None
+    → sent (Some locking) (with_dest i (with_vars (values_of n) (env_in s r k j)))
+    ≡ cond (nat_lt 0 (size (set n.prop))) (Some (two (message2 n))) None
 sends2 s r k i j n = refl
 
 takes3 : (s : Setting) (r k i j : ℕ) (n : Node) (m : Message)
-    → runs (with_message j acknowledging.fields (one m) (env_in s r k i)) acknowledging.on_message (values_of n) ≡ values_of (take3 n m)
+    → runs (with_message j acknowledging.fields (one m) (env_in s r k i)) acknowledging.on_message
+    (values_of n) ≡ values_of (take3 n m)
 takes3 s r k i j n m = refl
 
 sends3 : (s : Setting) (r k i j : ℕ) (n : Node)
-    → sent (Some acknowledging) (with_dest i (with_vars (values_of n) (env_in s r k j))) ≡ cond (flag n.got && (i == owner s k)) (Some (one (message3 n))) None
+    → sent (Some acknowledging) (with_dest i (with_vars (values_of n) (env_in s r k j)))
+    ≡ cond (flag n.got && (i == owner s k)) (Some (one (message3 n))) None
 sends3 s r k i j n = refl
 
 takes4 : (s : Setting) (r k i j : ℕ) (n : Node) (m : Message)
-    → runs (with_message j releasing.fields (two m) (env_in s r k i)) releasing.on_message (values_of n) ≡ values_of (take4 s n m)
+    → runs (with_message j releasing.fields (two m) (env_in s r k i)) releasing.on_message
+    (values_of n) ≡ values_of (take4 s n m)
 takes4 s r k i j n m = refl
 
 sends4 : (s : Setting) (r k i j : ℕ) (n : Node)
     → sent (Some releasing) (with_dest i (with_vars (values_of n) (env_in s r k j)))
-    ≡ cond (nat_lt 0 (size (set_of s.values (λ v. nat_lt 0 (slice_index (row n.locks) v))))) (Some (two (message4 n))) None
+    ≡ cond (nat_lt 0 (size (set_of s.values (λ v. nat_lt 0 (slice_index (row n.locks) v)))))
+    (Some (two (message4 n))) None
 sends4 s r k i j n = refl
 
 -- what i hears of j: nothing where it is omitted or silent
@@ -74,26 +82,39 @@ heard j false true m d e = ap (received j) e
 heard j false false m d e = ap (received j) e
 
 -- the inbox of the messages, folded
-folded_is : (b : BlockTree) (env : Env) (take : Node → Message → Node) (c : ℕ → Bool) (m : ℕ → Message) (spell : Message → List Value) (h : ℕ → Option Received)
+folded_is : (b : BlockTree) (env : Env) (take : Node → Message → Node) (c : ℕ → Bool) (m : ℕ
+    → Message) (spell : Message → List Value) (h : ℕ → Option Received)
     → ((j : ℕ) → h j ≡ cond (c j) (Some (record { from = j; message = spell (m j) })) None)
-    → ((j : ℕ) (n : Node) (m : Message) → runs (with_message j b.fields (spell m) env) b.on_message (values_of n) ≡ values_of (take n m))
-    → (js : List ℕ) (n : Node) → folded b env (filter_map h js) (values_of n) ≡ values_of (hear take c m js n)
+    → ((j : ℕ) (n : Node) (m : Message)
+    → runs (with_message j b.fields (spell m) env) b.on_message (values_of n)
+    ≡ values_of (take n m))
+    → (js : List ℕ) (n : Node)
+    → folded b env (filter_map h js) (values_of n) ≡ values_of (hear take c m js n)
 folded_is b env take c m spell h hs each [] n = refl
 folded_is b env take c m spell h hs each (j ∷ js) n =
-    ap (λ x. folded b env (cons_option x (filter_map h js)) (values_of n)) (hs j) ∙ go (c j) (folded_is b env take c m spell h hs each js)
+    ap (λ x. folded b env (cons_option x (filter_map h js)) (values_of n)) (hs j)
+    ∙ go (c j) (folded_is b env take c m spell h hs each js)
   where
-    go : (x : Bool) → ((n : Node) → folded b env (filter_map h js) (values_of n) ≡ values_of (hear take c m js n))
-        → folded b env (cons_option (cond x (Some (record { from = j; message = spell (m j) })) None) (filter_map h js)) (values_of n) ≡ values_of (hear take c m js (cond x (take n (m j)) n))
+    go : (x : Bool)
+        → ((n : Node) → folded b env (filter_map h js) (values_of n)
+        ≡ values_of (hear take c m js n))
+        → folded b env
+        (cons_option (cond x (Some (record { from = j; message = spell (m j) })) None)
+        (filter_map h js)) (values_of n) ≡ values_of
+        (hear take c m js (cond x (take n (m j)) n))
     go true ih = ap (folded b env (filter_map h js)) (each j n (m j)) ∙ ih (take n (m j))
     go false ih = ih n
 
 -- a round by its position in the phase
 abbrev heard_at : Setting → ℕ → ℕ → ℕ → (ℕ → Bool) → World → ℕ → List Received
 heard_at s p r k o w i =
-    filter_map (λ j. cond (o j) None (received j (sent (slice_get (dls1 s.values).blocks p) (with_dest i (with_vars (values_of (w j)) (env_in s r k j)))))) (range_with_len 0 s.nodes)
+    filter_map (λ j. cond (o j) None
+    (received j (sent (slice_get (dls1 s.values).blocks p)
+    (with_dest i (with_vars (values_of (w j)) (env_in s r k j)))))) (range_with_len 0 s.nodes)
 
 one_round : (s : Setting) (p r k : ℕ) (o : ℕ → ℕ → Bool) (w : World) (i : ℕ) → p < 4
-    → ended (slice_get (dls1 s.values).blocks p) (env_in s r k i) (heard_at s p r k (o i) w i) (values_of (w i)) ≡ values_of (next s p k o w i)
+    → ended (slice_get (dls1 s.values).blocks p) (env_in s r k i) (heard_at s p r k (o i) w i)
+    (values_of (w i)) ≡ values_of (next s p k o w i)
 one_round s zero r k o w i l =
     ap (runs (env_in s r k i) listing.end)
     (folded_is listing (env_in s r k i) (take1 s) (hears1 s (o i) k i) (λ j. message1 s (w j)) two _
@@ -105,7 +126,8 @@ one_round s (suc zero) r k o w i l =
     (λ j n m. takes2 s r k i j n m) (range_with_len 0 s.nodes) (w i)
 one_round s (suc (suc zero)) r k o w i l =
     ap (runs (env_in s r k i) acknowledging.end)
-    (folded_is acknowledging (env_in s r k i) take3 (hears3 s (o i) w k i) (λ j. message3 (w j)) one _
+    (folded_is acknowledging (env_in s r k i) take3 (hears3 s (o i) w k i)
+    (λ j. message3 (w j)) one _
     (λ j. heard j (o i j) _ (one (message3 (w j))) _ (sends3 s r k i j (w j)))
     (λ j n m. takes3 s r k i j n m) (range_with_len 0 s.nodes) (w i))
 one_round s (suc (suc (suc zero))) r k o w i l =
@@ -116,11 +138,14 @@ one_round s (suc (suc (suc (suc p)))) r k o w i l = absurd (omega arith)
 
 -- the program's rounds are the run of the steps
 pub rounds_run : (s : Setting) (inputs : ℕ → ℕ) (omits : ℕ → ℕ → ℕ → Bool) (r : ℕ)
-    → rounds (algorithm (dls1 s.values) s.nodes s.faults inputs) omits r ≡ (λ i. values_of (run s inputs omits r i))
+    → rounds (algorithm (dls1 s.values) s.nodes s.faults inputs) omits r
+    ≡ (λ i. values_of (run s inputs omits r i))
 unfolding rounds algorithm inbox
 rounds_run s inputs omits zero = fun_ext (λ i. refl)
 rounds_run s inputs omits (suc r) =
-    fun_ext (λ i. ap (λ (before : ℕ → List Value). a.end (suc r) i (inbox a (omits i (suc r)) before (suc r) i) (before i)) (rounds_run s inputs omits r) ∙ at i)
+    fun_ext (λ i. ap (λ (before : ℕ → List Value). a.end (suc r) i
+    (inbox a (omits i (suc r)) before (suc r) i) (before i)) (rounds_run s inputs omits r)
+    ∙ at i)
   where
     a : Rattle.round_meaning.specs.Rounds.Algorithm
     a = algorithm (dls1 s.values) s.nodes s.faults inputs
@@ -128,12 +153,20 @@ rounds_run s inputs omits (suc r) =
     e : suc r - 1 ≡ r
     e = omega arith
 
-    at : (i : ℕ) → a.end (suc r) i (inbox a (omits i (suc r)) (λ i. values_of (run s inputs omits r i)) (suc r) i) (values_of (run s inputs omits r i))
+    at : (i : ℕ)
+        → a.end (suc r) i (inbox a (omits i (suc r)) (λ i. values_of (run s inputs omits r i))
+        (suc r) i) (values_of (run s inputs omits r i))
         ≡ values_of (run s inputs omits (suc r) i)
     at i =
-        ap (λ x. ended (slice_get (dls1 s.values).blocks (x % 4)) (env_in s (suc r) (x / 4 + 1) i) (heard_at s (x % 4) (suc r) (x / 4 + 1) (omits i (suc r)) (run s inputs omits r) i) (values_of (run s inputs omits r i))) e
-        ∙ one_round s (r % 4) (suc r) (r / 4 + 1) (λ i. omits i (suc r)) (run s inputs omits r) i (omega arith)
+        ap (λ x. ended (slice_get (dls1 s.values).blocks (x % 4)) (env_in s (suc r) (x / 4 + 1) i)
+        (heard_at s (x % 4) (suc r) (x / 4 + 1) (omits i (suc r)) (run s inputs omits r) i)
+        (values_of (run s inputs omits r i))) e
+        ∙ one_round s (r % 4) (suc r) (r / 4 + 1) (λ i. omits i (suc r)) (run s inputs omits r) i
+        (omega arith)
 
 pub decides_run : (s : Setting) (inputs : ℕ → ℕ) (omits : ℕ → ℕ → ℕ → Bool) (r i : ℕ)
-    → decision (dls1 s.values) (rounds (algorithm (dls1 s.values) s.nodes s.faults inputs) omits r i) ≡ node_decision (run s inputs omits r i)
-decides_run s inputs omits r i = ap (λ (f : ℕ → List Value). decision (dls1 s.values) (f i)) (rounds_run s inputs omits r)
+    → decision (dls1 s.values)
+    (rounds (algorithm (dls1 s.values) s.nodes s.faults inputs) omits r i)
+    ≡ node_decision (run s inputs omits r i)
+decides_run s inputs omits r i = ap (λ (f : ℕ → List Value). decision (dls1 s.values) (f i))
+    (rounds_run s inputs omits r)

@@ -23,13 +23,15 @@ Inv s inputs (suc zero) q w = Proposed s inputs q w
 Inv s inputs (suc (suc zero)) q w = Locking s inputs q w
 Inv s inputs (suc (suc (suc p))) q w = Before s inputs (q + 1) w
 
-always_of : (s : Setting) (inputs : ℕ → ℕ) (p q : ℕ) (w : World) → Inv s inputs p q w → Always s inputs w
+always_of : (s : Setting) (inputs : ℕ → ℕ) (p q : ℕ) (w : World) → Inv s inputs p q w
+    → Always s inputs w
 always_of s inputs zero q w h = h.always
 always_of s inputs (suc zero) q w h = h.always
 always_of s inputs (suc (suc zero)) q w h = h.always
 always_of s inputs (suc (suc (suc p))) q w h = h.always
 
-one_on : (s : Setting) (inputs : ℕ → ℕ) → Suits s inputs → (r p q : ℕ) (w : World) (o : ℕ → ℕ → Bool) → r % 4 ≡ p → r / 4 ≡ q → p < 4
+one_on : (s : Setting) (inputs : ℕ → ℕ) → Suits s inputs
+    → (r p q : ℕ) (w : World) (o : ℕ → ℕ → Bool) → r % 4 ≡ p → r / 4 ≡ q → p < 4
     → Inv s inputs p q w → Inv s inputs (suc r % 4) (suc r / 4) (next s p (q + 1) o w)
 one_on s inputs ok r zero q w o a b l h =
     let e : suc r % 4 ≡ 1 = omega arith in
@@ -59,93 +61,123 @@ at_start s inputs = record {
   };
   none = λ v a. none_in v a.2;
   got = λ i hi. refl;
-  bound = λ i v hi hv. let e : lock (start s (inputs i)) v ≡ 0 = get_or-replicate s.values v 0 0 hv in omega arith;
+  bound = λ i v hi hv. let e : lock (start s (inputs i)) v ≡ 0 =
+      get_or-replicate s.values v 0 0 hv in omega arith;
 }
 
-holds : (s : Setting) (inputs : ℕ → ℕ) (omits : ℕ → ℕ → ℕ → Bool) → Suits s inputs → (r : ℕ) → Inv s inputs (r % 4) (r / 4) (run s inputs omits r)
+holds : (s : Setting) (inputs : ℕ → ℕ) (omits : ℕ → ℕ → ℕ → Bool) → Suits s inputs → (r : ℕ)
+    → Inv s inputs (r % 4) (r / 4) (run s inputs omits r)
 holds s inputs omits ok zero = at_start s inputs
 holds s inputs omits ok (suc r) =
-    one_on s inputs ok r (r % 4) (r / 4) (run s inputs omits r) (λ i. omits i (suc r)) refl refl (omega arith) (holds s inputs omits ok r)
+    one_on s inputs ok r (r % 4) (r / 4) (run s inputs omits r) (λ i. omits i (suc r)) refl refl
+    (omega arith) (holds s inputs omits ok r)
 
-stays : (s : Setting) (p k : ℕ) (w : World) (o : ℕ → ℕ → Bool) (i v : ℕ) → v < 64 → Has (w i).done v → Has (next s p k o w i).done v
+stays : (s : Setting) (p k : ℕ) (w : World) (o : ℕ → ℕ → Bool) (i v : ℕ) → v < 64 → Has (w i).done v
+    → Has (next s p k o w i).done v
 stays s zero k w o i v l h = stays1 s w (o i) k i v h
 stays s (suc zero) k w o i v l h = stays2 s w (o i) k i v h
 stays s (suc (suc zero)) k w o i v l h = stays3 s w (o i) k i v l h
 stays s (suc (suc (suc p))) k w o i v l h = stays4 s w (o i) i v h
 
-stays_long : (s : Setting) (inputs : ℕ → ℕ) (omits : ℕ → ℕ → ℕ → Bool) (i v r d : ℕ) → v < 64 → Has (run s inputs omits r i).done v → Has (run s inputs omits (r + d) i).done v
+stays_long : (s : Setting) (inputs : ℕ → ℕ) (omits : ℕ → ℕ → ℕ → Bool) (i v r d : ℕ) → v < 64
+    → Has (run s inputs omits r i).done v → Has (run s inputs omits (r + d) i).done v
 stays_long s inputs omits i v r zero l h = let e : r + 0 ≡ r = omega arith in rw e h
 stays_long s inputs omits i v r (suc d) l h =
     let e : r + suc d ≡ suc (r + d) = omega arith in
-    rw e (stays s ((r + d) % 4) ((r + d) / 4 + 1) (run s inputs omits (r + d)) (λ i. omits i (suc (r + d))) i v l (stays_long s inputs omits i v r d l h))
+    rw e (stays s ((r + d) % 4) ((r + d) / 4 + 1) (run s inputs omits (r + d))
+    (λ i. omits i (suc (r + d))) i v l (stays_long s inputs omits i v r d l h))
 
-decided_input : (s : Setting) (inputs : ℕ → ℕ) (omits : ℕ → ℕ → ℕ → Bool) → Suits s inputs → (i r v : ℕ) → i < s.nodes
+decided_input : (s : Setting) (inputs : ℕ → ℕ) (omits : ℕ → ℕ → ℕ → Bool) → Suits s inputs
+    → (i r v : ℕ) → i < s.nodes
     → node_decision (run s inputs omits r i) ≡ Some v → IsInput s inputs v
 decided_input s inputs omits ok i r v hi d =
-    (always_of s inputs (r % 4) (r / 4) (run s inputs omits r) (holds s inputs omits ok r)).done i v hi (decided_in (set (run s inputs omits r i).done) v d)
+    (always_of s inputs (r % 4) (r / 4) (run s inputs omits r) (holds s inputs omits ok r)).done i v
+    hi (decided_in (set (run s inputs omits r i).done) v d)
 
 -- all decisions are equal, of any nodes and rounds
-pub agreement : (s : Setting) (inputs : ℕ → ℕ) (omits : ℕ → ℕ → ℕ → Bool) → Suits s inputs → (i j r q v u : ℕ) → i < s.nodes → j < s.nodes
-    → node_decision (run s inputs omits r i) ≡ Some v → node_decision (run s inputs omits q j) ≡ Some u → v ≡ u
+pub agreement : (s : Setting) (inputs : ℕ → ℕ) (omits : ℕ → ℕ → ℕ → Bool) → Suits s inputs
+    → (i j r q v u : ℕ) → i < s.nodes → j < s.nodes
+    → node_decision (run s inputs omits r i) ≡ Some v
+    → node_decision (run s inputs omits q j) ≡ Some u → v ≡ u
 agreement s inputs omits ok i j r q v u hi hj a b =
     let hv = below_values s inputs ok v (decided_input s inputs omits ok i r v hi a) in
     let hu = below_values s inputs ok u (decided_input s inputs omits ok j q u hj b) in
     let top : ℕ = r + q in
     let small = ok.values in
     let e : q + r ≡ r + q = omega arith in
-    let inv = always_of s inputs ((r + q) % 4) ((r + q) / 4) (run s inputs omits (r + q)) (holds s inputs omits ok (r + q)) in
-    let x = inv.decided i v hi (stays_long s inputs omits i v r q (omega arith) (decided_in (set (run s inputs omits r i).done) v a)) in
-    let late = stays_long s inputs omits j u q r (omega arith) (decided_in (set (run s inputs omits q j).done) u b) in
+    let inv = always_of s inputs ((r + q) % 4) ((r + q) / 4) (run s inputs omits (r + q))
+    (holds s inputs omits ok (r + q)) in
+    let x = inv.decided i v hi
+    (stays_long s inputs omits i v r q (omega arith)
+    (decided_in (set (run s inputs omits r i).done) v a)) in
+    let late = stays_long s inputs omits j u q r (omega arith)
+    (decided_in (set (run s inputs omits q j).done) u b) in
     let y = inv.decided j u hj (subst (λ m. Has (run s inputs omits m j).done u) e late) in
     one_decided s (run s inputs omits (r + q)) v u x.0 y.0 hv hu x.2 y.2
 
 -- a node_decision is some node's input
-pub validity : (s : Setting) (inputs : ℕ → ℕ) (omits : ℕ → ℕ → ℕ → Bool) → Suits s inputs → (i r v : ℕ) → i < s.nodes
+pub validity : (s : Setting) (inputs : ℕ → ℕ) (omits : ℕ → ℕ → ℕ → Bool) → Suits s inputs
+    → (i r v : ℕ) → i < s.nodes
     → node_decision (run s inputs omits r i) ≡ Some v → (l : ℕ) × (l < s.nodes) × (inputs l ≡ v)
 validity s inputs omits ok i r v hi d = decided_input s inputs omits ok i r v hi d
 
-locked_on : (s : Setting) (inputs : ℕ → ℕ) → Suits s inputs → (p q : ℕ) (w : World) (o : ℕ → ℕ → Bool) → Inv s inputs p q w
+locked_on : (s : Setting) (inputs : ℕ → ℕ) → Suits s inputs
+    → (p q : ℕ) (w : World) (o : ℕ → ℕ → Bool) → Inv s inputs p q w
     → (v k : ℕ) → 0 < k → v < s.values → Locked s w v k → Locked s (next s p (q + 1) o w) v k
 locked_on s inputs ok zero q w o h v k pos hv l = locked1 s w o (q + 1) v k l
 locked_on s inputs ok (suc zero) q w o h v k pos hv l = locked2 s inputs q w ok h o v k pos hv l
 locked_on s inputs ok (suc (suc zero)) q w o h v k pos hv l = locked3 s w o (q + 1) v k l
 locked_on s inputs ok (suc (suc (suc p))) q w o h v k pos hv l = locked4 s w o v k hv l
 
-fresh_on : (s : Setting) (inputs : ℕ → ℕ) → Suits s inputs → (p q : ℕ) (w : World) (o : ℕ → ℕ → Bool) → Inv s inputs p q w
-    → (i v : ℕ) → i < s.nodes → Has (next s p (q + 1) o w i).done v → Has (w i).done v ⊎ Locked s (next s p (q + 1) o w) v (q + 1)
+fresh_on : (s : Setting) (inputs : ℕ → ℕ) → Suits s inputs
+    → (p q : ℕ) (w : World) (o : ℕ → ℕ → Bool) → Inv s inputs p q w
+    → (i v : ℕ) → i < s.nodes → Has (next s p (q + 1) o w i).done v
+    → Has (w i).done v ⊎ Locked s (next s p (q + 1) o w) v (q + 1)
 fresh_on s inputs ok zero q w o h i v hi t = inl (was1 s w (o i) (q + 1) i v t)
 fresh_on s inputs ok (suc zero) q w o h i v hi t = inl (was2 s w (o i) (q + 1) i v t)
-fresh_on s inputs ok (suc (suc zero)) q w o h i v hi t = (step3 s inputs q w ok h o (q + 1)).1 i v hi t
+fresh_on s inputs ok (suc (suc zero)) q w o h i v hi t =
+    (step3 s inputs q w ok h o (q + 1)).1 i v hi t
 fresh_on s inputs ok (suc (suc (suc p))) q w o h i v hi t = inl (was4 s w (o i) i v t)
 
-locked_long : (s : Setting) (inputs : ℕ → ℕ) (omits : ℕ → ℕ → ℕ → Bool) → Suits s inputs → (v k r d : ℕ) → 0 < k → v < s.values
+locked_long : (s : Setting) (inputs : ℕ → ℕ) (omits : ℕ → ℕ → ℕ → Bool) → Suits s inputs
+    → (v k r d : ℕ) → 0 < k → v < s.values
     → Locked s (run s inputs omits r) v k → Locked s (run s inputs omits (r + d)) v k
 locked_long s inputs omits ok v k r zero pos hv l = let e : r + 0 ≡ r = omega arith in rw e l
 locked_long s inputs omits ok v k r (suc d) pos hv l =
     let e : r + suc d ≡ suc (r + d) = omega arith in
-    rw e (locked_on s inputs ok ((r + d) % 4) ((r + d) / 4) (run s inputs omits (r + d)) (λ i. omits i (suc (r + d)))
+    rw e (locked_on s inputs ok ((r + d) % 4) ((r + d) / 4) (run s inputs omits (r + d))
+    (λ i. omits i (suc (r + d)))
     (holds s inputs omits ok (r + d)) v k pos hv (locked_long s inputs omits ok v k r d pos hv l))
 
 -- v is decided in round r+1 by a node: from then on it is locked at that round's phase
-pub locked_since : (s : Setting) (inputs : ℕ → ℕ) (omits : ℕ → ℕ → ℕ → Bool) → Suits s inputs → (i r d v : ℕ) → i < s.nodes
-    → node_decision (run s inputs omits r i) ≡ None → node_decision (run s inputs omits (suc r) i) ≡ Some v
+pub locked_since : (s : Setting) (inputs : ℕ → ℕ) (omits : ℕ → ℕ → ℕ → Bool) → Suits s inputs
+    → (i r d v : ℕ) → i < s.nodes
+    → node_decision (run s inputs omits r i) ≡ None
+    → node_decision (run s inputs omits (suc r) i) ≡ Some v
     → Locked s (run s inputs omits (suc r + d)) v (r / 4 + 1)
 locked_since s inputs omits ok i r d v hi before now =
     locked_long s inputs omits ok v (r / 4 + 1) (suc r) d (omega arith) hv
-    (new (fresh_on s inputs ok (r % 4) (r / 4) (run s inputs omits r) (λ i. omits i (suc r)) (holds s inputs omits ok r) i v hi (decided_in (set (run s inputs omits (suc r) i).done) v now)))
+    (new (fresh_on s inputs ok (r % 4) (r / 4) (run s inputs omits r) (λ i. omits i (suc r))
+    (holds s inputs omits ok r) i v hi
+    (decided_in (set (run s inputs omits (suc r) i).done) v now)))
   where
     hv : v < s.values
     hv = below_values s inputs ok v (decided_input s inputs omits ok i (suc r) v hi now)
 
-    new : Has (run s inputs omits r i).done v ⊎ Locked s (run s inputs omits (suc r)) v (r / 4 + 1) → Locked s (run s inputs omits (suc r)) v (r / 4 + 1)
-    new (inl x) = absurd (none_decided (set (run s inputs omits r i).done) v (omega (arith, ok.values, hv)) before x)
+    new : Has (run s inputs omits r i).done v ⊎ Locked s (run s inputs omits (suc r)) v (r / 4 + 1)
+        → Locked s (run s inputs omits (suc r)) v (r / 4 + 1)
+    new (inl x) =
+        absurd (none_decided (set (run s inputs omits r i).done) v
+        (omega (arith, ok.values, hv)) before x)
     new (inr l) = l
 
 -- in counts
 pub locked_counts : (s : Setting) (w : World) (v k : ℕ) → Locked s w v k
-    → (s.faults + 1 ≤ count_by (λ j. nat_le k (lock (w j) v)) (range_with_len 0 s.nodes)) × ((j u : ℕ) → j < s.nodes → u < s.values → u ≢ v → lock (w j) u < k)
+    → (s.faults + 1 ≤ count_by (λ j. nat_le k (lock (w j) v)) (range_with_len 0 s.nodes))
+    × ((j u : ℕ) → j < s.nodes → u < s.values → u ≢ v → lock (w j) u < k)
 locked_counts s w v k l =
     (omega (arith, l.many, count-is (λ j. nat_le k (lock (w j) v)) 0 s.nodes, more), l.others)
   where
     more : count l.holders 0 s.nodes ≤ count (λ j. nat_le k (lock (w j) v)) 0 s.nodes
-    more = count_more l.holders (λ j. nat_le k (lock (w j) v)) 0 s.nodes (λ j lo hi t. le-leb k (lock (w j) v) (l.hold j (omega arith) t))
+    more = count_more l.holders (λ j. nat_le k (lock (w j) v)) 0 s.nodes
+        (λ j lo hi t. le-leb k (lock (w j) v) (l.hold j (omega arith) t))

@@ -67,7 +67,10 @@ take1 s n m = record {
   x = n.x;
   proper = of_set (union (set n.proper) (set m.proper));
   locks = n.locks;
-  lists = Row (map (λ v. num (if (nat_lt v s.values && is_in (set m.body) v) then Num (min (slice_index (row n.lists) v + 1) 4294967295) else Num (slice_index (row n.lists) v))) (range_with_len 0 s.values));
+  lists = Row (map
+      (λ v. num (if (nat_lt v s.values && is_in (set m.body) v) then Num
+      (min (slice_index (row n.lists) v + 1) 4294967295) else Num (slice_index (row n.lists) v)))
+      (range_with_len 0 s.values));
   prop = n.prop;
   got = n.got;
   acks = n.acks;
@@ -80,7 +83,11 @@ finish1 s k i n = record {
   proper = n.proper;
   locks = n.locks;
   lists = Row (replicate s.values 0);
-  prop = if (i == owner s k) then of_set (only s.values (least s.values (set_of s.values (λ v. nat_le (s.nodes - s.faults) (slice_index (row n.lists) v))))) else of_set 0;
+  prop = if (i == owner s k) then of_set
+      (only s.values
+      (least s.values
+      (set_of s.values (λ v. nat_le (s.nodes - s.faults) (slice_index (row n.lists) v))))) else
+      of_set 0;
   got = n.got;
   acks = n.acks;
   done = n.done;
@@ -94,7 +101,9 @@ abbrev pub take2 : Setting → ℕ → Node → Message → Node
 take2 s k n m = record {
   x = n.x;
   proper = of_set (union (set n.proper) (set m.proper));
-  locks = Row (map (λ w. num (if (nat_lt w s.values && is_in (set m.body) w) then Num k else Num (slice_index (row n.locks) w))) (range_with_len 0 s.values));
+  locks = Row (map
+      (λ w. num (if (nat_lt w s.values && is_in (set m.body) w) then Num k else Num
+      (slice_index (row n.locks) w))) (range_with_len 0 s.values));
   lists = n.lists;
   prop = n.prop;
   got = Flag true;
@@ -127,7 +136,8 @@ finish3 s n = record {
   prop = of_set 0;
   got = Flag false;
   acks = Num 0;
-  done = if ((size (set n.done) == 0) && nat_le (min (s.faults + 1) 4294967295) (num n.acks)) then n.prop else n.done;
+  done = if ((size (set n.done) == 0) && nat_le (min (s.faults + 1) 4294967295) (num n.acks)) then
+      n.prop else n.done;
 }
 
 -- round 4k: locks go to all, who release theirs for later ones
@@ -138,7 +148,12 @@ abbrev pub take4 : Setting → Node → Message → Node
 take4 s n m = record {
   x = n.x;
   proper = of_set (union (set n.proper) (set m.proper));
-  locks = Row (map (λ v. num (if (nat_lt 0 (size (set_of s.values (λ w. (not (w == v) && nat_lt 0 (slice_index (row m.body) w)) && nat_le (slice_index (row n.locks) v) (slice_index (row m.body) w))))) then Num 0 else Num (slice_index (row n.locks) v))) (range_with_len 0 s.values));
+  locks = Row (map
+      (λ v. num (if
+      (nat_lt 0 (size
+      (set_of s.values (λ w. (not (w == v) && nat_lt 0 (slice_index (row m.body) w))
+      && nat_le (slice_index (row n.locks) v) (slice_index (row m.body) w))))) then Num 0 else Num
+      (slice_index (row n.locks) v))) (range_with_len 0 s.values));
   lists = n.lists;
   prop = n.prop;
   got = n.got;
@@ -161,19 +176,25 @@ abbrev pub hears3 : Setting → (ℕ → Bool) → World → ℕ → ℕ → ℕ
 hears3 s o w k i j = not (o j) && (flag (w j).got && (i == owner s k))
 
 abbrev pub hears4 : Setting → (ℕ → Bool) → World → ℕ → Bool
-hears4 s o w j = not (o j) && nat_lt 0 (size (set_of s.values (λ v. nat_lt 0 (slice_index (row (w j).locks) v))))
+hears4 s o w j = not (o j)
+    && nat_lt 0 (size (set_of s.values (λ v. nat_lt 0 (slice_index (row (w j).locks) v))))
 
 abbrev pub round1 : Setting → (ℕ → Bool) → ℕ → World → ℕ → Node
-round1 s o k w i = finish1 s k i (hear (take1 s) (hears1 s o k i) (λ j. message1 s (w j)) (range_with_len 0 s.nodes) (w i))
+round1 s o k w i =
+    finish1 s k i (hear (take1 s) (hears1 s o k i) (λ j. message1 s (w j))
+    (range_with_len 0 s.nodes) (w i))
 
 abbrev pub round2 : Setting → (ℕ → Bool) → ℕ → World → ℕ → Node
-round2 s o k w i = hear (take2 s k) (hears2 o w) (λ j. message2 (w j)) (range_with_len 0 s.nodes) (w i)
+round2 s o k w i = hear (take2 s k) (hears2 o w) (λ j. message2 (w j)) (range_with_len 0 s.nodes)
+    (w i)
 
 abbrev pub round3 : Setting → (ℕ → Bool) → ℕ → World → ℕ → Node
-round3 s o k w i = finish3 s (hear take3 (hears3 s o w k i) (λ j. message3 (w j)) (range_with_len 0 s.nodes) (w i))
+round3 s o k w i =
+    finish3 s (hear take3 (hears3 s o w k i) (λ j. message3 (w j)) (range_with_len 0 s.nodes) (w i))
 
 abbrev pub round4 : Setting → (ℕ → Bool) → World → ℕ → Node
-round4 s o w i = hear (take4 s) (hears4 s o w) (λ j. message4 (w j)) (range_with_len 0 s.nodes) (w i)
+round4 s o w i = hear (take4 s) (hears4 s o w) (λ j. message4 (w j)) (range_with_len 0 s.nodes)
+    (w i)
 
 -- a round by its position in the phase
 abbrev pub next : Setting → ℕ → ℕ → (ℕ → ℕ → Bool) → World → World

@@ -27,18 +27,25 @@ lower false x = omega arith
 
 -- the test of a release of the lock on v, for a message with these locks
 passes : Setting → Node → Value → ℕ → ℕ → Bool
-passes s n l v = λ w. (not (w == v) && nat_lt 0 (slice_index (row l) w)) && nat_le (lock n v) (slice_index (row l) w)
+passes s n l v = λ w. (not (w == v) && nat_lt 0 (slice_index (row l) w))
+    && nat_le (lock n v) (slice_index (row l) w)
 
-read : (s : Setting) (n : Node) (m : Message) (v : ℕ) → v < s.values → lock (take4 s n m) v ≡ num (cond (nat_lt 0 (size (set_of s.values (passes s n m.body v)))) (Num 0) (Num (lock n v)))
+read : (s : Setting) (n : Node) (m : Message) (v : ℕ) → v < s.values
+    → lock (take4 s n m) v
+    ≡ num (cond (nat_lt 0 (size (set_of s.values (passes s n m.body v)))) (Num 0) (Num (lock n v)))
 unfolding passes
-read s n m v hv = at_row (λ v. num (cond (nat_lt 0 (size (set_of s.values (passes s n m.body v)))) (Num 0) (Num (lock n v)))) s.values v hv
+read s n m v hv =
+    at_row (λ v. num (cond (nat_lt 0 (size (set_of s.values (passes s n m.body v)))) (Num 0)
+    (Num (lock n v)))) s.values v hv
 
-falls : (s : Setting) (n : Node) (m : Message) (v : ℕ) → v < s.values → lock (take4 s n m) v ≤ lock n v
+falls : (s : Setting) (n : Node) (m : Message) (v : ℕ) → v < s.values
+    → lock (take4 s n m) v ≤ lock n v
 falls s n m v hv = subst (λ x. x ≤ lock n v) (sym (read s n m v hv)) (lower _ (lock n v))
 
 -- a lock that no other reaches stays
 holds : (s : Setting) (n : Node) (m : Message) (v k : ℕ) → v < s.values
-    → ((u : ℕ) → u < s.values → u ≢ v → slice_index (row m.body) u < k) → k ≤ lock n v → k ≤ lock (take4 s n m) v
+    → ((u : ℕ) → u < s.values → u ≢ v → slice_index (row m.body) u < k) → k ≤ lock n v
+    → k ≤ lock (take4 s n m) v
 unfolding passes
 holds s n m v k hv others le = subst (λ x. k ≤ x) (sym (read s n m v hv)) (go _ refl)
   where
@@ -57,31 +64,41 @@ holds s n m v k hv others le = subst (λ x. k ≤ x) (sym (read s n m v hv)) (go
         absurd (omega arith)
     go false e = le
 
-less : (s : Setting) (w : World) (o : ℕ → Bool) (i v : ℕ) → v < s.values → lock (round4 s o w i) v ≤ lock (w i) v
+less : (s : Setting) (w : World) (o : ℕ → Bool) (i v : ℕ) → v < s.values
+    → lock (round4 s o w i) v ≤ lock (w i) v
 less s w o i v hv =
     kept (λ n. lock n v ≤ lock (w i) v) (take4 s) (hears4 s o w) (λ j. message4 (w j)) 0 s.nodes
     (λ j lo hi t n h. let f = falls s n (message4 (w j)) v hv in omega arith)
     (w i) (omega arith)
 
-pub locked4 : (s : Setting) (w : World) (o : ℕ → ℕ → Bool) (v k : ℕ) → v < s.values → Locked s w v k → Locked s (λ i. round4 s (o i) w i) v k
+pub locked4 : (s : Setting) (w : World) (o : ℕ → ℕ → Bool) (v k : ℕ) → v < s.values → Locked s w v k
+    → Locked s (λ i. round4 s (o i) w i) v k
 locked4 s w o v k hv l =
     locked_along s w (λ i. round4 s (o i) w i) v k
-    (λ i hi le. kept (λ n. k ≤ lock n v) (take4 s) (hears4 s (o i) w) (λ j. message4 (w j)) 0 s.nodes
-    (λ j lo hj t n h. holds s n (message4 (w j)) v k hv (λ u hu ne. l.others j u (omega arith) hu ne) h)
+    (λ i hi le. kept (λ n. k ≤ lock n v) (take4 s) (hears4 s (o i) w)
+    (λ j. message4 (w j)) 0 s.nodes
+    (λ j lo hj t n h. holds s n (message4 (w j)) v k hv
+    (λ u hu ne. l.others j u (omega arith) hu ne) h)
     (w i) le)
     (λ i u hi hu ne lt. let f = less s w (o i) i u hu in omega arith) l
 
-pub step4 : (s : Setting) (inputs : ℕ → ℕ) (q : ℕ) (w : World) → Suits s inputs → Before s inputs q w → (o : ℕ → ℕ → Bool)
+pub step4 : (s : Setting) (inputs : ℕ → ℕ) (q : ℕ) (w : World) → Suits s inputs
+    → Before s inputs q w → (o : ℕ → ℕ → Bool)
     → Before s inputs q (λ i. round4 s (o i) w i)
 step4 s inputs q w ok b o = record {
   always = record {
-    proper = λ i v hi. kept (λ n. (u : ℕ) → Has n.proper u → IsInput s inputs u) (take4 s) (hears4 s (o i) w) (λ j. message4 (w j)) 0 s.nodes
+    proper = λ i v hi. kept (λ n. (u : ℕ) → Has n.proper u
+        → IsInput s inputs u) (take4 s) (hears4 s (o i) w) (λ j. message4 (w j)) 0 s.nodes
         (λ j lo hi t n h. proper_more s inputs w b.always.proper j (omega arith) (set n.proper) h)
         (w i) (λ u h. b.always.proper i u hi h) v;
     done = λ i v hi h. b.always.done i v hi (was_done i v h);
     decided = λ i v hi h.
-        let d = b.always.decided i v hi (was_done i v h) in
-        (d.0, d.1, locked4 s w o v d.0 (below_values s inputs ok v (b.always.done i v hi (was_done i v h))) d.2);
+        let d = b.always.decided i v hi (was_done i v h) in (
+          d.0,
+          d.1,
+          locked4 s w o v d.0
+              (below_values s inputs ok v (b.always.done i v hi (was_done i v h))) d.2,
+        );
     lists = λ i v hi hv. ap (λ a. slice_index (row a) v) (same i).lists ∙ b.always.lists i v hi hv;
     acks = λ i hi. ap num (same i).acks ∙ b.always.acks i hi;
   };
@@ -96,14 +113,25 @@ step4 s inputs q w ok b o = record {
     same : (i : ℕ) → Frame (w i) (w' i)
     same i =
         kept (Frame (w i)) (take4 s) (hears4 s (o i) w) (λ j. message4 (w j)) 0 s.nodes
-        (λ j lo hi t n h. record { prop = h.prop; lists = h.lists; got = h.got; acks = h.acks; done = h.done })
+        (λ j lo hi t n h. record {
+          prop = h.prop;
+          lists = h.lists;
+          got = h.got;
+          acks = h.acks;
+          done = h.done;
+        })
         (w i) (record { prop = refl; lists = refl; got = refl; acks = refl; done = refl })
 
     was_done : (i v : ℕ) → Has (w' i).done v → Has (w i).done v
     was_done i v h = subst (λ a. Has a v) (same i).done h
 
-pub stays4 : (s : Setting) (w : World) (o : ℕ → Bool) (i v : ℕ) → Has (w i).done v → Has (round4 s o w i).done v
-stays4 s w o i v h = kept (λ n. Has n.done v) (take4 s) (hears4 s o w) (λ j. message4 (w j)) 0 s.nodes (λ j lo hi t n h. h) (w i) h
+pub stays4 : (s : Setting) (w : World) (o : ℕ → Bool) (i v : ℕ) → Has (w i).done v
+    → Has (round4 s o w i).done v
+stays4 s w o i v h = kept (λ n. Has n.done v) (take4 s) (hears4 s o w)
+    (λ j. message4 (w j)) 0 s.nodes (λ j lo hi t n h. h) (w i) h
 
-pub was4 : (s : Setting) (w : World) (o : ℕ → Bool) (i v : ℕ) → Has (round4 s o w i).done v → Has (w i).done v
-was4 s w o i v h = kept (λ n. Has n.done v → Has (w i).done v) (take4 s) (hears4 s o w) (λ j. message4 (w j)) 0 s.nodes (λ j lo hi t n h. h) (w i) (λ h. h) h
+pub was4 : (s : Setting) (w : World) (o : ℕ → Bool) (i v : ℕ) → Has (round4 s o w i).done v
+    → Has (w i).done v
+was4 s w o i v h = kept (λ n. Has n.done v
+    → Has (w i).done v) (take4 s) (hears4 s o w) (λ j. message4 (w j)) 0 s.nodes
+    (λ j lo hi t n h. h) (w i) (λ h. h) h

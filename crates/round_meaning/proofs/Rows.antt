@@ -21,14 +21,20 @@ abbrev pub gather : ProgramTree
 gather = record {
   values = 2;
   period = 1;
-  variables = record { name = codes "x"; kind = Input } ∷ record { name = codes "seen"; kind = State SetTy (TUnary Single (TNamed (codes "x"))) } ∷ [];
+  variables = record { name = codes "x"; kind = Input } ∷ record {
+    name = codes "seen";
+    kind = State SetTy (TUnary Single (TNamed (codes "x")));
+  } ∷ [];
   decides = codes "seen" ∷ [];
   blocks = record {
     number = 1;
     fields = record { name = codes "s"; ty = SetTy } ∷ [];
     condition = TFixed True;
     sent = TNamed (codes "seen") ∷ [];
-    on_message = record { target = codes "seen"; formula = TBinary Union (TNamed (codes "seen")) (TNamed (codes "s")) } ∷ [];
+    on_message = record {
+      target = codes "seen";
+      formula = TBinary Union (TNamed (codes "seen")) (TNamed (codes "s"));
+    } ∷ [];
     end = [];
   } ∷ [];
 }

@@ -24,7 +24,8 @@ above : (k : ℕ) (p : ℕ → Bool) (v : ℕ) → k ≤ v → is_in (set_of k p
 unfolding is_in
 above k p v h = ap (λ n. nat_eq n 1) (bit_at_above (set_of k p) k v (set_of-lt k p) h)
 
-pub in_set_of : (k : ℕ) (p : ℕ → Bool) (v : ℕ) → is_in (set_of k p) v ≡ true → (v < k) × (p v ≡ true)
+pub in_set_of : (k : ℕ) (p : ℕ → Bool) (v : ℕ) → is_in (set_of k p) v ≡ true
+    → (v < k) × (p v ≡ true)
 in_set_of k p v h = go (cases_lt v k)
   where
     go : (v < k) ⊎ (k ≤ v) → (v < k) × (p v ≡ true)
@@ -46,28 +47,42 @@ pub at_row : (f : ℕ → ℕ) (k v : ℕ) → v < k → slice_index (map f (ran
 at_row f k v h = get_or-map-range_with_len f 0 k v v 0 h (omega arith)
 
 -- filters of a range
-some_left : (p : ℕ → Bool) (a n : ℕ) → 0 < length (filter p (range_with_len a n)) → (v : ℕ) × (a ≤ v) × (v < a + n) × (p v ≡ true)
+some_left : (p : ℕ → Bool) (a n : ℕ) → 0 < length (filter p (range_with_len a n))
+    → (v : ℕ) × (a ≤ v) × (v < a + n) × (p v ≡ true)
 some_left p a zero h = absurd (omega arith)
 some_left p a (suc n) h = go (some_left p (a + 1) n) (p a) refl h
   where
-    go : (0 < length (filter p (range_with_len (a + 1) n)) → (v : ℕ) × (a + 1 ≤ v) × (v < a + 1 + n) × (p v ≡ true)) → (b : Bool) → p a ≡ b → 0 < length (cond b (a ∷ filter p (range_with_len (a + 1) n)) (filter p (range_with_len (a + 1) n))) → (v : ℕ) × (a ≤ v) × (v < a + suc n) × (p v ≡ true)
+    go : (0 < length (filter p (range_with_len (a + 1) n))
+        → (v : ℕ) × (a + 1 ≤ v) × (v < a + 1 + n) × (p v ≡ true)) → (b : Bool) → p a ≡ b
+        → 0 < length (cond b (a ∷ filter p (range_with_len (a + 1) n))
+        (filter p (range_with_len (a + 1) n))) → (v : ℕ) × (a ≤ v) × (v < a + suc n) × (p v ≡ true)
     go ih true e l = (a, omega arith, omega arith, e)
     go ih false e l = let r = ih l in (r.0, omega arith, omega arith, r.3)
 
-left_in : (p : ℕ → Bool) (a n v : ℕ) → a ≤ v → v < a + n → p v ≡ true → 0 < length (filter p (range_with_len a n))
+left_in : (p : ℕ → Bool) (a n v : ℕ) → a ≤ v → v < a + n → p v ≡ true
+    → 0 < length (filter p (range_with_len a n))
 left_in p a zero v lo hi h = absurd (omega arith)
-left_in p a (suc n) v lo hi h = go (λ l. left_in p (a + 1) n v (omega arith) (omega arith) h) (p a) refl (cases_lt a v)
+left_in p a (suc n) v lo hi h = go (λ l. left_in p (a + 1) n v (omega arith) (omega arith) h)
+    (p a) refl (cases_lt a v)
   where
-    go : (a < v → 0 < length (filter p (range_with_len (a + 1) n))) → (b : Bool) → p a ≡ b → (a < v) ⊎ (v ≤ a) → 0 < length (cond b (a ∷ filter p (range_with_len (a + 1) n)) (filter p (range_with_len (a + 1) n)))
+    go : (a < v → 0 < length (filter p (range_with_len (a + 1) n))) → (b : Bool) → p a ≡ b
+        → (a < v) ⊎ (v ≤ a)
+        → 0 < length (cond b (a ∷ filter p (range_with_len (a + 1) n))
+        (filter p (range_with_len (a + 1) n)))
     go ih true e c = omega arith
     go ih false e (inl l) = ih l
-    go ih false e (inr l) = let same : v ≡ a = omega arith in absurd (false≢true (sym e ∙ ap p (sym same) ∙ h))
+    go ih false e (inr l) = let same : v ≡ a = omega arith in
+        absurd (false≢true (sym e ∙ ap p (sym same) ∙ h))
 
-head_in : (p : ℕ → Bool) (k : ℕ) (xs : List ℕ) → (first_or k (filter p xs) ≡ k) ⊎ (p (first_or k (filter p xs)) ≡ true)
+head_in : (p : ℕ → Bool) (k : ℕ) (xs : List ℕ)
+    → (first_or k (filter p xs) ≡ k) ⊎ (p (first_or k (filter p xs)) ≡ true)
 head_in p k [] = inl refl
 head_in p k (x ∷ xs) = go (p x) refl (head_in p k xs)
   where
-    go : (b : Bool) → p x ≡ b → (first_or k (filter p xs) ≡ k) ⊎ (p (first_or k (filter p xs)) ≡ true) → (first_or k (cond b (x ∷ filter p xs) (filter p xs)) ≡ k) ⊎ (p (first_or k (cond b (x ∷ filter p xs) (filter p xs))) ≡ true)
+    go : (b : Bool) → p x ≡ b → (first_or k (filter p xs) ≡ k)
+        ⊎ (p (first_or k (filter p xs)) ≡ true)
+        → (first_or k (cond b (x ∷ filter p xs) (filter p xs)) ≡ k)
+        ⊎ (p (first_or k (cond b (x ∷ filter p xs) (filter p xs))) ≡ true)
     go true e c = inr e
     go false e c = c
 
@@ -75,7 +90,8 @@ first_in : (p : ℕ → Bool) (xs : List ℕ) (v : ℕ) → first_member (filter
 first_in p [] v h = absurd (cc)
 first_in p (x ∷ xs) v h = go (p x) refl h (first_in p xs v)
   where
-    go : (b : Bool) → p x ≡ b → first_member (cond b (x ∷ filter p xs) (filter p xs)) ≡ Some v → (first_member (filter p xs) ≡ Some v → p v ≡ true) → p v ≡ true
+    go : (b : Bool) → p x ≡ b → first_member (cond b (x ∷ filter p xs) (filter p xs)) ≡ Some v
+        → (first_member (filter p xs) ≡ Some v → p v ≡ true) → p v ≡ true
     go true e l ih = let same : x ≡ v = cc in ap p (sym same) ∙ e
     go false e l ih = ih l
 

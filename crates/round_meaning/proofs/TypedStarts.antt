@@ -31,16 +31,21 @@ module _ (p : ProgramTree) (few : p.values ≤ 64) (y : List ℕ) (n t x i : ℕ
     variables = λ z. subst (λ o. Suits p.values None o) (sym (no_values p.variables z)) tt;
   }
 
-  begin_typed : (k : VariableKind) → StartsWith y k → HasType p.values (kind_type k) (begins start_env x k)
+  begin_typed : (k : VariableKind) → StartsWith y k
+      → HasType p.values (kind_type k) (begins start_env x k)
   begin_typed Input start = tt
   begin_typed (State r e) start = value_typed e _ start_env r start_fits start
 
-  begins_typed : (ds : List Variable) → All (λ (v : Variable). StartsWith y v.kind) ds → IsState p.values ds (map (λ (d : Variable). begins start_env x d.kind) ds)
+  begins_typed : (ds : List Variable) → All (λ (v : Variable). StartsWith y v.kind) ds
+      → IsState p.values ds (map (λ (d : Variable). begins start_env x d.kind) ds)
   begins_typed [] start = tt
-  begins_typed (d ∷ ds) start =
-      (begin_typed d.kind (All-head (λ (v : Variable). StartsWith y v.kind) d ds start), begins_typed ds (λ k e l. start (suc k) e (omega (arith, l))))
+  begins_typed (d ∷ ds) start = (
+    begin_typed d.kind (All-head (λ (v : Variable). StartsWith y v.kind) d ds start),
+    begins_typed ds (λ k e l. start (suc k) e (omega (arith, l))),
+  )
 
 -- what a node begins with is a state of the program
-pub start_typed : (p : ProgramTree) → is_typed p ≡ true → p.values ≤ 64 → (n t x i : ℕ) → IsStateOf p (initial p n t x i)
+pub start_typed : (p : ProgramTree) → is_typed p ≡ true → p.values ≤ 64 → (n t x i : ℕ)
+    → IsStateOf p (initial p n t x i)
 start_typed p typed few n t x i =
     begins_typed p few (input_name p) n t x i p.variables (starts_typed p typed)

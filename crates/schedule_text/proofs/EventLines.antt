@@ -17,12 +17,20 @@ use Rattle.schedule_text.specs.Writing.{copy_ending, event_line, line_text, name
 
 -- a number of 32 bits has 10 digits at most
 pub few_digits : (n : ℕ) → IsSmall n → length (decimal n) ≤ 10
-few_digits n small = length-decimal-le 10 n (omega arith) (omega (arith, small)) (omega (arith, small))
+few_digits n small = length-decimal-le 10 n (omega arith) (omega (arith, small))
+    (omega (arith, small))
 
 -- so many bytes more, where a number and a byte follow
-pub number_short : (text new : List ℕ) (n end : ℕ) → IsSmall n → new ≡ text ++ (decimal n ++ end ∷ []) → length new ≤ length text + 11
+pub number_short : (text new : List ℕ) (n end : ℕ) → IsSmall n
+    → new ≡ text ++ (decimal n ++ end ∷ []) → length new ≤ length text + 11
 number_short text new n end small e =
-    omega (arith, ap length e, length-append text (decimal n ++ end ∷ []), length-append (decimal n) (end ∷ []), few_digits n small)
+    omega (
+      arith,
+      ap length e,
+      length-append text (decimal n ++ end ∷ []),
+      length-append (decimal n) (end ∷ []),
+      few_digits n small,
+    )
 
 ascii_from_test : (bs : List ℕ) → list_all (λ b. leb b 127) bs ≡ true → IsAscii bs
 ascii_from_test [] h = IsAscii-nil
@@ -38,14 +46,16 @@ number_ascii start n ascii small =
 space_ascii : (text : List ℕ) → IsAscii text → IsAscii (text ++ 32 ∷ [])
 space_ascii text ascii = IsAscii-append text (32 ∷ []) ascii (ascii_from_test (32 ∷ []) refl)
 
-name_ascii : (start : List ℕ) (m : Name) → IsAscii start → IsSmallName m → IsAscii (name_line start m)
+name_ascii : (start : List ℕ) (m : Name) → IsAscii start → IsSmallName m
+    → IsAscii (name_line start m)
 name_ascii start m ascii small =
     let from = number_ascii start m.from ascii small.0 in
     let to = number_ascii _ m.to (space_ascii _ from) small.1 in
     number_ascii _ m.round (space_ascii _ to) small.2
 
 behind_space : (n : ℕ) → IsSmall n → IsAscii (32 ∷ decimal n)
-behind_space n small = IsAscii-cons 32 (decimal n) (omega arith) (IsAscii-decimal n (omega (arith, small)))
+behind_space n small = IsAscii-cons 32 (decimal n) (omega arith)
+    (IsAscii-decimal n (omega (arith, small)))
 
 ending_ascii : (n : ℕ) → IsSmall n → IsAscii (copy_ending n)
 ending_ascii n small = go (eqb n 0)
@@ -57,13 +67,21 @@ ending_ascii n small = go (eqb n 0)
 event_ascii : (e : Event) → IsSmallEvent e → IsAscii (event_line e)
 event_ascii (Step i) h = number_ascii (codes "step ") i (ascii_from_test (codes "step ") refl) h
 event_ascii (Release m) h =
-    IsAscii-append (name_line (codes "release ") m) (copy_ending m.copy) (name_ascii (codes "release ") m (ascii_from_test (codes "release ") refl) h) (ending_ascii m.copy h.3)
+    IsAscii-append (name_line (codes "release ") m) (copy_ending m.copy)
+    (name_ascii (codes "release ") m (ascii_from_test (codes "release ") refl) h)
+    (ending_ascii m.copy h.3)
 event_ascii (Drop m) h =
-    IsAscii-append (name_line (codes "drop ") m) (copy_ending m.copy) (name_ascii (codes "drop ") m (ascii_from_test (codes "drop ") refl) h) (ending_ascii m.copy h.3)
+    IsAscii-append (name_line (codes "drop ") m) (copy_ending m.copy)
+    (name_ascii (codes "drop ") m (ascii_from_test (codes "drop ") refl) h)
+    (ending_ascii m.copy h.3)
 event_ascii (Copy m) h =
-    IsAscii-append (name_line (codes "copy ") m) (32 ∷ decimal m.copy) (name_ascii (codes "copy ") m (ascii_from_test (codes "copy ") refl) h) (behind_space m.copy h.3)
+    IsAscii-append (name_line (codes "copy ") m) (32 ∷ decimal m.copy)
+    (name_ascii (codes "copy ") m (ascii_from_test (codes "copy ") refl) h)
+    (behind_space m.copy h.3)
 
 -- an event's line is UTF-8
 pub line_utf8 : (e : Event) → IsSmallEvent e → IsUtf8 (line_text (event_line e))
 line_utf8 e small =
-    IsUtf8-from_ascii (line_text (event_line e)) (IsAscii-append (event_line e) (10 ∷ []) (event_ascii e small) (ascii_from_test (10 ∷ []) refl))
+    IsUtf8-from_ascii (line_text (event_line e))
+    (IsAscii-append (event_line e) (10 ∷ []) (event_ascii e small)
+    (ascii_from_test (10 ∷ []) refl))

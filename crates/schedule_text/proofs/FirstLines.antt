@@ -38,17 +38,20 @@ module _ {text rest : List ℕ} {end v : ℕ} (n : IsNumberBefore text end v res
   plain = plain_digits n.digits (all_digits n.digits n.number)
 
   alone : numbers_in n.digits ≡ Some (v ∷ [])
-  alone = numbers-alone n.digits n.number (all_digits n.digits n.number) ∙ ap (λ v. Some (v ∷ [])) (sym n.value)
+  alone = numbers-alone n.digits n.number (all_digits n.digits n.number)
+      ∙ ap (λ v. Some (v ∷ [])) (sym n.value)
 
   shorter : length rest < length text
   shorter = omega (arith, ap length n.parts, length-append n.digits (end ∷ rest))
 
 -- `step I`
-step_event : (ds : List ℕ) (v : ℕ) → numbers_in ds ≡ Some (v ∷ []) → v ≤ max_number → event_of (codes "step " ++ ds) ≡ Ok (Step v)
+step_event : (ds : List ℕ) (v : ℕ) → numbers_in ds ≡ Some (v ∷ []) → v ≤ max_number
+    → event_of (codes "step " ++ ds) ≡ Ok (Step v)
 unfolding event_of after
 step_event ds v h small = ap step_of h ∙ (let t = small_test v small in rw t refl)
 
-pub front_step : (text rest : List ℕ) (v : ℕ) → IsNumberBefore text 10 v rest → IsFrontEvent (codes "step " ++ text) (Step v) rest
+pub front_step : (text rest : List ℕ) (v : ℕ) → IsNumberBefore text 10 v rest
+    → IsFrontEvent (codes "step " ++ text) (Step v) rest
 front_step text rest v n = record {
   line = codes "step " ++ n.digits;
   first =
@@ -59,28 +62,48 @@ front_step text rest v n = record {
 }
 
 -- `release J I R`
-release_event : (xs ys zs : List ℕ) (j i r : ℕ) → numbers_in (xs ++ 32 ∷ (ys ++ 32 ∷ zs)) ≡ Some (j ∷ i ∷ r ∷ []) → j ≤ max_number → i ≤ max_number → r ≤ max_number → event_of (codes "release " ++ (xs ++ 32 ∷ (ys ++ 32 ∷ zs))) ≡ Ok (Release (record { from = j; to = i; round = r; copy = 0 }))
+release_event : (xs ys zs : List ℕ) (j i r : ℕ)
+    → numbers_in (xs ++ 32 ∷ (ys ++ 32 ∷ zs)) ≡ Some (j ∷ i ∷ r ∷ []) → j ≤ max_number
+    → i ≤ max_number → r ≤ max_number
+    → event_of (codes "release " ++ (xs ++ 32 ∷ (ys ++ 32 ∷ zs)))
+    ≡ Ok (Release (record { from = j; to = i; round = r; copy = 0 }))
 unfolding event_of after
 release_event xs ys zs j i r h small-j small-i small-r =
-    ap release_of h ∙ (let tj = small_test j small-j in let ti = small_test i small-i in let tr = small_test r small-r in rw (tj, ti, tr) refl)
+    ap release_of h ∙ (let tj = small_test j small-j in let ti = small_test i small-i in
+    let tr = small_test r small-r in rw (tj, ti, tr) refl)
 
-regroup : (xs ys zs rest : List ℕ) → xs ++ 32 ∷ (ys ++ 32 ∷ (zs ++ 10 ∷ rest)) ≡ ((xs ++ 32 ∷ (ys ++ 32 ∷ zs)) ++ 10 ∷ []) ++ rest
+regroup : (xs ys zs rest : List ℕ)
+    → xs ++ 32 ∷ (ys ++ 32 ∷ (zs ++ 10 ∷ rest)) ≡ ((xs ++ 32 ∷ (ys ++ 32 ∷ zs)) ++ 10 ∷ []) ++ rest
 regroup xs ys zs rest = simp append_assoc
 
-pub front_release : (text behind_from behind_to rest : List ℕ) (j i r : ℕ) → IsNumberBefore text 32 j behind_from → IsNumberBefore behind_from 32 i behind_to → IsNumberBefore behind_to 10 r rest → IsFrontEvent (codes "release " ++ text) (Release (record { from = j; to = i; round = r; copy = 0 })) rest
+pub front_release : (text behind_from behind_to rest : List ℕ) (j i r : ℕ)
+    → IsNumberBefore text 32 j behind_from → IsNumberBefore behind_from 32 i behind_to
+    → IsNumberBefore behind_to 10 r rest
+    → IsFrontEvent (codes "release " ++ text)
+    (Release (record { from = j; to = i; round = r; copy = 0 })) rest
 front_release text behind_from behind_to rest j i r a b c =
     let numbers = a.digits ++ 32 ∷ (b.digits ++ 32 ∷ c.digits) in
     let behind = b.parts ∙ ap (λ t. b.digits ++ 32 ∷ t) c.parts in
-    let whole = a.parts ∙ ap (λ t. a.digits ++ 32 ∷ t) behind ∙ regroup a.digits b.digits c.digits rest in
-    let two = numbers-more b.digits c.digits b.number (all_digits b.digits b.number) ∙ ap (λ o. option_map (λ vs. value_of b.digits ∷ vs) o) (alone c) in
-    let three = numbers-more a.digits (b.digits ++ 32 ∷ c.digits) a.number (all_digits a.digits a.number) ∙ ap (λ o. option_map (λ vs. value_of a.digits ∷ vs) o) two in
-    let values : numbers_in numbers ≡ Some (j ∷ i ∷ r ∷ []) = three ∙ ap (λ v. Some (v ∷ value_of b.digits ∷ r ∷ [])) (sym a.value) ∙ ap (λ v. Some (j ∷ v ∷ r ∷ [])) (sym b.value) in
-    let shown : is_plain numbers ≡ true = plain-append a.digits (32 ∷ (b.digits ++ 32 ∷ c.digits)) (plain a) (plain-append (32 ∷ b.digits) (32 ∷ c.digits) (plain b) (plain c)) in
+    let whole = a.parts ∙ ap (λ t. a.digits ++ 32 ∷ t) behind
+    ∙ regroup a.digits b.digits c.digits rest in
+    let two = numbers-more b.digits c.digits b.number (all_digits b.digits b.number)
+    ∙ ap (λ o. option_map (λ vs. value_of b.digits ∷ vs) o) (alone c) in
+    let three = numbers-more a.digits (b.digits ++ 32 ∷ c.digits) a.number
+    (all_digits a.digits a.number)
+    ∙ ap (λ o. option_map (λ vs. value_of a.digits ∷ vs) o) two in
+    let values : numbers_in numbers ≡ Some (j ∷ i ∷ r ∷ []) = three
+    ∙ ap (λ v. Some (v ∷ value_of b.digits ∷ r ∷ [])) (sym a.value)
+    ∙ ap (λ v. Some (j ∷ v ∷ r ∷ [])) (sym b.value) in
+    let shown : is_plain numbers ≡ true =
+    plain-append a.digits (32 ∷ (b.digits ++ 32 ∷ c.digits)) (plain a)
+    (plain-append (32 ∷ b.digits) (32 ∷ c.digits) (plain b) (plain c)) in
     record {
       line = codes "release " ++ numbers;
-      first = ap (λ t. lines (codes "release " ++ t)) whole ∙ lines-first (codes "release " ++ numbers) rest shown;
+      first = ap (λ t. lines (codes "release " ++ t)) whole
+          ∙ lines-first (codes "release " ++ numbers) rest shown;
       event = release_event a.digits b.digits c.digits j i r values a.small b.small c.small;
-      shorter = let la = shorter a in let lb = shorter b in let lc = shorter c in omega (arith, la, lb, lc);
+      shorter = let la = shorter a in let lb = shorter b in let lc = shorter c in
+          omega (arith, la, lb, lc);
     }
 
 -- what follows this beginning
@@ -88,11 +111,14 @@ pub after_parts : (start text rest : List ℕ) → after start text ≡ Some res
 unfolding after
 after_parts start text rest h = go (bytes_eq (take (length start) text) start) refl h
   where
-    go : (b : Bool) → b ≡ bytes_eq (take (length start) text) start → cond b (Some (drop (length start) text)) None ≡ Some rest → text ≡ start ++ rest
+    go : (b : Bool) → b ≡ bytes_eq (take (length start) text) start
+        → cond b (Some (drop (length start) text)) None ≡ Some rest → text ≡ start ++ rest
     go true is e =
-        let front : take (length start) text ≡ start = (bytes_eq-Decides (take (length start) text) start).0 (sym is) in
+        let front : take (length start) text ≡ start =
+        (bytes_eq-Decides (take (length start) text) start).0 (sym is) in
         let behind : drop (length start) text ≡ rest = cc in
-        sym (take-append-drop (length start) text) ∙ ap (λ l. l ++ drop (length start) text) front ∙ ap (λ l. start ++ l) behind
+        sym (take-append-drop (length start) text) ∙ ap (λ l. l ++ drop (length start) text) front
+        ∙ ap (λ l. start ++ l) behind
     go false is e = absurd cc
 
 not_other : (b : Bool) → not b ≡ true → b ≡ false
@@ -113,16 +139,21 @@ module _ (t : List ℕ) (n : ℕ) (n-is : n ≡ prefix_len (λ b. not (eqb b 10)
   pub lines_whole : n ≡ length t → 0 < length t → lines t ≡ t ∷ lines []
   lines_whole all some =
       let same : take n t ≡ t = take_all n t (omega (arith, all)) in
-      ap lines_of_parts (slice_split_none (λ b. eqb b 10) t (subst (All (λ b. eqb b 10 ≡ false)) same no_newline))
+      ap lines_of_parts (slice_split_none (λ b. eqb b 10) t
+      (subst (All (λ b. eqb b 10 ≡ false)) same no_newline))
       ∙ ap (λ b. cond b [] (t ∷ [])) (ne_eqb (length t) 0 (λ e. omega (arith, e, some)))
 
   pub lines_cut : n < length t → lines t ≡ strip_carriage_return (take n t) ∷ lines (drop (n + 1) t)
   lines_cut low =
       let stops = prefix_len_stops (λ b. not (eqb b 10)) t 0 (omega (arith, low, n-is)) in
       let at : get_or t n 0 ≡ 10 = ap (λ k. get_or t k 0) n-is ∙ eqb-true _ 10 (not_same _ stops) in
-      let parts = sym (take-append-drop n t) ∙ ap (λ l. take n t ++ l) (drop_more t n 0 low) ∙ ap (λ x. take n t ++ x ∷ drop (n + 1) t) at in
-      ap lines parts ∙ ap lines_of_parts (slice_split_at (λ b. eqb b 10) (take n t) 10 (drop (n + 1) t) no_newline refl)
-      ∙ parts_more (take n t) (slice_split (λ b. eqb b 10) (drop (n + 1) t)) (omega (arith, length-slice_split (λ b. eqb b 10) (drop (n + 1) t)))
+      let parts = sym (take-append-drop n t) ∙ ap (λ l. take n t ++ l) (drop_more t n 0 low)
+      ∙ ap (λ x. take n t ++ x ∷ drop (n + 1) t) at in
+      ap lines parts
+      ∙ ap lines_of_parts (slice_split_at (λ b. eqb b 10) (take n t) 10
+      (drop (n + 1) t) no_newline refl)
+      ∙ parts_more (take n t) (slice_split (λ b. eqb b 10) (drop (n + 1) t))
+      (omega (arith, length-slice_split (λ b. eqb b 10) (drop (n + 1) t)))
 
 -- an empty line and a comment are no events
 no_empty_event : (e : Event) → event_of [] ≡ Ok e → ⊥
@@ -134,13 +165,20 @@ unfolding event_of after
 no_comment_event bs e h = cc
 
 -- a line of an event, where the header is whole
-pub event_taken : (s : State) (n t r : ℕ) (p : PlanKind) (l : List ℕ) (e : Event) → s.stage ≡ Whole n t r p → event_of l ≡ Ok e → line_step Schedule s l ≡ Ok (record s { events = s.events ++ e ∷ [] })
+pub event_taken : (s : State) (n t r : ℕ) (p : PlanKind) (l : List ℕ) (e : Event)
+    → s.stage ≡ Whole n t r p → event_of l ≡ Ok e
+    → line_step Schedule s l ≡ Ok (record s { events = s.events ++ e ∷ [] })
 unfolding line_step
 event_taken s n t r p [] e stage h = absurd (no_empty_event e h)
 event_taken s n t r p (b ∷ bs) e stage h = go (eqb b 35) refl
   where
-    go : (is : Bool) → is ≡ eqb b 35 → cond (eqb b 35) (Ok s) (by_stage Schedule s.stage s (b ∷ bs)) ≡ Ok (record s { events = s.events ++ e ∷ [] })
-    go true is = absurd (no_comment_event bs e (ap (λ x. event_of (x ∷ bs)) (sym (eqb-true b 35 (sym is))) ∙ h))
+    go : (is : Bool) → is ≡ eqb b 35
+        → cond (eqb b 35) (Ok s) (by_stage Schedule s.stage s (b ∷ bs))
+        ≡ Ok (record s { events = s.events ++ e ∷ [] })
+    go true is =
+        absurd (no_comment_event bs e (ap (λ x. event_of (x ∷ bs)) (sym (eqb-true b 35 (sym is)))
+        ∙ h))
     go false is =
-        ap (λ c. cond c (Ok s) (by_stage Schedule s.stage s (b ∷ bs))) (sym is) ∙ ap (λ g. by_stage Schedule g s (b ∷ bs)) stage
+        ap (λ c. cond c (Ok s) (by_stage Schedule s.stage s (b ∷ bs))) (sym is)
+        ∙ ap (λ g. by_stage Schedule g s (b ∷ bs)) stage
         ∙ ap (λ x. mapped (λ e. record s { events = s.events ++ e ∷ [] }) x) h

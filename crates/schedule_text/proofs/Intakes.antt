@@ -19,18 +19,24 @@ use Rattle.schedule_text.specs.declared.source.TextFault.TheVariants as fault
 use Rattle.slot_plans.specs.declared.kind.PlanKind.{PlanKind}
 
 -- all bytes are read
-pub said_all : (i j : Intake) (n : ℕ) → length i.bytes.items ≤ n → ((behind : List (List ℕ)) → said i (lines (take n i.bytes.items) ++ behind) ≡ said j behind) → said i (lines i.bytes.items) ≡ said j []
+pub said_all : (i j : Intake) (n : ℕ) → length i.bytes.items ≤ n
+    → ((behind : List (List ℕ)) → said i (lines (take n i.bytes.items) ++ behind) ≡ said j behind)
+    → said i (lines i.bytes.items) ≡ said j []
 said_all i j n all h =
     ap (λ b. said i (lines b)) (sym (take_all n i.bytes.items all))
     ∙ ap (λ ls. said i ls) (sym (append-nil (lines (take n i.bytes.items)))) ∙ h []
 
 -- no line is at fault
-pub said_last : (j : Intake) → j.fault ≡ None → said j [] ≡ answer_at_end schedules j.reader.number j.reader.draft.stage (state_of j.reader.draft)
+pub said_last : (j : Intake) → j.fault ≡ None
+    → said j [] ≡ answer_at_end schedules j.reader.number j.reader.draft.stage
+    (state_of j.reader.draft)
 unfolding from_line
 said_last j none = ap (λ f. says j.reader f []) none
 
 -- the header is whole at the end
-pub ends_whole : (bytes : List ℕ) (answer : Answer) (d : Draft) (k n t r : ℕ) (p : PlanKind) → IsUtf8 bytes → d.stage ≡ Whole n t r p → answer ≡ answer_at_end schedules k d.stage (state_of d) → EndsIntake (Ok tt) bytes answer d
+pub ends_whole : (bytes : List ℕ) (answer : Answer) (d : Draft) (k n t r : ℕ) (p : PlanKind)
+    → IsUtf8 bytes → d.stage ≡ Whole n t r p
+    → answer ≡ answer_at_end schedules k d.stage (state_of d) → EndsIntake (Ok tt) bytes answer d
 ends_whole bytes answer d k n t r p u whole is = (
   u,
   (
@@ -41,7 +47,8 @@ ends_whole bytes answer d k n t r p u whole is = (
 )
 
 -- a line is at fault
-pub ends_at : (bytes : List ℕ) (answer : Answer) (d : Draft) (e : ScheduleFault) → IsUtf8 bytes → answer ≡ Err e → EndsIntake (Err (fault.Schedule e)) bytes answer d
+pub ends_at : (bytes : List ℕ) (answer : Answer) (d : Draft) (e : ScheduleFault) → IsUtf8 bytes
+    → answer ≡ Err e → EndsIntake (Err (fault.Schedule e)) bytes answer d
 ends_at bytes answer d (schedule.BadLine n) u is = (u, is)
 ends_at bytes answer d (schedule.NumberTooLarge n) u is = (u, is)
 ends_at bytes answer d schedule.TooLong u is = (u, is)
@@ -52,10 +59,12 @@ no_fault None h = refl
 no_fault (Some e) h = absurd (h e refl)
 
 -- the header isn't whole at the end
-pub ends_short : (d : Draft) (k : ℕ) → ((n t r : ℕ) (p : PlanKind) → d.stage ≡ Whole n t r p → ⊥) → answer_at_end schedules k d.stage (state_of d) ≡ Err (schedule.BadLine k)
+pub ends_short : (d : Draft) (k : ℕ) → ((n t r : ℕ) (p : PlanKind) → d.stage ≡ Whole n t r p → ⊥)
+    → answer_at_end schedules k d.stage (state_of d) ≡ Err (schedule.BadLine k)
 ends_short d k h = go d.stage h
   where
-    go : (g : Stage) → ((n t r : ℕ) (p : PlanKind) → g ≡ Whole n t r p → ⊥) → answer_at_end schedules k g (state_of d) ≡ Err (schedule.BadLine k)
+    go : (g : Stage) → ((n t r : ℕ) (p : PlanKind) → g ≡ Whole n t r p → ⊥)
+        → answer_at_end schedules k g (state_of d) ≡ Err (schedule.BadLine k)
     go Start h = refl
     go (Nodes n) h = refl
     go (Faults n t) h = refl

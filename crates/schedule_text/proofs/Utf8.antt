@@ -14,7 +14,8 @@ pub utf8_behind : (a b : List ℕ) → IsUtf8 a → IsUtf8 (a ++ b) → IsUtf8 b
 utf8_behind a b front whole =
     let same : take (length a) (a ++ b) ≡ a = take_at a b (length a) refl in
     let within : length a ≤ length (a ++ b) = omega (arith, length-append a b) in
-    let at = IsCharBoundary-from_take (a ++ b) (length a) whole within (subst IsUtf8 (sym same) front) in
+    let at = IsCharBoundary-from_take (a ++ b) (length a) whole within
+    (subst IsUtf8 (sym same) front) in
     subst IsUtf8 (drop_at a b (length a) refl) (IsUtf8-drop (a ++ b) (length a) whole at)
 
 both_true : (x y : Bool) → (x ≡ true → y ≡ true) → (y ≡ true → x ≡ true) → x ≡ y
@@ -36,7 +37,8 @@ take_behind n (x ∷ a) b =
 all_of_front : (a b : List ℕ) → IsUtf8 a → valid_len_up_to (a ++ b) (length a) ≡ length a
 all_of_front [] b front = refl
 all_of_front (x ∷ a) b front =
-    let same : take (length (x ∷ a)) ((x ∷ a) ++ b) ≡ x ∷ a = take_at (x ∷ a) b (length (x ∷ a)) refl in
+    let same : take (length (x ∷ a)) ((x ∷ a) ++ b) ≡ x ∷ a =
+    take_at (x ∷ a) b (length (x ∷ a)) refl in
     ap (λ t. cond t (length (x ∷ a)) (valid_len_up_to ((x ∷ a) ++ b) (length a)))
     (ap is_utf8 same ∙ is_utf8-from_IsUtf8 (x ∷ a) front)
 
@@ -47,10 +49,13 @@ cond_more false n m l = refl
 none_more : (n : ℕ) → n ≡ 0 + n
 none_more n = omega arith
 
-step_up : (bs : List ℕ) (k n : ℕ) → k ≡ suc n → valid_len_up_to bs k ≡ cond (is_utf8 (take k bs)) k (valid_len_up_to bs n)
-step_up bs k n e = ap (valid_len_up_to bs) e ∙ sym (ap (λ j. cond (is_utf8 (take j bs)) j (valid_len_up_to bs n)) e)
+step_up : (bs : List ℕ) (k n : ℕ) → k ≡ suc n
+    → valid_len_up_to bs k ≡ cond (is_utf8 (take k bs)) k (valid_len_up_to bs n)
+step_up bs k n e = ap (valid_len_up_to bs) e
+    ∙ sym (ap (λ j. cond (is_utf8 (take j bs)) j (valid_len_up_to bs n)) e)
 
-up_to_behind : (n : ℕ) (a b : List ℕ) → IsUtf8 a → valid_len_up_to (a ++ b) (n + length a) ≡ valid_len_up_to b n + length a
+up_to_behind : (n : ℕ) (a b : List ℕ) → IsUtf8 a
+    → valid_len_up_to (a ++ b) (n + length a) ≡ valid_len_up_to b n + length a
 up_to_behind zero a b front =
     ap (valid_len_up_to (a ++ b)) {x = 0 + length a} {y = length a} (omega arith)
     ∙ all_of_front a b front ∙ none_more (length a)
@@ -64,7 +69,8 @@ up_to_behind (suc n) a b front =
 valid_behind : (a b : List ℕ) → IsUtf8 a → utf8_valid_len (a ++ b) ≡ utf8_valid_len b + length a
 unfolding utf8_valid_len
 valid_behind a b front =
-    ap (valid_len_up_to (a ++ b)) {x = length (a ++ b)} {y = length b + length a} (omega (arith, length-append a b))
+    ap (valid_len_up_to (a ++ b)) {x = length (a ++ b)} {y = length b + length a}
+    (omega (arith, length-append a b))
     ∙ up_to_behind (length b) a b front
 
 drop_behind : (n : ℕ) (a b : List ℕ) → drop (n + length a) (a ++ b) ≡ drop n b
@@ -73,9 +79,12 @@ drop_behind n (x ∷ a) b =
     ap (λ k. drop k (x ∷ (a ++ b))) {x = n + suc (length a)} {y = suc (n + length a)} (omega arith)
     ∙ drop_behind n a b
 
-fault_behind : (a b : List ℕ) → IsUtf8 a → utf8_error_len (drop (utf8_valid_len (a ++ b)) (a ++ b)) ≡ utf8_error_len (drop (utf8_valid_len b) b)
+fault_behind : (a b : List ℕ) → IsUtf8 a
+    → utf8_error_len (drop (utf8_valid_len (a ++ b)) (a ++ b))
+    ≡ utf8_error_len (drop (utf8_valid_len b) b)
 fault_behind a b front =
-    ap utf8_error_len (ap (λ n. drop n (a ++ b)) (valid_behind a b front) ∙ drop_behind (utf8_valid_len b) a b)
+    ap utf8_error_len (ap (λ n. drop n (a ++ b)) (valid_behind a b front)
+    ∙ drop_behind (utf8_valid_len b) a b)
 
 -- bytes behind a text begin one exactly where all of them do
 pub begins_all : (a b : List ℕ) → IsUtf8 a → BeginsUtf8 b → BeginsUtf8 (a ++ b)

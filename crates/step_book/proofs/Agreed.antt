@@ -28,7 +28,8 @@ use Rattle.step_book.proofs.Reading.{faithful}
 
 -- ---- the mark of one copy
 
-spoken_by : (w : World) (m : Option (List Value)) (f : Fate) → (f ≡ Unmade → ⊥) → IsSpoken m (marked w 0 m f)
+spoken_by : (w : World) (m : Option (List Value)) (f : Fate) → (f ≡ Unmade → ⊥)
+    → IsSpoken m (marked w 0 m f)
 spoken_by w m Unmade h = absurd (h refl)
 spoken_by w None Moving h = refl
 spoken_by w None (Waiting x) h = refl
@@ -39,7 +40,8 @@ spoken_by w (Some m) (Waiting x) h = tt
 spoken_by w (Some m) (Taken x c) h = tt
 spoken_by w (Some m) Lost h = tt
 
-silent_by : (w : World) (k : ℕ) (m : Option (List Value)) (f : Fate) → m ≡ None → marked w (suc k) m f ≡ mark.Unsent
+silent_by : (w : World) (k : ℕ) (m : Option (List Value)) (f : Fate) → m ≡ None
+    → marked w (suc k) m f ≡ mark.Unsent
 silent_by w k m Unmade h = refl
 silent_by w k None Moving h = refl
 silent_by w k None (Waiting x) h = refl
@@ -54,7 +56,8 @@ hushed_still : (k : ℕ) → hushed k ≡ mark.Flying → ⊥
 hushed_still zero h = cc
 hushed_still (suc k) h = cc
 
-flying_by : (w : World) (k : ℕ) (m : Option (List Value)) (f : Fate) → marked w k m f ≡ mark.Flying → (f ≡ Moving) × IsSome m
+flying_by : (w : World) (k : ℕ) (m : Option (List Value)) (f : Fate) → marked w k m f ≡ mark.Flying
+    → (f ≡ Moving) × IsSome m
 flying_by w k m Unmade h = cc
 flying_by w k None Moving h = absurd (hushed_still k h)
 flying_by w k None (Waiting x) h = absurd (hushed_still k h)
@@ -65,7 +68,8 @@ flying_by w k (Some m) (Waiting x) h = cc
 flying_by w k (Some m) (Taken x c) h = cc
 flying_by w k (Some m) Lost h = cc
 
-flies_by : (w : World) (k : ℕ) (m : Option (List Value)) → IsSome m → marked w k m Moving ≡ mark.Flying
+flies_by : (w : World) (k : ℕ) (m : Option (List Value)) → IsSome m
+    → marked w k m Moving ≡ mark.Flying
 flies_by w k None h = cc
 flies_by w k (Some m) h = refl
 
@@ -88,40 +92,55 @@ at_most_one false n h = omega arith
 
 -- ---- by places, over the reversed history
 
-module _ {start : ℕ → ℕ} {nodes : ℕ} {v : Log} {counts : List ℕ} {tables : List (List Mark)} {waiting : List (List Name)} {handed : List (List (List Name))} {answers : List Bool} {messages : List Name} (h : IsBookOf start nodes v counts tables waiting handed answers messages) where
+module _ {start : ℕ → ℕ} {nodes : ℕ} {v : Log} {counts : List ℕ} {tables : List (List Mark)}
+    {waiting : List (List Name)} {handed : List (List (List Name))} {answers : List Bool}
+    {messages : List Name}
+    (h : IsBookOf start nodes v counts tables waiting handed answers messages) where
   own_list : reverse (history v) ≡ v.trace
   own_list = reverse-reverse v.trace
 
   abbrev fate_in : Name → Fate
   fate_in n = fate (world_of start v) (history v) n
 
-  mark_as : (n : Name) → mark_in start v n ≡ marked (world_of start v) n.copy (message_sent start v n) (fate_in n)
+  mark_as : (n : Name)
+      → mark_in start v n ≡ marked (world_of start v) n.copy (message_sent start v n) (fate_in n)
   mark_as n = mark_is (world_of start v) (history v) n
 
-  to_made : (n : Name) (p : ℕ) → IsMadeAt (world_of start v) v.trace n p → IsMadeAt (world_of start v) (reverse (history v)) n p
+  to_made : (n : Name) (p : ℕ) → IsMadeAt (world_of start v) v.trace n p
+      → IsMadeAt (world_of start v) (reverse (history v)) n p
   to_made n p m = subst (λ z. IsMadeAt (world_of start v) z n p) (sym own_list) m
 
-  agreed_spoken : (n : Name) (p : ℕ) → IsName v.setup n → n.copy ≡ 0 → IsSlotAt (world_of start v) v.trace n p → IsSpoken (message_sent start v n) (mark_in start v n)
+  agreed_spoken : (n : Name) (p : ℕ) → IsName v.setup n → n.copy ≡ 0
+      → IsSlotAt (world_of start v) v.trace n p
+      → IsSpoken (message_sent start v n) (mark_in start v n)
   agreed_spoken n p l c s =
       let made = made_found (world_of start v) (history v) n p (to_made n p (Sent c s)) in
-      subst (λ z. IsSpoken (message_sent start v n) z) (sym (mark_as n ∙ ap (λ k. marked (world_of start v) k (message_sent start v n) (fate_in n)) c))
+      subst (λ z. IsSpoken (message_sent start v n) z)
+      (sym (mark_as n
+      ∙ ap (λ k. marked (world_of start v) k (message_sent start v n) (fate_in n)) c))
       (spoken_by (world_of start v) (message_sent start v n) (fate_in n) made)
 
-  agreed_unsent : (n : Name) → IsName v.setup n → ((p : ℕ) → IsMadeAt (world_of start v) v.trace n p → ⊥) → mark_in start v n ≡ mark.Unsent
+  agreed_unsent : (n : Name) → IsName v.setup n
+      → ((p : ℕ) → IsMadeAt (world_of start v) v.trace n p → ⊥) → mark_in start v n ≡ mark.Unsent
   agreed_unsent n l none =
       mark_as n
-      ∙ ap (marked (world_of start v) n.copy (message_sent start v n)) (unmade_found (world_of start v) (history v) n (λ a m. none a (subst (λ z. IsMadeAt (world_of start v) z n a) own_list m)))
+      ∙ ap (marked (world_of start v) n.copy (message_sent start v n))
+      (unmade_found (world_of start v) (history v) n
+      (λ a m. none a (subst (λ z. IsMadeAt (world_of start v) z n a) own_list m)))
 
-  agreed_uncopied : (n : Name) → IsName v.setup n → 0 < n.copy → message_sent start v n ≡ None → mark_in start v n ≡ mark.Unsent
+  agreed_uncopied : (n : Name) → IsName v.setup n → 0 < n.copy → message_sent start v n ≡ None
+      → mark_in start v n ≡ mark.Unsent
   agreed_uncopied n l other none =
       let e : n.copy ≡ suc (n.copy - 1) = omega arith in
-      mark_as n ∙ ap (λ k. marked (world_of start v) k (message_sent start v n) (fate_in n)) e ∙ silent_by (world_of start v) (n.copy - 1) (message_sent start v n) (fate_in n) none
+      mark_as n ∙ ap (λ k. marked (world_of start v) k (message_sent start v n) (fate_in n)) e
+      ∙ silent_by (world_of start v) (n.copy - 1) (message_sent start v n) (fate_in n) none
 
   flies_to : (n : Name) → mark_in start v n ≡ mark.Flying → IsInFlight start v n
   flies_to n e =
       let w = world_of start v in
       let x = flying_by w n.copy (message_sent start v n) (fate_in n) (sym (mark_as n) ∙ e) in
-      let p : IsMoving w v.trace n = subst (λ z. IsMoving w z n) own_list (subst (λ (f : Fate). Placed w (reverse (history v)) n f) x.0 (placed w (history v) n)) in
+      let p : IsMoving w v.trace n = subst (λ z. IsMoving w z n) own_list
+      (subst (λ (f : Fate). Placed w (reverse (history v)) n f) x.0 (placed w (history v) n)) in
       record { a = p.a; made = p.made; message = x.1; none = p.none }
 
   flies_from : (n : Name) → IsInFlight start v n → mark_in start v n ≡ mark.Flying
@@ -129,26 +148,52 @@ module _ {start : ℕ → ℕ} {nodes : ℕ} {v : Log} {counts : List ℕ} {tabl
       let w = world_of start v in
       let p : IsMoving w v.trace n = record { a = f.a; made = f.made; none = f.none } in
       mark_as n
-      ∙ ap (marked w n.copy (message_sent start v n)) (moving_found w (history v) n (subst (λ z. IsMoving w z n) (sym own_list) p))
+      ∙ ap (marked w n.copy (message_sent start v n))
+      (moving_found w (history v) n (subst (λ z. IsMoving w z n) (sym own_list) p))
       ∙ flies_by w n.copy (message_sent start v n) f.message
 
-  buffered_to : (n : Name) → is_buffered (world_of start v) (history v) n ≡ true → IsInBuffer start v n
+  buffered_to : (n : Name) → is_buffered (world_of start v) (history v) n ≡ true
+      → IsInBuffer start v n
   buffered_to n e =
       let w = world_of start v in
-      let both : (is_waiting (fate_in n) ≡ true) × (is_some (message_sent start v n) ≡ true) = and_parts _ _ e in
+      let both : (is_waiting (fate_in n) ≡ true) × (is_some (message_sent start v n) ≡ true) =
+      and_parts _ _ e in
       let x = waiting_by (fate_in n) both.0 in
-      let p : IsWaiting w v.trace n x.0 = subst (λ z. IsWaiting w z n x.0) own_list (subst (λ (f : Fate). Placed w (reverse (history v)) n f) x.1 (placed w (history v) n)) in
-      record { a = p.a; b = p.b; made = p.made; message = both.1; leaves = p.leaves; release = p.release; none = p.none }
+      let p : IsWaiting w v.trace n x.0 =
+      subst (λ z. IsWaiting w z n x.0) own_list
+      (subst (λ (f : Fate). Placed w (reverse (history v)) n f) x.1 (placed w (history v) n)) in
+      record {
+        a = p.a;
+        b = p.b;
+        made = p.made;
+        message = both.1;
+        leaves = p.leaves;
+        release = p.release;
+        none = p.none;
+      }
 
-  buffered_from : (n : Name) → IsInBuffer start v n → is_buffered (world_of start v) (history v) n ≡ true
+  buffered_from : (n : Name) → IsInBuffer start v n
+      → is_buffered (world_of start v) (history v) n ≡ true
   buffered_from n f =
       let w = world_of start v in
-      let p : IsWaiting w v.trace n (steps_before v.trace n.to f.b) = record { a = f.a; b = f.b; made = f.made; leaves = f.leaves; release = f.release; count = refl; none = f.none } in
+      let p : IsWaiting w v.trace n (steps_before v.trace n.to f.b) =
+      record {
+        a = f.a;
+        b = f.b;
+        made = f.made;
+        leaves = f.leaves;
+        release = f.release;
+        count = refl;
+        none = f.none;
+      } in
       and_from _ _
-      (ap is_waiting (waiting_found w (history v) n (steps_before v.trace n.to f.b) (subst (λ z. IsWaiting w z n (steps_before v.trace n.to f.b)) (sym own_list) p)))
+      (ap is_waiting (waiting_found w (history v) n (steps_before v.trace n.to f.b)
+      (subst (λ z. IsWaiting w z n (steps_before v.trace n.to f.b)) (sym own_list) p)))
       f.message
 
-  counted : (n : Name) → IsName v.setup n → count_by (is_name n) (waiting_in start v n.to) ≡ (if is_buffered (world_of start v) (history v) n then 1 else 0)
+  counted : (n : Name) → IsName v.setup n
+      → count_by (is_name n) (waiting_in start v n.to)
+      ≡ (if is_buffered (world_of start v) (history v) n then 1 else 0)
   counted n l = buffer_counts (world_of start v) h.plan (history v) n l.first l.last
 
   -- what the journal answers is what the run in rounds says
@@ -157,8 +202,10 @@ module _ {start : ℕ → ℕ} {nodes : ℕ} {v : Log} {counts : List ℕ} {tabl
       let all = faithful h in
       record {
         omissions = λ n l. (
-          λ e. subst (λ z. IsCarried (world_of start v) z n) own_list (carried_place (world_of start v) (history v) n e),
-          λ f. carried_found (world_of start v) (history v) n (subst (λ z. IsCarried (world_of start v) z n) (sym own_list) f),
+          λ e. subst (λ z. IsCarried (world_of start v) z n) own_list
+              (carried_place (world_of start v) (history v) n e),
+          λ f. carried_found (world_of start v) (history v) n
+              (subst (λ z. IsCarried (world_of start v) z n) (sym own_list) f),
         );
         spoken = agreed_spoken;
         unsent = agreed_unsent;
@@ -180,7 +227,8 @@ module _ {start : ℕ → ℕ} {nodes : ℕ} {v : Log} {counts : List ℕ} {tabl
           let all = faithful h in
           let bound = all.bounded i l in
           let past = all.past i l in
-          let up = start_le (world_of start v) h.plan (r + 1) (round_of v i) (omega arith) (omega arith) in
+          let up = start_le (world_of start v) h.plan (r + 1) (round_of v i) (omega arith)
+          (omega arith) in
           record { first = low; last = omega arith; over = omega arith }
 
       due_near : (i r : ℕ) → i < v.setup.nodes → IsDueRound start v i r → r ≤ round_of v i
@@ -193,6 +241,7 @@ module _ {start : ℕ → ℕ} {nodes : ℕ} {v : Log} {counts : List ℕ} {tabl
               let over = d.over in
               let first = d.first in
               let near = (faithful h).near i l (omega arith) in
-              let up = start_le (world_of start v) h.plan (round_of v i + 1) r (omega arith) (omega arith) in
+              let up = start_le (world_of start v) h.plan (round_of v i + 1) r (omega arith)
+              (omega arith) in
               let long = h.plan.next r (omega arith) in
               absurd (omega arith)

@@ -20,7 +20,8 @@ storable_name s h n a = record {
   copy = let copy = a.copy in omega arith;
 }
 
-pub name_same : (n m : Name) → n.from ≡ m.from → n.to ≡ m.to → n.round ≡ m.round → n.copy ≡ m.copy → n ≡ m
+pub name_same : (n m : Name) → n.from ≡ m.from → n.to ≡ m.to → n.round ≡ m.round → n.copy ≡ m.copy
+    → n ≡ m
 name_same n m a b c d =
     ap (λ x. record { from = x; to = n.to; round = n.round; copy = n.copy }) a
     ∙ ap (λ x. record { from = m.from; to = x; round = n.round; copy = n.copy }) b
@@ -28,19 +29,26 @@ name_same n m a b c d =
     ∙ ap (λ x. record { from = m.from; to = m.to; round = m.round; copy = x }) d
 
 pub own_name : (n : Name) → is_name n n ≡ true
-own_name n = and_from _ _ (and_from _ _ (and_from _ _ (eq-eqb n.from n.from refl) (eq-eqb n.to n.to refl)) (eq-eqb n.round n.round refl)) (eq-eqb n.copy n.copy refl)
+own_name n =
+    and_from _ _ (and_from _ _ (and_from _ _ (eq-eqb n.from n.from refl) (eq-eqb n.to n.to refl))
+    (eq-eqb n.round n.round refl)) (eq-eqb n.copy n.copy refl)
 
 pub one_name : (n m : Name) → is_name n m ≡ true → m ≡ n
 one_name n m h =
-    let outer : ((m.from == n.from && m.to == n.to && m.round == n.round) ≡ true) × ((m.copy == n.copy) ≡ true) = and_parts _ _ h in
-    let middle : ((m.from == n.from && m.to == n.to) ≡ true) × ((m.round == n.round) ≡ true) = and_parts _ _ outer.0 in
+    let outer : ((m.from == n.from && m.to == n.to && m.round == n.round) ≡ true)
+    × ((m.copy == n.copy) ≡ true) = and_parts _ _ h in
+    let middle : ((m.from == n.from && m.to == n.to) ≡ true)
+    × ((m.round == n.round) ≡ true) = and_parts _ _ outer.0 in
     let inner : ((m.from == n.from) ≡ true) × ((m.to == n.to) ≡ true) = and_parts _ _ middle.0 in
-    name_same m n (eqb-true _ _ inner.0) (eqb-true _ _ inner.1) (eqb-true _ _ middle.1) (eqb-true _ _ outer.1)
+    name_same m n (eqb-true _ _ inner.0) (eqb-true _ _ inner.1) (eqb-true _ _ middle.1)
+    (eqb-true _ _ outer.1)
 
 pub other_name : (n m : Name) → (m ≡ n → ⊥) → is_name n m ≡ false
 other_name n m apart = false_from_ne_true _ (λ h. apart (one_name n m h))
 
-name_cases_by : (n m : Name) → (n.from ≡ m.from) ⊎ (n.from ≡ m.from → ⊥) → (n.to ≡ m.to) ⊎ (n.to ≡ m.to → ⊥) → (n.round ≡ m.round) ⊎ (n.round ≡ m.round → ⊥) → (n.copy ≡ m.copy) ⊎ (n.copy ≡ m.copy → ⊥) → (n ≡ m) ⊎ (n ≡ m → ⊥)
+name_cases_by : (n m : Name) → (n.from ≡ m.from) ⊎ (n.from ≡ m.from → ⊥)
+    → (n.to ≡ m.to) ⊎ (n.to ≡ m.to → ⊥) → (n.round ≡ m.round) ⊎ (n.round ≡ m.round → ⊥)
+    → (n.copy ≡ m.copy) ⊎ (n.copy ≡ m.copy → ⊥) → (n ≡ m) ⊎ (n ≡ m → ⊥)
 name_cases_by n m (inl a) (inl b) (inl c) (inl d) = inl (name_same n m a b c d)
 name_cases_by n m (inr a) b c d = inr (λ e. a (ap (λ (x : Name). x.from) e))
 name_cases_by n m (inl a) (inr b) c d = inr (λ e. b (ap (λ (x : Name). x.to) e))
@@ -56,9 +64,23 @@ pub is_original : (n : Name) → n.copy ≡ 0 → original n ≡ n
 is_original n h = name_same (original n) n refl refl refl (sym h)
 
 -- the original of a name of a run is one too
-pub original_named : (nodes rounds : ℕ) (n : Name) → IsNameOf nodes rounds n → IsNameOf nodes rounds (original n)
-original_named nodes rounds n h = record { from = h.from; to = h.to; first = h.first; last = h.last; copy = omega arith }
+pub original_named : (nodes rounds : ℕ) (n : Name) → IsNameOf nodes rounds n
+    → IsNameOf nodes rounds (original n)
+original_named nodes rounds n h = record {
+  from = h.from;
+  to = h.to;
+  first = h.first;
+  last = h.last;
+  copy = omega arith;
+}
 
 -- and so is each of its copies
-pub copy_named : (nodes rounds k : ℕ) (n : Name) → k ≤ 3 → IsNameOf nodes rounds n → IsNameOf nodes rounds (record n { copy = k })
-copy_named nodes rounds k n l h = record { from = h.from; to = h.to; first = h.first; last = h.last; copy = l }
+pub copy_named : (nodes rounds k : ℕ) (n : Name) → k ≤ 3 → IsNameOf nodes rounds n
+    → IsNameOf nodes rounds (record n { copy = k })
+copy_named nodes rounds k n l h = record {
+  from = h.from;
+  to = h.to;
+  first = h.first;
+  last = h.last;
+  copy = l;
+}

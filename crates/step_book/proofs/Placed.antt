@@ -67,19 +67,31 @@ is_it_copy n e h = ap (is_copy n) h ∙ own_name n
 
 -- ---- receives by rounds
 
-receive_round_by : (w : World) (n x : ℕ) → suc n ≤ w.rounds → (receives_by w n x ≡ true) ⊎ (receives_in w (suc n) x ≡ true) → (receives_by w n x ≡ true → (r : ℕ) × IsReceiveOf w r x) → (r : ℕ) × IsReceiveOf w r x
+receive_round_by : (w : World) (n x : ℕ) → suc n ≤ w.rounds
+    → (receives_by w n x ≡ true) ⊎ (receives_in w (suc n) x ≡ true)
+    → (receives_by w n x ≡ true → (r : ℕ) × IsReceiveOf w r x) → (r : ℕ) × IsReceiveOf w r x
 receive_round_by w n x l (inl old) f = f old
 receive_round_by w n x l (inr new) f =
-    let both : (◌≡◌ {A = Bool} _ true) × (◌≡◌ {A = Bool} _ true) = and_parts _ _ new in
-    (suc n, record { first = omega arith; last = l; after_sends = leb-true (w.start (suc n) + nodes_of w) x both.0; before_end = ltb-true x (w.start (suc n + 1)) both.1 })
+    let both : (◌≡◌ {A = Bool} _ true) × (◌≡◌ {A = Bool} _ true) = and_parts _ _ new in (
+      suc n,
+      record {
+        first = omega arith;
+        last = l;
+        after_sends = leb-true (w.start (suc n) + nodes_of w) x both.0;
+        before_end = ltb-true x (w.start (suc n + 1)) both.1;
+      },
+    )
 
-receive_round : (w : World) (n x : ℕ) → n ≤ w.rounds → receives_by w n x ≡ true → (r : ℕ) × IsReceiveOf w r x
+receive_round : (w : World) (n x : ℕ) → n ≤ w.rounds → receives_by w n x ≡ true
+    → (r : ℕ) × IsReceiveOf w r x
 receive_round w zero x l h = cc
-receive_round w (suc n) x l h = receive_round_by w n x l (or_cases _ _ h) (λ old. receive_round w n x (omega arith) old)
+receive_round w (suc n) x l h = receive_round_by w n x l (or_cases _ _ h)
+    (λ old. receive_round w n x (omega arith) old)
 
 round_receive : (w : World) (r x : ℕ) → IsReceiveOf w r x → is_receive w x ≡ true
 round_receive w r x h =
-    receives_by_in w w.rounds r x h.first h.last (cases_lt w.rounds (suc r)) (and_from _ _ (le-leb _ _ h.after_sends) (lt-ltb _ _ h.before_end))
+    receives_by_in w w.rounds r x h.first h.last (cases_lt w.rounds (suc r))
+    (and_from _ _ (le-leb _ _ h.after_sends) (lt-ltb _ _ h.before_end))
 
 -- ---- places of a kind, as the list grows by one event
 
@@ -97,7 +109,8 @@ module _ {Old New : ℕ → Type 0} {n : ℕ} {Here : Type 0} (g : Grows Old New
   first_kept a b f = record {
     later = f.later;
     there = g.kept b f.there;
-    none = λ k low high new. f.none k low high (g.was k (let l = g.within b f.there in omega arith) new);
+    none = λ k low high new. f.none k low high
+        (g.was k (let l = g.within b f.there in omega arith) new);
   }
 
   first_now : (a : ℕ) → a < n → ((k : ℕ) → a < k → Old k → ⊥) → Here → IsFirstAfter New a n
@@ -127,17 +140,21 @@ module _ (e : Event) (t : List Event) where
   abbrev new : List Event
   new = reverse (e ∷ t)
 
-  grows_event : (d : Event) → Grows (λ p. slice_get old p ≡ Some d) (λ p. slice_get new p ≡ Some d) (length t) (e ≡ d)
+  grows_event : (d : Event)
+      → Grows (λ p. slice_get old p ≡ Some d) (λ p. slice_get new p ≡ Some d) (length t) (e ≡ d)
   grows_event d = record {
-    kept = λ p h. read_older e t p (let l = slice_get_within old p d h in let n = length-reverse t in omega arith) ∙ h;
+    kept = λ p h. read_older e t p (let l = slice_get_within old p d h in
+        let n = length-reverse t in omega arith) ∙ h;
     was = λ p l h. sym (read_older e t p l) ∙ h;
     within = λ p h. (let l = slice_get_within old p d h in let n = length-reverse t in omega arith);
-    until = λ p h. (let l = slice_get_within new p d h in let n = length-reverse (e ∷ t) in omega arith);
+    until = λ p h. (let l = slice_get_within new p d h in let n = length-reverse (e ∷ t) in
+        omega arith);
     now = λ h. read_newest e t ∙ ap Some h;
     is = λ h. same_Some e d (sym (read_newest e t) ∙ h);
   }
 
-  grows_left : (n : Name) → Grows (IsLeftAt old n) (IsLeftAt new n) (length t) ((e ≡ Release n) ⊎ (e ≡ Drop n))
+  grows_left : (n : Name)
+      → Grows (IsLeftAt old n) (IsLeftAt new n) (length t) ((e ≡ Release n) ⊎ (e ≡ Drop n))
   grows_left n = record {
     kept = λ p h. kept p h;
     was = λ p l h. was p l h;
@@ -178,27 +195,51 @@ module _ (e : Event) (t : List Event) where
   count_newest : (i : ℕ) → steps_before new i (length t) ≡ steps i t
   count_newest i = at_steps i t e (e ∷ t) Newest
 
-  grows_step : (i c : ℕ) → Grows (IsStepAt old i c) (IsStepAt new i c) (length t) ((e ≡ Step i) × (steps i t ≡ c))
+  grows_step : (i c : ℕ)
+      → Grows (IsStepAt old i c) (IsStepAt new i c) (length t) ((e ≡ Step i) × (steps i t ≡ c))
   grows_step i c =
       let g = grows_event (Step i) in
       record {
-        kept = λ p h. record { there = g.kept p h.there; number = count_older i p (let l = g.within p h.there in omega arith) ∙ h.number };
-        was = λ p l h. record { there = g.was p l h.there; number = sym (count_older i p (omega arith)) ∙ h.number };
+        kept = λ p h. record {
+          there = g.kept p h.there;
+          number = count_older i p (let l = g.within p h.there in omega arith) ∙ h.number;
+        };
+        was = λ p l h. record {
+          there = g.was p l h.there;
+          number = sym (count_older i p (omega arith)) ∙ h.number;
+        };
         within = λ p h. g.within p h.there;
         until = λ p h. g.until p h.there;
         now = λ h. record { there = g.now h.0; number = count_newest i ∙ h.1 };
         is = λ h. (g.is h.there, sym (count_newest i) ∙ h.number);
       }
 
-  grows_receive : (w : World) (i : ℕ) → Grows (IsReceiveAt w old i) (IsReceiveAt w new i) (length t) ((e ≡ Step i) × (is_receive w (steps i t) ≡ true))
+  grows_receive : (w : World) (i : ℕ)
+      → Grows (IsReceiveAt w old i) (IsReceiveAt w new i) (length t) ((e ≡ Step i)
+      × (is_receive w (steps i t) ≡ true))
   grows_receive w i = record {
-    kept = λ p h. record { round = h.round; step = h.step; there = (grows_step i h.step).kept p h.there; receives = h.receives };
-    was = λ p l h. record { round = h.round; step = h.step; there = (grows_step i h.step).was p l h.there; receives = h.receives };
+    kept = λ p h. record {
+      round = h.round;
+      step = h.step;
+      there = (grows_step i h.step).kept p h.there;
+      receives = h.receives;
+    };
+    was = λ p l h. record {
+      round = h.round;
+      step = h.step;
+      there = (grows_step i h.step).was p l h.there;
+      receives = h.receives;
+    };
     within = λ p h. (grows_step i h.step).within p h.there;
     until = λ p h. (grows_step i h.step).until p h.there;
     now = λ h.
         let of = receive_round w w.rounds (steps i t) (omega arith) h.1 in
-        record { round = of.0; step = steps i t; there = (grows_step i (steps i t)).now (h.0, refl); receives = of.1 };
+        record {
+          round = of.0;
+          step = steps i t;
+          there = (grows_step i (steps i t)).now (h.0, refl);
+          receives = of.1;
+        };
     is = λ h.
         let at = (grows_step i h.step).is h.there in
         (at.0, ap (is_receive w) at.1 ∙ round_receive w h.round h.step h.receives);
@@ -209,7 +250,9 @@ module _ (e : Event) (t : List Event) where
     slot = h.slot;
     sent = (grows_step n.from (w.start n.round + n.to)).kept h.slot h.sent;
     first = first_kept (grows_event (Copy n)) h.slot p h.first;
-    flies = λ k low high left. h.flies k low high ((grows_left (original n)).was k (let l = (grows_event (Copy n)).within p h.first.there in omega arith) left);
+    flies = λ k low high left. h.flies k low high
+        ((grows_left (original n)).was k (let l = (grows_event (Copy n)).within p h.first.there in
+        omega arith) left);
   }
 
   made_kept : (w : World) (n : Name) (p : ℕ) → IsMadeAt w old n p → IsMadeAt w new n p
@@ -225,7 +268,8 @@ module _ (e : Event) (t : List Event) where
 -- it wasn't sent, or wasn't copied while copy 0 was in flight
 pub record IsUnmade (w : World) (trace : List Event) (n : Name) : Type 0 where
   pub sent : n.copy ≡ 0 → (a : ℕ) → IsSlotAt w trace n a → ⊥
-  pub copied : 0 < n.copy → (s p : ℕ) → IsSlotAt w trace n s → s < p → IsCopyAt trace n p → (k : ℕ) × (s < k) × (k < p) × IsLeftAt trace (original n) k
+  pub copied : 0 < n.copy → (s p : ℕ) → IsSlotAt w trace n s → s < p → IsCopyAt trace n p
+      → (k : ℕ) × (s < k) × (k < p) × IsLeftAt trace (original n) k
 
 pub record IsMoving (w : World) (trace : List Event) (n : Name) : Type 0 where
   pub a : ℕ
@@ -268,15 +312,21 @@ Placed w trace n Lost = IsLost w trace n
 
 -- ---- one place for each slot, and for each copy
 
-slot_one_by : (w : World) (t : List Event) (n : Name) (p q : ℕ) → IsSlotAt w (reverse t) n p → IsSlotAt w (reverse t) n q → p < q → ⊥
+slot_one_by : (w : World) (t : List Event) (n : Name) (p q : ℕ) → IsSlotAt w (reverse t) n p
+    → IsSlotAt w (reverse t) n q → p < q → ⊥
 slot_one_by w t n p q a b l =
     let x = place_at (Step n.from) t p a.there in
     let y = place_at (Step n.from) t q b.there in
     let px = x.2 in
     let qy = y.2 in
-    let rise = step_rises n.from x.0 y.0 (at_within y.0 (Step n.from) x.0 (Step n.from) t y.1 x.1 (omega arith)) in
-    let first : steps n.from x.0 ≡ w.start n.round + n.to = sym (at_steps n.from x.0 (Step n.from) t x.1) ∙ ap (steps_before (reverse t) n.from) x.2 ∙ a.number in
-    let second : steps n.from y.0 ≡ w.start n.round + n.to = sym (at_steps n.from y.0 (Step n.from) t y.1) ∙ ap (steps_before (reverse t) n.from) y.2 ∙ b.number in
+    let rise = step_rises n.from x.0 y.0
+    (at_within y.0 (Step n.from) x.0 (Step n.from) t y.1 x.1 (omega arith)) in
+    let first : steps n.from x.0 ≡ w.start n.round + n.to =
+    sym (at_steps n.from x.0 (Step n.from) t x.1) ∙ ap (steps_before (reverse t) n.from) x.2
+    ∙ a.number in
+    let second : steps n.from y.0 ≡ w.start n.round + n.to =
+    sym (at_steps n.from y.0 (Step n.from) t y.1) ∙ ap (steps_before (reverse t) n.from) y.2
+    ∙ b.number in
     omega arith
 
 not_less : (p q : ℕ) → (p < q → ⊥) → (q < p → ⊥) → (p < q) ⊎ (q ≤ p) → (q < p) ⊎ (p ≤ q) → p ≡ q
@@ -284,43 +334,64 @@ not_less p q a b (inl l) d = absurd (a l)
 not_less p q a b (inr l) (inl m) = absurd (b m)
 not_less p q a b (inr l) (inr m) = omega arith
 
-pub slot_one : (w : World) (t : List Event) (n : Name) (p q : ℕ) → IsSlotAt w (reverse t) n p → IsSlotAt w (reverse t) n q → p ≡ q
-slot_one w t n p q a b = not_less p q (slot_one_by w t n p q a b) (slot_one_by w t n q p b a) (cases_lt p q) (cases_lt q p)
+pub slot_one : (w : World) (t : List Event) (n : Name) (p q : ℕ) → IsSlotAt w (reverse t) n p
+    → IsSlotAt w (reverse t) n q → p ≡ q
+slot_one w t n p q a b = not_less p q (slot_one_by w t n p q a b) (slot_one_by w t n q p b a)
+    (cases_lt p q) (cases_lt q p)
 
 -- the first of a kind is one
-pub first_one : (Is : ℕ → Type 0) (a b c d : ℕ) → a ≡ c → IsFirstAfter Is a b → IsFirstAfter Is c d → b ≡ d
+pub first_one : (Is : ℕ → Type 0) (a b c d : ℕ) → a ≡ c → IsFirstAfter Is a b → IsFirstAfter Is c d
+    → b ≡ d
 first_one Is a b c d e f g =
-    not_less b d (λ l. g.none b (let m = f.later in omega arith) l f.there) (λ l. f.none d (let m = g.later in omega arith) l g.there) (cases_lt b d) (cases_lt d b)
+    not_less b d (λ l. g.none b (let m = f.later in omega arith) l f.there)
+    (λ l. f.none d (let m = g.later in omega arith) l g.there) (cases_lt b d) (cases_lt d b)
 
 -- a copy is made at one place
-pub made_one : (w : World) (t : List Event) (n : Name) (p q : ℕ) → IsMadeAt w (reverse t) n p → IsMadeAt w (reverse t) n q → p ≡ q
+pub made_one : (w : World) (t : List Event) (n : Name) (p q : ℕ) → IsMadeAt w (reverse t) n p
+    → IsMadeAt w (reverse t) n q → p ≡ q
 made_one w t n p q (Sent a h) (Sent b g) = slot_one w t n p q h g
 made_one w t n p q (Sent a h) (Copied b g) = absurd (omega arith)
 made_one w t n p q (Copied a h) (Sent b g) = absurd (omega arith)
-made_one w t n p q (Copied a h) (Copied b g) = first_one (IsCopyAt (reverse t) n) h.slot p g.slot q (slot_one w t n h.slot g.slot h.sent g.sent) h.first g.first
+made_one w t n p q (Copied a h) (Copied b g) =
+    first_one (IsCopyAt (reverse t) n) h.slot p g.slot q
+    (slot_one w t n h.slot g.slot h.sent g.sent) h.first g.first
 
 -- ---- one event more
 
 -- copy 0 is made at its slot
-slot_of : (w : World) (trace : List Event) (n : Name) (a : ℕ) → IsMadeAt w trace (original n) a → IsSlotAt w trace n a
+slot_of : (w : World) (trace : List Event) (n : Name) (a : ℕ) → IsMadeAt w trace (original n) a
+    → IsSlotAt w trace n a
 slot_of w trace n a (Sent c h) = h
 slot_of w trace n a (Copied c h) = absurd (omega arith)
 
-made_split_by : (w : World) (n : Name) (e : Event) (t : List Event) (first : Fate) (b : Bool) → (n.copy == 0) ≡ b → makes w n e t first ≡ true → ((n.copy ≡ 0) × (is_slot w n e t ≡ true)) ⊎ ((0 < n.copy) × (is_copy n e ≡ true) × (is_moving first ≡ true))
+made_split_by : (w : World) (n : Name) (e : Event) (t : List Event) (first : Fate) (b : Bool)
+    → (n.copy == 0) ≡ b → makes w n e t first ≡ true
+    → ((n.copy ≡ 0) × (is_slot w n e t ≡ true))
+    ⊎ ((0 < n.copy) × (is_copy n e ≡ true) × (is_moving first ≡ true))
 made_split_by w n e t first true h k =
-    inl (eqb-true n.copy 0 h, sym (ap (λ (b : Bool). if b then is_slot w n e t else is_copy n e && is_moving first) h) ∙ k)
+    inl (
+      eqb-true n.copy 0 h,
+      sym (ap (λ (b : Bool). if b then is_slot w n e t else is_copy n e && is_moving first) h)
+          ∙ k,
+    )
 made_split_by w n e t first false h k =
-    let both : (is_copy n e ≡ true) × (is_moving first ≡ true) = and_parts _ _ (sym (ap (λ (b : Bool). if b then is_slot w n e t else is_copy n e && is_moving first) h) ∙ k) in
+    let both : (is_copy n e ≡ true) × (is_moving first ≡ true) =
+    and_parts _ _
+    (sym (ap (λ (b : Bool). if b then is_slot w n e t else is_copy n e && is_moving first) h)
+    ∙ k) in
     inr (some (cases_lt 0 n.copy), both.0, both.1)
   where
     some : (0 < n.copy) ⊎ (n.copy ≤ 0) → 0 < n.copy
     some (inl l) = l
     some (inr l) = let on : (n.copy == 0) ≡ true = eq-eqb n.copy 0 (omega arith) in cc
 
-makes_slot : (w : World) (n : Name) (e : Event) (t : List Event) (first : Fate) → n.copy ≡ 0 → is_slot w n e t ≡ true → makes w n e t first ≡ true
+makes_slot : (w : World) (n : Name) (e : Event) (t : List Event) (first : Fate) → n.copy ≡ 0
+    → is_slot w n e t ≡ true → makes w n e t first ≡ true
 makes_slot w n e t first c h = rw (eq-eqb n.copy 0 c) h
 
-makes_copy_by : (w : World) (n : Name) (e : Event) (t : List Event) (first : Fate) (b : Bool) → (n.copy == 0) ≡ b → 0 < n.copy → is_copy n e ≡ true → is_moving first ≡ true → makes w n e t first ≡ true
+makes_copy_by : (w : World) (n : Name) (e : Event) (t : List Event) (first : Fate) (b : Bool)
+    → (n.copy == 0) ≡ b → 0 < n.copy → is_copy n e ≡ true → is_moving first ≡ true
+    → makes w n e t first ≡ true
 makes_copy_by w n e t first true h l c m = let none = eqb-true n.copy 0 h in absurd (omega arith)
 makes_copy_by w n e t first false h l c m = rw (h, c) m
 
@@ -334,21 +405,28 @@ module _ (w : World) (e : Event) (t : List Event) (n : Name) where
 
   sent_now : n.copy ≡ 0 → is_slot w n e t ≡ true → IsMoving w (reverse (e ∷ t)) n
   sent_now c h =
-      let both : (is_step n.from e ≡ true) × ((steps n.from t == w.start n.round + n.to) ≡ true) = and_parts _ _ h in
-      moving_now (Sent c ((grows_step e t n.from (w.start n.round + n.to)).now (step_event n.from e both.0, eqb-true _ _ both.1)))
+      let both : (is_step n.from e ≡ true) × ((steps n.from t == w.start n.round + n.to) ≡ true) =
+      and_parts _ _ h in
+      moving_now (Sent c ((grows_step e t n.from (w.start n.round + n.to)).now
+      (step_event n.from e both.0, eqb-true _ _ both.1)))
 
-  copied_now : 0 < n.copy → e ≡ Copy n → IsMoving w (reverse t) (original n) → IsUnmade w (reverse t) n → IsMoving w (reverse (e ∷ t)) n
+  copied_now : 0 < n.copy → e ≡ Copy n → IsMoving w (reverse t) (original n)
+      → IsUnmade w (reverse t) n → IsMoving w (reverse (e ∷ t)) n
   copied_now l h o f =
       let slot = slot_of w (reverse t) n o.a o.made in
       let low = made_within e t w (original n) o.a o.made in
       moving_now (Copied l (record {
         slot = o.a;
         sent = (grows_step e t n.from (w.start n.round + n.to)).kept o.a slot;
-        first = first_now (grows_event e t (Copy n)) o.a low (λ k m copy. (let x = f.copied l o.a k slot m copy in o.none x.0 x.1 x.3)) h;
+        first = first_now (grows_event e t (Copy n)) o.a low
+            (λ k m copy. (let x = f.copied l o.a k slot m copy in o.none x.0 x.1 x.3)) h;
         flies = λ k m high left. o.none k m ((grows_left e t (original n)).was k high left);
       }))
 
-  made_next : (o : Fate) → Placed w (reverse t) (original n) o → IsUnmade w (reverse t) n → ((n.copy ≡ 0) × (is_slot w n e t ≡ true)) ⊎ ((0 < n.copy) × (is_copy n e ≡ true) × (is_moving o ≡ true)) → IsMoving w (reverse (e ∷ t)) n
+  made_next : (o : Fate) → Placed w (reverse t) (original n) o → IsUnmade w (reverse t) n
+      → ((n.copy ≡ 0) × (is_slot w n e t ≡ true))
+      ⊎ ((0 < n.copy) × (is_copy n e ≡ true) × (is_moving o ≡ true))
+      → IsMoving w (reverse (e ∷ t)) n
   made_next o po f (inl h) = sent_now h.0 h.1
   made_next Unmade po f (inr h) = cc
   made_next Moving po f (inr h) = copied_now h.0 (copy_event n e h.1) po f
@@ -357,57 +435,77 @@ module _ (w : World) (e : Event) (t : List Event) (n : Name) where
   made_next Lost po f (inr h) = cc
 
   -- a copy of what has left flight isn't made
-  left_before : (s a b : ℕ) → IsSlotAt w (reverse t) n s → IsMadeAt w (reverse t) (original n) a → IsFirstAfter (IsLeftAt (reverse t) (original n)) a b → (k : ℕ) × (s < k) × (k < length t) × IsLeftAt (reverse (e ∷ t)) (original n) k
+  left_before : (s a b : ℕ) → IsSlotAt w (reverse t) n s → IsMadeAt w (reverse t) (original n) a
+      → IsFirstAfter (IsLeftAt (reverse t) (original n)) a b
+      → (k : ℕ) × (s < k) × (k < length t) × IsLeftAt (reverse (e ∷ t)) (original n) k
   left_before s a b slot made leaves =
       let same = slot_one w t n s a slot (slot_of w (reverse t) n a made) in
-      let later = leaves.later in
-      (b, omega arith, (grows_left e t (original n)).within b leaves.there, (grows_left e t (original n)).kept b leaves.there)
+      let later = leaves.later in (
+        b,
+        omega arith,
+        (grows_left e t (original n)).within b leaves.there,
+        (grows_left e t (original n)).kept b leaves.there,
+      )
 
-  copy_late : (o : Fate) → Placed w (reverse t) (original n) o → is_moving o ≡ false → (s : ℕ) → IsSlotAt w (reverse t) n s → (k : ℕ) × (s < k) × (k < length t) × IsLeftAt (reverse (e ∷ t)) (original n) k
+  copy_late : (o : Fate) → Placed w (reverse t) (original n) o → is_moving o ≡ false → (s : ℕ)
+      → IsSlotAt w (reverse t) n s → (k : ℕ) × (s < k) × (k < length t)
+      × IsLeftAt (reverse (e ∷ t)) (original n) k
   copy_late Unmade po off s slot = absurd (po.sent refl s slot)
   copy_late Moving po off s slot = cc
   copy_late (Waiting x) po off s slot = left_before s po.a po.b slot po.made po.leaves
   copy_late (Taken x c) po off s slot = left_before s po.a po.b slot po.made po.leaves
   copy_late Lost po off s slot = left_before s po.a po.b slot po.made po.leaves
 
-  unmoving : (o : Fate) (b : Bool) → is_moving o ≡ b → makes w n e t o ≡ false → 0 < n.copy → is_copy n e ≡ true → b ≡ false
+  unmoving : (o : Fate) (b : Bool) → is_moving o ≡ b → makes w n e t o ≡ false → 0 < n.copy
+      → is_copy n e ≡ true → b ≡ false
   unmoving o true m off l c = let on = makes_copy_by w n e t o (n.copy == 0) refl l c m in cc
   unmoving o false m off l c = refl
 
-  unmade_next : (o : Fate) → Placed w (reverse t) (original n) o → IsUnmade w (reverse t) n → makes w n e t o ≡ false → IsUnmade w (reverse (e ∷ t)) n
+  unmade_next : (o : Fate) → Placed w (reverse t) (original n) o → IsUnmade w (reverse t) n
+      → makes w n e t o ≡ false → IsUnmade w (reverse (e ∷ t)) n
   unmade_next o po f off = record {
     sent = λ c a slot. sent c a slot (cases_lt a (length t));
     copied = λ l s p slot low copy. copied l s p slot low copy (cases_lt p (length t));
   }
     where
-      g : Grows (IsSlotAt w (reverse t) n) (IsSlotAt w (reverse (e ∷ t)) n) (length t) ((e ≡ Step n.from) × (steps n.from t ≡ w.start n.round + n.to))
+      g : Grows (IsSlotAt w (reverse t) n) (IsSlotAt w (reverse (e ∷ t)) n) (length t)
+          ((e ≡ Step n.from) × (steps n.from t ≡ w.start n.round + n.to))
       g = grows_step e t n.from (w.start n.round + n.to)
 
-      sent : n.copy ≡ 0 → (a : ℕ) → IsSlotAt w (reverse (e ∷ t)) n a → (a < length t) ⊎ (length t ≤ a) → ⊥
+      sent : n.copy ≡ 0 → (a : ℕ) → IsSlotAt w (reverse (e ∷ t)) n a
+          → (a < length t) ⊎ (length t ≤ a) → ⊥
       sent c a slot (inl old) = f.sent c a (g.was a old slot)
       sent c a slot (inr last) =
           let until = g.until a slot in
           let same : a ≡ length t = omega arith in
           let at = g.is (subst (IsSlotAt w (reverse (e ∷ t)) n) same slot) in
-          let on = makes_slot w n e t o c (and_from _ _ (is_it_step n.from e at.0) (eq-eqb _ _ at.1)) in
+          let on = makes_slot w n e t o c
+          (and_from _ _ (is_it_step n.from e at.0) (eq-eqb _ _ at.1)) in
           cc
 
-      copied : 0 < n.copy → (s p : ℕ) → IsSlotAt w (reverse (e ∷ t)) n s → s < p → IsCopyAt (reverse (e ∷ t)) n p → (p < length t) ⊎ (length t ≤ p) → (k : ℕ) × (s < k) × (k < p) × IsLeftAt (reverse (e ∷ t)) (original n) k
+      copied : 0 < n.copy → (s p : ℕ) → IsSlotAt w (reverse (e ∷ t)) n s → s < p
+          → IsCopyAt (reverse (e ∷ t)) n p → (p < length t) ⊎ (length t ≤ p)
+          → (k : ℕ) × (s < k) × (k < p) × IsLeftAt (reverse (e ∷ t)) (original n) k
       copied l s p slot low copy (inl old) =
-          let x = f.copied l s p (g.was s (omega arith) slot) low ((grows_event e t (Copy n)).was p old copy) in
+          let x = f.copied l s p (g.was s (omega arith) slot) low
+          ((grows_event e t (Copy n)).was p old copy) in
           (x.0, x.1, x.2, (grows_left e t (original n)).kept x.0 x.3)
       copied l s p slot low copy (inr last) =
           let until = (grows_event e t (Copy n)).until p copy in
           let same : p ≡ length t = omega arith in
           let is = (grows_event e t (Copy n)).is (subst (IsCopyAt (reverse (e ∷ t)) n) same copy) in
-          let x = copy_late o po (unmoving o (is_moving o) refl off l (is_it_copy n e is)) s (g.was s (omega arith) slot) in
+          let x = copy_late o po (unmoving o (is_moving o) refl off l (is_it_copy n e is)) s
+          (g.was s (omega arith) slot) in
           (x.0, x.1, (let y = x.2 in omega arith), x.3)
 
-  unmade_or_made : (o : Fate) (b : Bool) → makes w n e t o ≡ b → Placed w (reverse t) (original n) o → IsUnmade w (reverse t) n → Placed w (reverse (e ∷ t)) n (if b then Moving else Unmade)
+  unmade_or_made : (o : Fate) (b : Bool) → makes w n e t o ≡ b → Placed w (reverse t) (original n) o
+      → IsUnmade w (reverse t) n → Placed w (reverse (e ∷ t)) n (if b then Moving else Unmade)
   unmade_or_made o true h po f = made_next o po f (made_split_by w n e t o (n.copy == 0) refl h)
   unmade_or_made o false h po f = unmade_next o po f h
 
-  moving_next : (a b : Bool) → is_release n e ≡ a → is_drop n e ≡ b → IsMoving w (reverse t) n → Placed w (reverse (e ∷ t)) n (if a then Waiting (steps n.to t) else if b then Lost else Moving)
+  moving_next : (a b : Bool) → is_release n e ≡ a → is_drop n e ≡ b → IsMoving w (reverse t) n
+      → Placed w (reverse (e ∷ t)) n
+      (if a then Waiting (steps n.to t) else if b then Lost else Moving)
   moving_next true b h k f =
       let is = release_event n e h in
       record {
@@ -438,7 +536,8 @@ module _ (w : World) (e : Event) (t : List Event) (n : Name) where
       off (inl is) = let on = is_it_release n e is in cc
       off (inr is) = let on = is_it_drop n e is in cc
 
-  waiting_next : (x : ℕ) (b : Bool) → is_take w n.to e t ≡ b → IsWaiting w (reverse t) n x → Placed w (reverse (e ∷ t)) n (if b then Taken x (steps n.to t) else Waiting x)
+  waiting_next : (x : ℕ) (b : Bool) → is_take w n.to e t ≡ b → IsWaiting w (reverse t) n x
+      → Placed w (reverse (e ∷ t)) n (if b then Taken x (steps n.to t) else Waiting x)
   waiting_next x true h f =
       let both : (is_step n.to e ≡ true) × (is_receive w (steps n.to t) ≡ true) = and_parts _ _ h in
       let low = (grows_event e t (Release n)).within f.b f.release in
@@ -450,7 +549,10 @@ module _ (w : World) (e : Event) (t : List Event) (n : Name) where
         leaves = first_kept (grows_left e t n) f.a f.b f.leaves;
         release = (grows_event e t (Release n)).kept f.b f.release;
         count = count_older e t n.to f.b (omega arith) ∙ f.count;
-        receive = first_now (grows_receive e t w n.to) f.b low f.none (step_event n.to e both.0, both.1);
+        receive = first_now (grows_receive e t w n.to) f.b low f.none (
+          step_event n.to e both.0,
+          both.1,
+        );
         number = count_newest e t n.to;
       }
   waiting_next x false h f =
@@ -462,7 +564,9 @@ module _ (w : World) (e : Event) (t : List Event) (n : Name) where
         leaves = first_kept (grows_left e t n) f.a f.b f.leaves;
         release = (grows_event e t (Release n)).kept f.b f.release;
         count = count_older e t n.to f.b (omega arith) ∙ f.count;
-        none = none_kept (grows_receive e t w n.to) f.b f.none (λ y. (let on : is_take w n.to e t ≡ true = and_from _ _ (is_it_step n.to e y.0) y.1 in cc));
+        none = none_kept (grows_receive e t w n.to) f.b f.none
+            (λ y. (let on : is_take w n.to e t ≡ true = and_from _ _ (is_it_step n.to e y.0) y.1 in
+            cc));
       }
 
   taken_next : (x c : ℕ) → IsTaken w (reverse t) n x c → IsTaken w (reverse (e ∷ t)) n x c
@@ -490,7 +594,8 @@ module _ (w : World) (e : Event) (t : List Event) (n : Name) where
     drop = (grows_event e t (Drop n)).kept f.b f.drop;
   }
 
-  placed_next : (o f : Fate) → Placed w (reverse t) (original n) o → Placed w (reverse t) n f → Placed w (reverse (e ∷ t)) n (after w n e t o f)
+  placed_next : (o f : Fate) → Placed w (reverse t) (original n) o → Placed w (reverse t) n f
+      → Placed w (reverse (e ∷ t)) n (after w n e t o f)
   placed_next o Unmade po pf = unmade_or_made o (makes w n e t o) refl po pf
   placed_next o Moving po pf = moving_next (is_release n e) (is_drop n e) refl refl pf
   placed_next o (Waiting x) po pf = waiting_next x (is_take w n.to e t) refl pf
@@ -500,7 +605,8 @@ module _ (w : World) (e : Event) (t : List Event) (n : Name) where
 placed_first : (w : World) (n : Name) → IsUnmade w [] n
 placed_first w n = record {
   sent = λ c a slot. (let l = slice_get_within [] a (Step n.from) slot.there in omega arith);
-  copied = λ l s p slot low copy. absurd (let m = slice_get_within [] s (Step n.from) slot.there in omega arith);
+  copied = λ l s p slot low copy. absurd (let m = slice_get_within [] s (Step n.from) slot.there in
+      omega arith);
 }
 
 -- what became of a copy is so by places
@@ -508,18 +614,23 @@ pub placed : (w : World) (t : List Event) (n : Name) → Placed w (reverse t) n 
 placed w [] n = subst (λ (f : Fate). Placed w [] n f) (sym (fate_first w n)) (placed_first w n)
 placed w (e ∷ t) n =
     subst (λ (f : Fate). Placed w (reverse (e ∷ t)) n f) (sym (fate_next w e t n))
-    (placed_next w e t n (fate w t (original n)) (fate w t n) (placed w t (original n)) (placed w t n))
+    (placed_next w e t n (fate w t (original n)) (fate w t n) (placed w t (original n))
+    (placed w t n))
 
 -- ---- and what is so by places became of it
 
-unmade_none : (w : World) (trace : List Event) (n : Name) (a : ℕ) → IsUnmade w trace n → IsMadeAt w trace n a → ⊥
+unmade_none : (w : World) (trace : List Event) (n : Name) (a : ℕ) → IsUnmade w trace n
+    → IsMadeAt w trace n a → ⊥
 unmade_none w trace n a f (Sent c h) = f.sent c a h
-unmade_none w trace n a f (Copied l h) = let x = f.copied l h.slot a h.sent h.first.later h.first.there in h.flies x.0 x.1 x.2 x.3
+unmade_none w trace n a f (Copied l h) = let x =
+    f.copied l h.slot a h.sent h.first.later h.first.there in h.flies x.0 x.1 x.2 x.3
 
 -- an event isn't a release and a drop
-pub release_drop : (trace : List Event) (n : Name) (p q : ℕ) → p ≡ q → IsReleaseAt trace n p → IsDropAt trace n q → ⊥
+pub release_drop : (trace : List Event) (n : Name) (p q : ℕ) → p ≡ q → IsReleaseAt trace n p
+    → IsDropAt trace n q → ⊥
 release_drop trace n p q e h k =
-    let both : ◌≡◌ {A = Option Event} (Some (Release n)) (Some (Drop n)) = sym h ∙ ap (slice_get trace) e ∙ k in
+    let both : ◌≡◌ {A = Option Event} (Some (Release n)) (Some (Drop n)) = sym h
+    ∙ ap (slice_get trace) e ∙ k in
     let same = same_Some (Release n) (Drop n) both in
     cc
 
@@ -528,17 +639,22 @@ module _ (w : World) (t : List Event) (n : Name) where
   moving_by : (f : Fate) → Placed w (reverse t) n f → IsMoving w (reverse t) n → f ≡ Moving
   moving_by Unmade p h = absurd (unmade_none w (reverse t) n h.a p h.made)
   moving_by Moving p h = refl
-  moving_by (Waiting x) p h = let e = made_one w t n p.a h.a p.made h.made in let l = p.leaves.later in absurd (h.none p.b (omega arith) p.leaves.there)
-  moving_by (Taken x c) p h = let e = made_one w t n p.a h.a p.made h.made in let l = p.leaves.later in absurd (h.none p.b (omega arith) p.leaves.there)
-  moving_by Lost p h = let e = made_one w t n p.a h.a p.made h.made in let l = p.leaves.later in absurd (h.none p.b (omega arith) p.leaves.there)
+  moving_by (Waiting x) p h = let e = made_one w t n p.a h.a p.made h.made in
+      let l = p.leaves.later in absurd (h.none p.b (omega arith) p.leaves.there)
+  moving_by (Taken x c) p h = let e = made_one w t n p.a h.a p.made h.made in
+      let l = p.leaves.later in absurd (h.none p.b (omega arith) p.leaves.there)
+  moving_by Lost p h = let e = made_one w t n p.a h.a p.made h.made in let l = p.leaves.later in
+      absurd (h.none p.b (omega arith) p.leaves.there)
 
   pub moving_found : IsMoving w (reverse t) n → fate w t n ≡ Moving
   moving_found h = moving_by (fate w t n) (placed w t n) h
 
   -- waiting
-  waiting_by : (f : Fate) (x : ℕ) → Placed w (reverse t) n f → IsWaiting w (reverse t) n x → f ≡ Waiting x
+  waiting_by : (f : Fate) (x : ℕ) → Placed w (reverse t) n f → IsWaiting w (reverse t) n x
+      → f ≡ Waiting x
   waiting_by Unmade x p h = absurd (unmade_none w (reverse t) n h.a p h.made)
-  waiting_by Moving x p h = let e = made_one w t n p.a h.a p.made h.made in let l = h.leaves.later in absurd (p.none h.b (omega arith) h.leaves.there)
+  waiting_by Moving x p h = let e = made_one w t n p.a h.a p.made h.made in
+      let l = h.leaves.later in absurd (p.none h.b (omega arith) h.leaves.there)
   waiting_by (Waiting y) x p h =
       let e = made_one w t n p.a h.a p.made h.made in
       let b = first_one (IsLeftAt (reverse t) n) p.a p.b h.a h.b e p.leaves h.leaves in
@@ -550,15 +666,18 @@ module _ (w : World) (t : List Event) (n : Name) where
       absurd (h.none p.p (omega arith) p.receive.there)
   waiting_by Lost x p h =
       let e = made_one w t n h.a p.a h.made p.made in
-      absurd (release_drop (reverse t) n h.b p.b (first_one (IsLeftAt (reverse t) n) h.a h.b p.a p.b e h.leaves p.leaves) h.release p.drop)
+      absurd (release_drop (reverse t) n h.b p.b
+      (first_one (IsLeftAt (reverse t) n) h.a h.b p.a p.b e h.leaves p.leaves) h.release p.drop)
 
   pub waiting_found : (x : ℕ) → IsWaiting w (reverse t) n x → fate w t n ≡ Waiting x
   waiting_found x h = waiting_by (fate w t n) x (placed w t n) h
 
   -- taken
-  taken_by : (f : Fate) (x c : ℕ) → Placed w (reverse t) n f → IsTaken w (reverse t) n x c → f ≡ Taken x c
+  taken_by : (f : Fate) (x c : ℕ) → Placed w (reverse t) n f → IsTaken w (reverse t) n x c
+      → f ≡ Taken x c
   taken_by Unmade x c p h = absurd (unmade_none w (reverse t) n h.a p h.made)
-  taken_by Moving x c p h = let e = made_one w t n p.a h.a p.made h.made in let l = h.leaves.later in absurd (p.none h.b (omega arith) h.leaves.there)
+  taken_by Moving x c p h = let e = made_one w t n p.a h.a p.made h.made in
+      let l = h.leaves.later in absurd (p.none h.b (omega arith) h.leaves.there)
   taken_by (Waiting y) x c p h =
       let e = made_one w t n p.a h.a p.made h.made in
       let b = first_one (IsLeftAt (reverse t) n) p.a p.b h.a h.b e p.leaves h.leaves in
@@ -572,13 +691,15 @@ module _ (w : World) (t : List Event) (n : Name) where
       ∙ ap (Taken x) (sym p.number ∙ ap (steps_before (reverse t) n.to) r ∙ h.number)
   taken_by Lost x c p h =
       let e = made_one w t n h.a p.a h.made p.made in
-      absurd (release_drop (reverse t) n h.b p.b (first_one (IsLeftAt (reverse t) n) h.a h.b p.a p.b e h.leaves p.leaves) h.release p.drop)
+      absurd (release_drop (reverse t) n h.b p.b
+      (first_one (IsLeftAt (reverse t) n) h.a h.b p.a p.b e h.leaves p.leaves) h.release p.drop)
 
   pub taken_found : (x c : ℕ) → IsTaken w (reverse t) n x c → fate w t n ≡ Taken x c
   taken_found x c h = taken_by (fate w t n) x c (placed w t n) h
 
   -- not made
-  unmade_by : (f : Fate) → Placed w (reverse t) n f → ((a : ℕ) → IsMadeAt w (reverse t) n a → ⊥) → f ≡ Unmade
+  unmade_by : (f : Fate) → Placed w (reverse t) n f → ((a : ℕ) → IsMadeAt w (reverse t) n a → ⊥)
+      → f ≡ Unmade
   unmade_by Unmade p h = refl
   unmade_by Moving p h = absurd (h p.a p.made)
   unmade_by (Waiting x) p h = absurd (h p.a p.made)
@@ -589,11 +710,13 @@ module _ (w : World) (t : List Event) (n : Name) where
   unmade_found h = unmade_by (fate w t n) (placed w t n) h
 
   pub made_found : (a : ℕ) → IsMadeAt w (reverse t) n a → fate w t n ≡ Unmade → ⊥
-  made_found a h e = unmade_none w (reverse t) n a (subst (λ (f : Fate). Placed w (reverse t) n f) e (placed w t n)) h
+  made_found a h e = unmade_none w (reverse t) n a
+      (subst (λ (f : Fate). Placed w (reverse t) n f) e (placed w t n)) h
 
 -- ---- carried
 
-carried_as_by : (w : World) (trace : List Event) (n : Name) (f : Fate) → Placed w trace n f → taken_near w n.round f ≡ true → IsCarriedAs w trace n
+carried_as_by : (w : World) (trace : List Event) (n : Name) (f : Fate) → Placed w trace n f
+    → taken_near w n.round f ≡ true → IsCarriedAs w trace n
 carried_as_by w trace n Unmade p h = cc
 carried_as_by w trace n Moving p h = cc
 carried_as_by w trace n (Waiting x) p h = cc
@@ -616,24 +739,42 @@ carried_as_by w trace n (Taken x c) p h =
     }
 
 -- what is carried is so by places
-pub carried_place : (w : World) (t : List Event) (n : Name) → carried w t n.to n.round n.from ≡ true → IsCarried w (reverse t) n
+pub carried_place : (w : World) (t : List Event) (n : Name) → carried w t n.to n.round n.from ≡ true
+    → IsCarried w (reverse t) n
 carried_place w t n h =
-    let k = some_found (λ k. taken_near w n.round (fate w t (copy_to n.from n.to n.round k))) (sym (carried_by w t n.to n.round n.from) ∙ h) in
+    let k = some_found (λ k. taken_near w n.round (fate w t (copy_to n.from n.to n.round k)))
+    (sym (carried_by w t n.to n.round n.from) ∙ h) in
     record {
       copy = k.0;
       few = k.1;
-      carried = carried_as_by w (reverse t) (copy_to n.from n.to n.round k.0) (fate w t (copy_to n.from n.to n.round k.0)) (placed w t (copy_to n.from n.to n.round k.0)) k.2;
+      carried = carried_as_by w (reverse t) (copy_to n.from n.to n.round k.0)
+          (fate w t (copy_to n.from n.to n.round k.0))
+          (placed w t (copy_to n.from n.to n.round k.0)) k.2;
     }
 
-carried_as_found : (w : World) (t : List Event) (n : Name) → IsCarriedAs w (reverse t) n → taken_near w n.round (fate w t n) ≡ true
+carried_as_found : (w : World) (t : List Event) (n : Name) → IsCarriedAs w (reverse t) n
+    → taken_near w n.round (fate w t n) ≡ true
 carried_as_found w t n h =
     let low = h.from_start in
     let high = h.before_end in
-    ap (taken_near w n.round) (taken_found w t n (steps_before (reverse t) n.to h.b) (steps_before (reverse t) n.to h.c)
-    (record { a = h.a; b = h.b; p = h.c; made = h.made; leaves = h.leaves; release = h.release; count = refl; receive = h.receive; number = refl }))
+    ap (taken_near w n.round) (taken_found w t n (steps_before (reverse t) n.to h.b)
+    (steps_before (reverse t) n.to h.c)
+    (record {
+      a = h.a;
+      b = h.b;
+      p = h.c;
+      made = h.made;
+      leaves = h.leaves;
+      release = h.release;
+      count = refl;
+      receive = h.receive;
+      number = refl;
+    }))
     ∙ lies_within w n.round (steps_before (reverse t) n.to h.c) (omega arith) (omega arith)
 
-pub carried_found : (w : World) (t : List Event) (n : Name) → IsCarried w (reverse t) n → carried w t n.to n.round n.from ≡ true
+pub carried_found : (w : World) (t : List Event) (n : Name) → IsCarried w (reverse t) n
+    → carried w t n.to n.round n.from ≡ true
 carried_found w t n h =
     carried_by w t n.to n.round n.from
-    ∙ some_of (λ k. taken_near w n.round (fate w t (copy_to n.from n.to n.round k))) h.copy h.few (carried_as_found w t (copy_to n.from n.to n.round h.copy) h.carried)
+    ∙ some_of (λ k. taken_near w n.round (fate w t (copy_to n.from n.to n.round k))) h.copy h.few
+    (carried_as_found w t (copy_to n.from n.to n.round h.copy) h.carried)

@@ -19,7 +19,8 @@ use Rattle.step_book.specs.Agreement.{Row, row, place_of, IsBuffer}
 use Rattle.step_book.specs.Names.{IsName, IsNameOf}
 use Rattle.step_book.specs.Tables.{HasPlace, read_at}
 use Rattle.step_book.specs.Trace.{is_name}
-use Rattle.step_book.specs.Log.{Log, Recorded, IsBookOf, IsFaithful, IsFlying, happened, world_of}
+use Rattle.step_book.specs.Log.{Log, Recorded, IsBookOf, IsFaithful, IsFlying, HasBook, happened}
+use Rattle.step_book.specs.Log.{world_of}
 use Rattle.step_book.specs.Log.{history, round_of, count_of, mark_in, waiting_in, states_of}
 use Rattle.step_book.specs.Log.{rows_of, handed_in, waits_in}
 use Rattle.step_book.specs.Mailing.{Mailed}
@@ -27,9 +28,14 @@ use Rattle.step_book.proofs.Buffers.{buffer_counts}
 use Rattle.step_book.proofs.Tables.{has_place}
 
 -- what holds of the fields holds of the view
-pub of_view : {P : Type 0} {s v : Recorded P} {counts : List ℕ} {tables : List (List Mark)} {waiting : List (List Name)} {handed : List (List (List Name))} {answers : List Bool} {messages : List Name} (start : P → ℕ → ℕ) (nodes : P → ℕ) → s ≡ v → IsBookOf (start s.plan) (nodes s.plan) s.log counts tables waiting handed answers messages → IsBookOf (start v.plan) (nodes v.plan) v.log counts tables waiting handed answers messages
+pub of_view : {P : Type 0} {s v : Recorded P} {counts : List ℕ} {tables : List (List Mark)}
+    {waiting : List (List Name)} {handed : List (List (List Name))} {answers : List Bool}
+    {messages : List Name} (start : P → ℕ → ℕ) (nodes : P → ℕ) → s ≡ v
+    → IsBookOf (start s.plan) (nodes s.plan) s.log counts tables waiting handed answers messages
+    → IsBookOf (start v.plan) (nodes v.plan) v.log counts tables waiting handed answers messages
 of_view {P} {s} {v} {counts} {tables} {waiting} {handed} {answers} {messages} start nodes e h =
-    subst (λ (z : Recorded P). IsBookOf (start z.plan) (nodes z.plan) z.log counts tables waiting handed answers messages) e h
+    subst (λ (z : Recorded P). IsBookOf (start z.plan)
+    (nodes z.plan) z.log counts tables waiting handed answers messages) e h
 
 -- the nodes of a run are its setup's
 pub nodes_are : (start : ℕ → ℕ) (v : Log) → nodes_of (world_of start v) ≡ v.setup.nodes
@@ -40,10 +46,14 @@ pub one_of : (start : ℕ → ℕ) (v : Log) (k : ℕ) → k < v.setup.nodes →
 one_of start v k l = let n = nodes_are start v in omega (arith, n)
 
 -- a name of the run is one of its world's
-pub named : (start : ℕ → ℕ) (v : Log) (n : Name) → IsName v.setup n → IsNameOf (nodes_of (world_of start v)) v.setup.rounds n
+pub named : (start : ℕ → ℕ) (v : Log) (n : Name) → IsName v.setup n
+    → IsNameOf (nodes_of (world_of start v)) v.setup.rounds n
 named start v n a = subst (λ (z : ℕ). IsNameOf z v.setup.rounds n) (sym (nodes_are start v)) a
 
-module _ {start : ℕ → ℕ} {nodes : ℕ} {v : Log} {counts : List ℕ} {tables : List (List Mark)} {waiting : List (List Name)} {handed : List (List (List Name))} {answers : List Bool} {messages : List Name} (h : IsBookOf start nodes v counts tables waiting handed answers messages) where
+module _ {start : ℕ → ℕ} {nodes : ℕ} {v : Log} {counts : List ℕ} {tables : List (List Mark)}
+    {waiting : List (List Name)} {handed : List (List (List Name))} {answers : List Bool}
+    {messages : List Name}
+    (h : IsBookOf start nodes v counts tables waiting handed answers messages) where
   -- the number of a node of the run is small enough to be stored
   pub storable_node : (k : ℕ) → k < v.setup.nodes → k < 16
   storable_node k l = let few = h.lawful.sized.few_nodes in omega (arith, l)
@@ -70,18 +80,34 @@ module _ {start : ℕ → ℕ} {nodes : ℕ} {v : Log} {counts : List ℕ} {tabl
     stated = λ i r l m. h.book.stated i r (one_of start v i l) m;
   }
 
+  pub has_book : HasBook start v
+  has_book = record {
+    nodes = nodes;
+    counts = counts;
+    tables = tables;
+    waiting = waiting;
+    handed = handed;
+    answers = answers;
+    messages = messages;
+    book = h;
+  }
+
   pub count_read : (k x : ℕ) → k < v.setup.nodes → x ≡ get_or counts k x → x ≡ count_of v k
-  count_read k x l e = e ∙ sym (get_or_default counts k 0 x (let n = counts_len in omega (arith, n))) ∙ h.book.count k (one_of start v k l)
+  count_read k x l e = e
+      ∙ sym (get_or_default counts k 0 x (let n = counts_len in omega (arith, n)))
+      ∙ h.book.count k (one_of start v k l)
 
   pub waiting_read : (k : ℕ) → k < v.setup.nodes → get_or waiting k [] ≡ waiting_in start v k
   waiting_read k l = h.waits.held k (one_of start v k l)
 
-  pub handed_read : (k : ℕ) → k < v.setup.nodes → get_or handed k [] ≡ handed_of (world_of start v) k (history v)
+  pub handed_read : (k : ℕ) → k < v.setup.nodes
+      → get_or handed k [] ≡ handed_of (world_of start v) k (history v)
   handed_read k l = h.accounts.handed k (one_of start v k l)
 
   -- the buffer by events is the buffer by places
   pub buffer_once : (k : ℕ) → IsBuffer (world_of start v) (history v) k (waiting_in start v k)
-  buffer_once k = λ n to z l. ap (λ i. count_by (is_name n) (waiting_in start v i)) (sym to) ∙ buffer_counts (world_of start v) h.plan (history v) n z l
+  buffer_once k = λ n to z l. ap (λ i. count_by (is_name n) (waiting_in start v i)) (sym to)
+      ∙ buffer_counts (world_of start v) h.plan (history v) n z l
 
   pub round_low : (k : ℕ) → k < v.setup.nodes → 0 < round_of v k
   round_low k l = h.book.began k (one_of start v k l)
@@ -94,54 +120,76 @@ module _ {start : ℕ → ℕ} {nodes : ℕ} {v : Log} {counts : List ℕ} {tabl
   rounds_few = h.lawful.sized.few_rounds
 
   -- a mark in the tables
-  pub mark_read : (n : Name) (p : ℕ) → IsName v.setup n → p ≡ ((n.round - 1) * v.setup.nodes + n.from) * v.setup.nodes + n.to → read_at Unsent tables n.copy p ≡ mark_in start v n
+  pub mark_read : (n : Name) (p : ℕ) → IsName v.setup n
+      → p ≡ ((n.round - 1) * v.setup.nodes + n.from) * v.setup.nodes + n.to
+      → read_at Unsent tables n.copy p ≡ mark_in start v n
   mark_read n p a e =
-      let same : p ≡ place_of (world_of start v) n = e ∙ ap (λ m. ((n.round - 1) * m + n.from) * m + n.to) (sym (nodes_are start v)) in
+      let same : p ≡ place_of (world_of start v) n = e
+      ∙ ap (λ m. ((n.round - 1) * m + n.from) * m + n.to) (sym (nodes_are start v)) in
       ap (read_at Unsent tables n.copy) same ∙ h.book.mark n (named start v n a)
 
   -- where a copy number has no table, none of its copies was made
-  pub none_made : (n : Name) (k : ℕ) → IsName v.setup n → n.copy ≡ k → (k < length tables → ⊥) → mark_in start v n ≡ Unsent
+  pub none_made : (n : Name) (k : ℕ) → IsName v.setup n → n.copy ≡ k → (k < length tables → ⊥)
+      → mark_in start v n ≡ Unsent
   none_made n k a e none = by (cases_lt k (length tables))
     where
       by : (k < length tables) ⊎ (length tables ≤ k) → mark_in start v n ≡ Unsent
       by (inl there) = absurd (none there)
-      by (inr past) = sym (mark_read n _ a refl) ∙ ap (λ t. get_or t (((n.round - 1) * v.setup.nodes + n.from) * v.setup.nodes + n.to) Unsent) (get_or_past tables n.copy [] (omega arith))
+      by (inr past) = sym (mark_read n _ a refl)
+          ∙ ap (λ t. get_or t (((n.round - 1) * v.setup.nodes + n.from) * v.setup.nodes + n.to)
+          Unsent) (get_or_past tables n.copy [] (omega arith))
 
   -- what is in flight has its mark in the tables
-  pub flying_in : (n : Name) (p : ℕ) → IsName v.setup n → IsFlying start v n → p ≡ ((n.round - 1) * v.setup.nodes + n.from) * v.setup.nodes + n.to → HasPlace tables n.copy p
-  flying_in n p a fly e = has_place Unsent tables n.copy p (λ none. let is = mark_read n p a e in cc)
+  pub flying_in : (n : Name) (p : ℕ) → IsName v.setup n → IsFlying start v n
+      → p ≡ ((n.round - 1) * v.setup.nodes + n.from) * v.setup.nodes + n.to
+      → HasPlace tables n.copy p
+  flying_in n p a fly e = has_place Unsent tables n.copy p (λ none. let is = mark_read n p a e in
+      cc)
 
 -- the rows of a view are those of its fields
 pub rows_view : {P : Type 0} {s v : Recorded P} → s ≡ v → s.log.rows ≡ v.log.rows
 rows_view {P} e = ap (λ (z : Recorded P). z.log.rows) e
 
 -- a read of a node's states gives its row
-pub row_read : {A B : Type 0} (rows : List Row) (states : List (Vec (Arc (List Value) A) B)) (k : ℕ) (x : Vec (Arc (List Value) A) B) → rows_of states ≡ rows → k < length rows → x ≡ get_or states k x → row rows k ≡ states_of x.items
+pub row_read : {A B : Type 0} (rows : List Row) (states : List (Vec (Arc (List Value) A) B)) (k : ℕ)
+    (x : Vec (Arc (List Value) A) B) → rows_of states ≡ rows → k < length rows
+    → x ≡ get_or states k x → row rows k ≡ states_of x.items
 row_read {A} {B} rows states k x e l y =
     let n = length-map states (λ (z : Vec (Arc (List Value) A) B). states_of z.items) in
     let m = ap length e in
-    ap (λ z. row z k) (sym e) ∙ get_or-map (λ (z : Vec (Arc (List Value) A) B). states_of z.items) states k x [] (omega arith) ∙ ap (λ (z : Vec (Arc (List Value) A) B). states_of z.items) (sym y)
+    ap (λ z. row z k) (sym e)
+    ∙ get_or-map (λ (z : Vec (Arc (List Value) A) B). states_of z.items) states k x []
+    (omega arith) ∙ ap (λ (z : Vec (Arc (List Value) A) B). states_of z.items) (sym y)
 
 -- how long a node's row is
-pub row_size : {A B : Type 0} (rows : List Row) (states : List (Vec (Arc (List Value) A) B)) (k : ℕ) (x : Vec (Arc (List Value) A) B) → rows_of states ≡ rows → k < length rows → x ≡ get_or states k x → length (row rows k) ≡ length x.items
-row_size rows states k x e l y = ap length (row_read rows states k x e l y) ∙ length-map x.items (λ a. arc_value a)
+pub row_size : {A B : Type 0} (rows : List Row) (states : List (Vec (Arc (List Value) A) B)) (k : ℕ)
+    (x : Vec (Arc (List Value) A) B) → rows_of states ≡ rows → k < length rows
+    → x ≡ get_or states k x → length (row rows k) ≡ length x.items
+row_size rows states k x e l y = ap length (row_read rows states k x e l y)
+    ∙ length-map x.items (λ a. arc_value a)
 
 -- a read of the names that wait for a node
-pub waits_read : (mails : List Mailed) (k : ℕ) (x : Mailed) → k < length mails → x ≡ get_or mails k x → get_or (waits_in mails) k [] ≡ x.waiting
-waits_read mails k x l y = get_or-map (λ (z : Mailed). z.waiting) mails k x [] l ∙ ap (λ (z : Mailed). z.waiting) (sym y)
+pub waits_read : (mails : List Mailed) (k : ℕ) (x : Mailed) → k < length mails
+    → x ≡ get_or mails k x → get_or (waits_in mails) k [] ≡ x.waiting
+waits_read mails k x l y = get_or-map (λ (z : Mailed). z.waiting) mails k x [] l
+    ∙ ap (λ (z : Mailed). z.waiting) (sym y)
 
 pub waits_len : (mails : List Mailed) → length (waits_in mails) ≡ length mails
 waits_len mails = length-map mails (λ (z : Mailed). z.waiting)
 
 -- a read of the names that a node's receives handed out
-pub lists_read : (mails : List Mailed) (k : ℕ) (x : Mailed) → k < length mails → x ≡ get_or mails k x → get_or (handed_in mails) k [] ≡ x.handed
-lists_read mails k x l y = get_or-map (λ (z : Mailed). z.handed) mails k x [] l ∙ ap (λ (z : Mailed). z.handed) (sym y)
+pub lists_read : (mails : List Mailed) (k : ℕ) (x : Mailed) → k < length mails
+    → x ≡ get_or mails k x → get_or (handed_in mails) k [] ≡ x.handed
+lists_read mails k x l y = get_or-map (λ (z : Mailed). z.handed) mails k x [] l
+    ∙ ap (λ (z : Mailed). z.handed) (sym y)
 
 pub lists_len : (mails : List Mailed) → length (handed_in mails) ≡ length mails
 lists_len mails = length-map mails (λ (z : Mailed). z.handed)
 
-pub rows_of_len : {A B : Type 0} (states : List (Vec (Arc (List Value) A) B)) → length (rows_of states) ≡ length states
-rows_of_len {A} {B} states = length-map states (λ (z : Vec (Arc (List Value) A) B). states_of z.items)
+pub rows_of_len : {A B : Type 0} (states : List (Vec (Arc (List Value) A) B))
+    → length (rows_of states) ≡ length states
+rows_of_len {A} {B} states =
+    length-map states (λ (z : Vec (Arc (List Value) A) B). states_of z.items)
 
 -- the rounds of a view are those of its fields
 pub rounds_view : {P : Type 0} {s v : Recorded P} → s ≡ v → s.log.setup.rounds ≡ v.log.setup.rounds
@@ -151,9 +199,12 @@ pub nodes_view : {P : Type 0} {s v : Recorded P} → s ≡ v → s.log.setup.nod
 nodes_view {P} e = ap (λ (z : Recorded P). z.log.setup.nodes) e
 
 -- the events of a view, with one more
-pub trace_view : {P : Type 0} {s v : Recorded P} (e : Event) (trace : List Event) → s ≡ v → trace ≡ s.log.trace ++ e ∷ [] → trace ≡ v.log.trace ++ e ∷ []
+pub trace_view : {P : Type 0} {s v : Recorded P} (e : Event) (trace : List Event) → s ≡ v
+    → trace ≡ s.log.trace ++ e ∷ [] → trace ≡ v.log.trace ++ e ∷ []
 trace_view {P} e trace is h = h ∙ ap (λ (z : Recorded P). z.log.trace ++ e ∷ []) is
 
 -- the run of a view, with one event more
-pub log_view : {P : Type 0} {s v : Recorded P} (e : Event) (trace : List Event) → s ≡ v → trace ≡ s.log.trace ++ e ∷ [] → record s.log { trace = trace } ≡ happened v.log e
-log_view {P} {s} e trace is h = ap (λ t. record s.log { trace = t }) h ∙ ap (λ (z : Recorded P). happened z.log e) is
+pub log_view : {P : Type 0} {s v : Recorded P} (e : Event) (trace : List Event) → s ≡ v
+    → trace ≡ s.log.trace ++ e ∷ [] → record s.log { trace = trace } ≡ happened v.log e
+log_view {P} {s} e trace is h = ap (λ t. record s.log { trace = t }) h
+    ∙ ap (λ (z : Recorded P). happened z.log e) is

@@ -16,19 +16,26 @@ spelt_same a old new waits same h = record {
 }
 
 -- one place that is written
-pub spelt_put : (a : Algorithm) (old new : List (List (Option Frame))) (waits : List Frame) (copy place : ℕ)
-    (o : Option Frame) → Puts None old new copy place o → IfSome o (IsHonest a) → AreHonest a old waits
+pub spelt_put : (a : Algorithm) (old new : List (List (Option Frame))) (waits : List Frame)
+    (copy place : ℕ)
+    (o : Option Frame) → Puts None old new copy place o → IfSome o (IsHonest a)
+    → AreHonest a old waits
     → AreHonest a new waits
 spelt_put a old new waits copy place o puts here h = record {
   flies = λ c k. flies c k (cases_eq c copy) (cases_eq k place);
   waits = h.waits;
 }
   where
-    flies : (c k : ℕ) → (c ≡ copy) ⊎ (c ≡ copy → ⊥) → (k ≡ place) ⊎ (k ≡ place → ⊥) → IfSome (read_at None new c k) (IsHonest a)
+    flies : (c k : ℕ) → (c ≡ copy) ⊎ (c ≡ copy → ⊥) → (k ≡ place) ⊎ (k ≡ place → ⊥)
+        → IfSome (read_at None new c k) (IsHonest a)
     flies c k (inl x) (inl y) =
-        subst (λ z. IfSome z (IsHonest a)) (sym (ap (λ i. read_at None new i k) x ∙ ap (read_at None new copy) y ∙ puts.there)) here
-    flies c k (inl x) (inr y) = subst (λ z. IfSome z (IsHonest a)) (sym (puts.others c k (λ both. y both.1))) (h.flies c k)
-    flies c k (inr x) either = subst (λ z. IfSome z (IsHonest a)) (sym (puts.others c k (λ both. x both.0))) (h.flies c k)
+        subst (λ z. IfSome z (IsHonest a))
+        (sym (ap (λ i. read_at None new i k) x ∙ ap (read_at None new copy) y ∙ puts.there))
+        here
+    flies c k (inl x) (inr y) = subst (λ z. IfSome z (IsHonest a))
+        (sym (puts.others c k (λ both. y both.1))) (h.flies c k)
+    flies c k (inr x) either = subst (λ z. IfSome z (IsHonest a))
+        (sym (puts.others c k (λ both. x both.0))) (h.flies c k)
 
 -- other frames that wait
 pub spelt_waits : (a : Algorithm) (flying : List (List (Option Frame))) (old new : List Frame)

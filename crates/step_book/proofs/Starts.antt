@@ -29,21 +29,28 @@ use Rattle.step_book.proofs.Reading.{nodes_are}
 use Rattle.step_book.proofs.Serials.{sent_empty}
 
 -- one row more
-pub rows_push : {A B : Type 0} (xs ys : List (Vec (Arc (List Value) A) B)) (y : Vec (Arc (List Value) A) B) (f : ℕ → Row) (n : ℕ) → ys ≡ xs ++ y ∷ [] → states_of y.items ≡ f n → rows_of xs ≡ map f (range_with_len 0 n) → rows_of ys ≡ map f (range_with_len 0 (n + 1))
+pub rows_push : {A B : Type 0} (xs ys : List (Vec (Arc (List Value) A) B))
+    (y : Vec (Arc (List Value) A) B) (f : ℕ → Row) (n : ℕ) → ys ≡ xs ++ y ∷ []
+    → states_of y.items ≡ f n → rows_of xs ≡ map f (range_with_len 0 n)
+    → rows_of ys ≡ map f (range_with_len 0 (n + 1))
 rows_push {A} {B} xs ys y f n e s h =
     ap rows_of e ∙ map-append (λ (z : Vec (Arc (List Value) A) B). states_of z.items) xs (y ∷ [])
-    ∙ ap (λ (x : Row). rows_of xs ++ x ∷ []) s ∙ ap (λ (x : List Row). x ++ f n ∷ []) h ∙ sym (map-range_with_len_more f 0 n n (omega arith))
+    ∙ ap (λ (x : Row). rows_of xs ++ x ∷ []) s ∙ ap (λ (x : List Row). x ++ f n ∷ []) h
+    ∙ sym (map-range_with_len_more f 0 n n (omega arith))
 
 -- the kinds of an initial state are the program's
-pub first_kinds : (p : ProgramTree) (s : Setup) (i : ℕ) → StartsAreStates p → map kind_of ((algorithm_of p s).init i) ≡ state_kinds p
+pub first_kinds : (p : ProgramTree) (s : Setup) (i : ℕ) → StartsAreStates p
+    → map kind_of ((algorithm_of p s).init i) ≡ state_kinds p
 unfolding algorithm
 first_kinds p s i starts = state_of_program p _ (starts s.nodes s.faults _ i)
 
 -- a plan that keeps the laws is a plan of the run
-pub plan_is : (start receives : ℕ → ℕ) (nodes : ℕ) (v : Log) → PlanLaws nodes receives start → nodes ≡ v.setup.nodes → IsPlan (world_of start v)
+pub plan_is : (start receives : ℕ → ℕ) (nodes : ℕ) (v : Log) → PlanLaws nodes receives start
+    → nodes ≡ v.setup.nodes → IsPlan (world_of start v)
 plan_is start receives nodes v laws e = record {
   first = laws.first_start;
-  next = λ r z. (let n = nodes_are start v in let up = laws.next_start r z in let some = laws.some_receive r z in omega arith);
+  next = λ r z. (let n = nodes_are start v in let up = laws.next_start r z in
+      let some = laws.some_receive r z in omega arith);
 }
 
 buffer_empty : (w : World) (i : ℕ) → buffer_of w i [] ≡ []
@@ -63,15 +70,24 @@ map_all f zero x = refl
 map_all f (suc n) x = ap (λ xs. f x ∷ xs) (map_all f n x)
 
 -- no names wait, and none were handed out
-pub none_wait : (n : ℕ) (mails : List Mailed) → mails ≡ replicate n (mailed [] [] 0) → waits_in mails ≡ replicate n []
+pub none_wait : (n : ℕ) (mails : List Mailed) → mails ≡ replicate n (mailed [] [] 0)
+    → waits_in mails ≡ replicate n []
 none_wait n mails e = ap waits_in e ∙ map_all (λ (m : Mailed). m.waiting) n (mailed [] [] 0)
 
-pub none_handed : (n : ℕ) (mails : List Mailed) → mails ≡ replicate n (mailed [] [] 0) → handed_in mails ≡ replicate n []
+pub none_handed : (n : ℕ) (mails : List Mailed) → mails ≡ replicate n (mailed [] [] 0)
+    → handed_in mails ≡ replicate n []
 none_handed n mails e = ap handed_in e ∙ map_all (λ (m : Mailed). m.handed) n (mailed [] [] 0)
 
 -- a run that begins holds with nothing beside it
-pub begins : (start receives : ℕ → ℕ) (nodes : ℕ) (v : Log) (p : ProgramTree) (s : Setup) (counts : List ℕ) (tables : List (List Mark)) (waiting : List (List Name)) (handed : List (List (List Name))) (answers : List Bool) (messages : List Name) → PlanLaws nodes receives start → IsLawful p.values s → nodes ≡ s.nodes → v ≡ opened p s → counts ≡ replicate s.nodes 0 → tables ≡ [] → waiting ≡ replicate s.nodes [] → handed ≡ replicate s.nodes [] → answers ≡ [] → messages ≡ [] → IsBookOf start nodes v counts tables waiting handed answers messages
-begins start receives nodes v p s counts tables waiting handed answers messages laws lawful n is a b c d e f =
+pub begins : (start receives : ℕ → ℕ) (nodes : ℕ) (v : Log) (p : ProgramTree) (s : Setup)
+    (counts : List ℕ) (tables : List (List Mark)) (waiting : List (List Name))
+    (handed : List (List (List Name))) (answers : List Bool) (messages : List Name)
+    → PlanLaws nodes receives start → IsLawful p.values s → nodes ≡ s.nodes → v ≡ opened p s
+    → counts ≡ replicate s.nodes 0 → tables ≡ [] → waiting ≡ replicate s.nodes []
+    → handed ≡ replicate s.nodes [] → answers ≡ [] → messages ≡ []
+    → IsBookOf start nodes v counts tables waiting handed answers messages
+begins start receives nodes v p s counts tables waiting handed answers messages laws lawful n is a b
+    c d e f =
     let o = opened p s in
     let w = world_of start o in
     let m = nodes_are start o in
@@ -80,7 +96,8 @@ begins start receives nodes v p s counts tables waiting handed answers messages 
       lawful = lawful;
       sized = n;
       plan = plan;
-      book = agrees_empty w plan counts o.rows (a ∙ ap (λ x. replicate x 0) (sym m)) (ap (λ x. map (λ i. w.algorithm.init i ∷ []) (range_with_len 0 x)) (sym m));
+      book = agrees_empty w plan counts o.rows (a ∙ ap (λ x. replicate x 0) (sym m))
+          (ap (λ x. map (λ i. w.algorithm.init i ∷ []) (range_with_len 0 x)) (sym m));
       waits = rw c (record {
         sized = length-replicate s.nodes [] ∙ sym m;
         held = λ i l. get_or-replicate s.nodes i [] [] (omega arith) ∙ sym (buffer_empty w i);
@@ -94,7 +111,8 @@ begins start receives nodes v p s counts tables waiting handed answers messages 
     })
 
 -- the parts of a run that begins
-pub opened_is : (p : ProgramTree) (s : Setup) (v : Log) → v.program ≡ p → v.setup ≡ s → v.trace ≡ [] → v.rows ≡ (opened p s).rows → v ≡ opened p s
+pub opened_is : (p : ProgramTree) (s : Setup) (v : Log) → v.program ≡ p → v.setup ≡ s → v.trace ≡ []
+    → v.rows ≡ (opened p s).rows → v ≡ opened p s
 opened_is p s v a b c d =
     ap (λ x. record { program = x; setup = v.setup; trace = v.trace; rows = v.rows }) a
     ∙ ap (λ x. record { program = p; setup = x; trace = v.trace; rows = v.rows }) b

@@ -165,6 +165,17 @@ pub record IsBookOf (start : ℕ → ℕ) (nodes : ℕ) (v : Log) (counts : List
   pub accounts : Accounts (world_of start v) (history v) handed answers
   pub serials : AreSent (world_of start v) (history v) messages
 
+-- some book keeps this run: there are lists beside it that are what its history says
+pub record HasBook (start : ℕ → ℕ) (v : Log) : Type 0 where
+  pub nodes : ℕ
+  pub counts : List ℕ
+  pub tables : List (List Mark)
+  pub waiting : List (List Name)
+  pub handed : List (List (List Name))
+  pub answers : List Bool
+  pub messages : List Name
+  pub book : IsBookOf start nodes v counts tables waiting handed answers messages
+
 -- the states that a row shares
 abbrev pub states_of : {A : Type 0} → List (Arc (List Value) A) → Row
 states_of xs = map (λ a. arc_value a) xs

@@ -12,7 +12,7 @@ ghost use Rattle.step_book.specs.Flight.{IsFlight, IsFlightBefore};
 ghost use Rattle.step_book.specs.History.{answers_of, arrival, copied, counted, dropped};
 ghost use Rattle.step_book.specs.History.{handed_of, let_go, spoken};
 ghost use Rattle.step_book.specs.Log.{CanCopy, HasNoCopy, IsDue, IsFaithful, IsFlying, IsLeastCopy};
-ghost use Rattle.step_book.specs.Log.{IsReceive, SameMarks};
+ghost use Rattle.step_book.specs.Log.{HasBook, IsReceive, SameMarks};
 ghost use Rattle.step_book.specs.Log.{SameMarksBut, SameWaiting, SameWaitingBut, count_of};
 ghost use Rattle.step_book.specs.Log.{happened, history, mark_in, opened, round_of};
 ghost use Rattle.step_book.specs.Log.{states_of, waiting_in, world_of};
@@ -168,6 +168,13 @@ impl<P: Plan> Book<P> {
         ensures { JournalAgrees (P.start self.now.plan) self.now.log
             (mark_in (P.start self.now.plan) self.now.log)
             (waiting_in (P.start self.now.plan) self.now.log) }
+    {
+        let _trace = &self.trace;
+    }
+
+    /// Nothing at run time: there is a book of the run, so that laws of books hold of it.
+    pub fn is_book(&self)
+        ensures { HasBook (P.start self.now.plan) self.now.log }
     {
         let _trace = &self.trace;
     }

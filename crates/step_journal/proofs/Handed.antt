@@ -26,7 +26,8 @@ use Rattle.step_journal.proofs.BufferViews.{buffer_read}
 abbrev pub IsTo : ℕ → Name → Type 0
 IsTo i n = n.to ≡ i
 
-chosen : (i : ℕ) (b : Bool) (xs ys : List Name) → All (IsTo i) xs → All (IsTo i) ys → All (IsTo i) (if b then xs else ys)
+chosen : (i : ℕ) (b : Bool) (xs ys : List Name) → All (IsTo i) xs → All (IsTo i) ys
+    → All (IsTo i) (if b then xs else ys)
 chosen i true xs ys h k = h
 chosen i false xs ys h k = k
 
@@ -37,8 +38,10 @@ to_arrival i n Silent e = All-nil (IsTo i)
 to_arrival i n (Released s) e = All-nil (IsTo i)
 to_arrival i n Lost e = All-nil (IsTo i)
 
-to_released : (w : World) (i : ℕ) (n : Name) (past : List Event) → (n.to ≡ i) ⊎ (n.to ≡ i → ⊥) → All (IsTo i) (arrived w i (Release n) past)
-to_released w i n past (inl same) = chosen i (n.to == i) _ [] (to_arrival i n _ same) (All-nil (IsTo i))
+to_released : (w : World) (i : ℕ) (n : Name) (past : List Event) → (n.to ≡ i) ⊎ (n.to ≡ i → ⊥)
+    → All (IsTo i) (arrived w i (Release n) past)
+to_released w i n past (inl same) =
+    chosen i (n.to == i) _ [] (to_arrival i n _ same) (All-nil (IsTo i))
 to_released w i n past (inr apart) = rw (ne_eqb n.to i apart) (All-nil (IsTo i))
 
 to_arrived : (w : World) (i : ℕ) (e : Event) (past : List Event) → All (IsTo i) (arrived w i e past)
@@ -51,72 +54,106 @@ to_arrived w i (Copy n) past = All-nil (IsTo i)
 to_waiting : (w : World) (i : ℕ) (t : List Event) → All (IsTo i) (buffer_of w i t)
 unfolding buffer_of
 to_waiting w i [] = All-nil (IsTo i)
-to_waiting w i (e ∷ past) = chosen i (is_take w i e past) [] _ (All-nil (IsTo i)) (All-append (IsTo i) _ _ (to_waiting w i past) (to_arrived w i e past))
+to_waiting w i (e ∷ past) = chosen i (is_take w i e past) [] _ (All-nil (IsTo i))
+    (All-append (IsTo i) _ _ (to_waiting w i past) (to_arrived w i e past))
 
-frame_to : (i : ℕ) (frames : List Frame) → All (IsTo i) (names_in frames) → (k : ℕ) (d : Frame) → k < length frames → (get_or frames k d).name.to ≡ i
+frame_to : (i : ℕ) (frames : List Frame) → All (IsTo i) (names_in frames) → (k : ℕ) (d : Frame)
+    → k < length frames → (get_or frames k d).name.to ≡ i
 frame_to i frames h k d l =
     let m = length-map frames (λ (f : Frame). f.name) in
-    ap (λ (n : Name). n.to) (sym (get_or-map (λ (f : Frame). f.name) frames k d d.name l)) ∙ h k d.name (omega arith)
+    ap (λ (n : Name). n.to) (sym (get_or-map (λ (f : Frame). f.name) frames k d d.name l))
+    ∙ h k d.name (omega arith)
 
 -- frames under the names that wait for a node are to it
-pub mail_to : (w : World) (i : ℕ) (t : List Event) (frames : List Frame) → names_in frames ≡ buffer_of w i t → (k : ℕ) (d : Frame) → k < length frames → (get_or frames k d).name.to ≡ i
+pub mail_to : (w : World) (i : ℕ) (t : List Event) (frames : List Frame)
+    → names_in frames ≡ buffer_of w i t → (k : ℕ) (d : Frame) → k < length frames
+    → (get_or frames k d).name.to ≡ i
 mail_to w i t frames names = frame_to i frames (All-same (IsTo i) _ _ names (to_waiting w i t))
 
 -- a node with a recorded state is one of the run
-from_in : (rows : List Row) (j r : ℕ) → 0 < r → r ≤ length (row rows j) → (j < length rows) ⊎ (length rows ≤ j) → j < length rows
+from_in : (rows : List Row) (j r : ℕ) → 0 < r → r ≤ length (row rows j)
+    → (j < length rows) ⊎ (length rows ≤ j) → j < length rows
 from_in rows j r first past (inl l) = l
-from_in rows j r first past (inr far) = let none : length (row rows j) ≡ 0 = ap length (get_or_past rows j [] far) in absurd (omega arith)
+from_in rows j r first past (inr far) = let none : length (row rows j) ≡ 0 =
+    ap length (get_or_past rows j [] far) in absurd (omega arith)
 
 -- genuine frames under the names that wait for a node are for it
-pub mail_of : (w : World) (t : List Event) (a : Algorithm) (rows : List Row) (n i : ℕ) (frames : List Frame) → length rows ≡ n → names_in frames ≡ buffer_of w i t → All (IsGenuine a rows) frames → All (IsMail a n i) frames
+pub mail_of : (w : World) (t : List Event) (a : Algorithm) (rows : List Row) (n i : ℕ)
+    (frames : List Frame) → length rows ≡ n → names_in frames ≡ buffer_of w i t
+    → All (IsGenuine a rows) frames → All (IsMail a n i) frames
 mail_of w t a rows n i frames long names genuine = λ k d l.
     let one = genuine k d l in
     record {
-      from = subst (λ z. (get_or frames k d).name.from < z) long (from_in rows _ _ one.first one.past (cases_lt _ _));
+      from = subst (λ z. (get_or frames k d).name.from < z) long
+          (from_in rows _ _ one.first one.past (cases_lt _ _));
       copy = one.copy;
       to = mail_to w i t frames names k d l;
       honest = one.honest;
     }
 
 -- a genuine frame is the message of the run in rounds
-pub said_of : (start : ℕ → ℕ) (v : Log) (f : Frame) → IsFaithful start v → IsGenuine (algorithm_of v.program v.setup) v.rows f → IsSaid start v f
+pub said_of : (start : ℕ → ℕ) (v : Log) (f : Frame) → IsFaithful start v
+    → IsGenuine (algorithm_of v.program v.setup) v.rows f → IsSaid start v f
 said_of start v f is g =
     let low = g.first in
     let past = g.past in
-    let from = subst (λ z. f.name.from < z) is.rowed (from_in v.rows f.name.from f.name.round low past (cases_lt _ _)) in
+    let from = subst (λ z. f.name.from < z) is.rowed
+    (from_in v.rows f.name.from f.name.round low past (cases_lt _ _)) in
     let own = is.stated f.name.from (f.name.round - 1) from (omega arith) in
     record {
       state = sym g.own ∙ own;
-      message = ap (sent_under (algorithm_of v.program v.setup) f.name) (sym own ∙ g.own) ∙ g.honest.says;
+      message = ap (sent_under (algorithm_of v.program v.setup) f.name) (sym own ∙ g.own)
+          ∙ g.honest.says;
     }
 
-pub all_said : (start : ℕ → ℕ) (v : Log) (frames : List Frame) → IsFaithful start v → All (IsGenuine (algorithm_of v.program v.setup) v.rows) frames → All (IsSaid start v) frames
+pub all_said : (start : ℕ → ℕ) (v : Log) (frames : List Frame) → IsFaithful start v
+    → All (IsGenuine (algorithm_of v.program v.setup) v.rows) frames → All (IsSaid start v) frames
 all_said start v frames is h = λ k d l. said_of start v (get_or frames k d) is (h k d l)
 
 -- the frames that wait in a buffer of a run's
-module _ {P : Type 0} {s v : Recorded P} {bs : List BufferView} (start : P → ℕ → ℕ) (e : s ≡ v) (f : Fits (start s.plan) s.log bs) (is : IsFaithful (start s.plan) s.log) where
-  there : (i : ℕ) (b : BufferView) (frames : List Frame) → i < s.log.setup.nodes → b ≡ get_or bs i b → frames ≡ b.waiting → frames ≡ (buffer_at bs i).waiting
-  there i b frames l h d = d ∙ ap (λ (x : BufferView). x.waiting) (sym (buffer_read bs i b (let n = f.sized in omega arith) h))
+module _ {P : Type 0} {s v : Recorded P} {bs : List BufferView} (start : P → ℕ
+    → ℕ) (e : s ≡ v) (f : Fits (start s.plan) s.log bs) (is : IsFaithful (start s.plan) s.log) where
+  there : (i : ℕ) (b : BufferView) (frames : List Frame) → i < s.log.setup.nodes → b ≡ get_or bs i b
+      → frames ≡ b.waiting → frames ≡ (buffer_at bs i).waiting
+  there i b frames l h d = d
+      ∙ ap (λ (x : BufferView). x.waiting)
+      (sym (buffer_read bs i b (let n = f.sized in omega arith) h))
 
-  genuine_there : (i : ℕ) (b : BufferView) (frames : List Frame) → i < s.log.setup.nodes → b ≡ get_or bs i b → frames ≡ b.waiting → All (IsGenuine (algorithm_of s.log.program s.log.setup) s.log.rows) frames
-  genuine_there i b frames l h d = All-same (IsGenuine (algorithm_of s.log.program s.log.setup) s.log.rows) frames _ (there i b frames l h d) (f.genuine i l)
+  genuine_there : (i : ℕ) (b : BufferView) (frames : List Frame) → i < s.log.setup.nodes
+      → b ≡ get_or bs i b → frames ≡ b.waiting
+      → All (IsGenuine (algorithm_of s.log.program s.log.setup) s.log.rows) frames
+  genuine_there i b frames l h d =
+      All-same (IsGenuine (algorithm_of s.log.program s.log.setup) s.log.rows) frames _
+      (there i b frames l h d) (f.genuine i l)
 
   -- name their senders' recorded states, and say what these send
-  pub waiting_genuine : (i : ℕ) (b : BufferView) (frames : List Frame) → i < v.log.setup.nodes → b ≡ get_or bs i b → frames ≡ b.waiting → All (IsGenuine (algorithm_of v.log.program v.log.setup) v.log.rows) frames
+  pub waiting_genuine : (i : ℕ) (b : BufferView) (frames : List Frame) → i < v.log.setup.nodes
+      → b ≡ get_or bs i b → frames ≡ b.waiting
+      → All (IsGenuine (algorithm_of v.log.program v.log.setup) v.log.rows) frames
   waiting_genuine i b frames l h d =
-      let own : i < s.log.setup.nodes = subst (λ (z : Recorded P). i < z.log.setup.nodes) (sym e) l in
-      subst (λ (z : Recorded P). All (IsGenuine (algorithm_of z.log.program z.log.setup) z.log.rows) frames) e (genuine_there i b frames own h d)
+      let own : i < s.log.setup.nodes =
+      subst (λ (z : Recorded P). i < z.log.setup.nodes) (sym e) l in
+      subst (λ (z : Recorded P). All (IsGenuine (algorithm_of z.log.program z.log.setup) z.log.rows)
+      frames) e (genuine_there i b frames own h d)
 
   -- are what the run in rounds says
-  pub waiting_said : (i : ℕ) (b : BufferView) (frames : List Frame) → i < v.log.setup.nodes → b ≡ get_or bs i b → frames ≡ b.waiting → All (IsSaid (start v.plan) v.log) frames
+  pub waiting_said : (i : ℕ) (b : BufferView) (frames : List Frame) → i < v.log.setup.nodes
+      → b ≡ get_or bs i b → frames ≡ b.waiting → All (IsSaid (start v.plan) v.log) frames
   waiting_said i b frames l h d =
-      let own : i < s.log.setup.nodes = subst (λ (z : Recorded P). i < z.log.setup.nodes) (sym e) l in
-      subst (λ (z : Recorded P). All (IsSaid (start z.plan) z.log) frames) e (all_said (start s.plan) s.log frames is (genuine_there i b frames own h d))
+      let own : i < s.log.setup.nodes =
+      subst (λ (z : Recorded P). i < z.log.setup.nodes) (sym e) l in
+      subst (λ (z : Recorded P). All (IsSaid (start z.plan) z.log) frames) e
+      (all_said (start s.plan) s.log frames is (genuine_there i b frames own h d))
 
   -- and are for the node
-  pub waiting_mail : (i : ℕ) (b : BufferView) (frames : List Frame) → i < v.log.setup.nodes → b ≡ get_or bs i b → frames ≡ b.waiting → All (IsMail (algorithm_of v.log.program v.log.setup) v.log.setup.nodes i) frames
+  pub waiting_mail : (i : ℕ) (b : BufferView) (frames : List Frame) → i < v.log.setup.nodes
+      → b ≡ get_or bs i b → frames ≡ b.waiting
+      → All (IsMail (algorithm_of v.log.program v.log.setup) v.log.setup.nodes i) frames
   waiting_mail i b frames l h d =
-      let own : i < s.log.setup.nodes = subst (λ (z : Recorded P). i < z.log.setup.nodes) (sym e) l in
-      subst (λ (z : Recorded P). All (IsMail (algorithm_of z.log.program z.log.setup) z.log.setup.nodes i) frames) e
-      (mail_of (world_of (start s.plan) s.log) (history s.log) (algorithm_of s.log.program s.log.setup) s.log.rows s.log.setup.nodes i frames is.rowed
+      let own : i < s.log.setup.nodes =
+      subst (λ (z : Recorded P). i < z.log.setup.nodes) (sym e) l in
+      subst (λ (z : Recorded P). All
+      (IsMail (algorithm_of z.log.program z.log.setup) z.log.setup.nodes i) frames) e
+      (mail_of (world_of (start s.plan) s.log) (history s.log)
+      (algorithm_of s.log.program s.log.setup) s.log.rows s.log.setup.nodes i frames is.rowed
       (ap names_in (there i b frames own h d) ∙ f.waiting i own) (genuine_there i b frames own h d))

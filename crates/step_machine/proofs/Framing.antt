@@ -29,11 +29,18 @@ pub record IsNamed (s : Format) (n : Name) (bytes : List ℕ) : Type 0 where
 again : (w : Written) → w.version ≡ V2 → w ≡ written_as (name_in w) w.message
 again w e = ap (λ (v : FrameVersion). record w { version = v }) e
 
-pub wire_is : (s : Format) (state : List Value) (bytes : List ℕ) → IsSealed s bytes → frame_at s bytes ≡ wire (frame_in s state bytes)
+pub wire_is : (s : Format) (state : List Value) (bytes : List ℕ) → IsSealed s bytes
+    → frame_at s bytes ≡ wire (frame_in s state bytes)
 wire_is s state bytes h = again (frame_at s bytes) h.second
 
 -- the header's places say the name
-pub name_read : (s : Format) (bytes : List ℕ) → name_in (frame_at s bytes) ≡ record { from = from_at bytes; to = to_at bytes; round = round_at bytes; copy = copy_at bytes }
+pub name_read : (s : Format) (bytes : List ℕ)
+    → name_in (frame_at s bytes) ≡ record {
+      from = from_at bytes;
+      to = to_at bytes;
+      round = round_at bytes;
+      copy = copy_at bytes;
+    }
 unfolding frame_at
 name_read s bytes = refl
 
@@ -45,7 +52,8 @@ long_enough s bytes h =
     omega (arith, h.frame.all, head)
 
 -- bytes that spell a message under a name are read as that
-pub spelled_named : (s : Format) → SpelledIsRead s → (n : Name) (m : List Value) (bytes : List ℕ) → Spells s bytes (written_as n m) → IsNamed s n bytes × (message_at s bytes ≡ m)
+pub spelled_named : (s : Format) → SpelledIsRead s → (n : Name) (m : List Value) (bytes : List ℕ)
+    → Spells s bytes (written_as n m) → IsNamed s n bytes × (message_at s bytes ≡ m)
 spelled_named s read n m bytes h =
     let r = read bytes (written_as n m) h in (
       record {
@@ -56,7 +64,8 @@ spelled_named s read n m bytes h =
     )
 
 -- with the copy's number another, they are that copy
-pub sealed_copy : (s : Format) (state : List Value) (old new : List ℕ) (k : ℕ) → SpelledIsRead s → IsSealed s old
+pub sealed_copy : (s : Format) (state : List Value) (old new : List ℕ) (k : ℕ) → SpelledIsRead s
+    → IsSealed s old
     → ((f : Written) → Spells s old f → f.version ≡ V2 → Spells s new (record f { copy = k }))
     → IsSealed s new × (frame_in s state new ≡ copied_as k (frame_in s state old))
 sealed_copy s state old new k read h writes =
@@ -67,15 +76,20 @@ sealed_copy s state old new k read h writes =
     )
 
 -- one of the frames to all
-pub spoken_to : (s : Format) (n : Name) (m : List Value) (bytes : List ℕ) → SpelledIsRead s → n.to < s.nodes → n.copy ≡ 0 → AreToAll s n.from n.round m 0 bytes
-    → IsNamed s n (nth_frame (frame_size s n.round) bytes n.to) × (message_at s (nth_frame (frame_size s n.round) bytes n.to) ≡ m)
+pub spoken_to : (s : Format) (n : Name) (m : List Value) (bytes : List ℕ) → SpelledIsRead s
+    → n.to < s.nodes → n.copy ≡ 0 → AreToAll s n.from n.round m 0 bytes
+    → IsNamed s n (nth_frame (frame_size s n.round) bytes n.to)
+    × (message_at s (nth_frame (frame_size s n.round) bytes n.to) ≡ m)
 spoken_to s n m bytes read within original h =
     spelled_named s read n m (nth_frame (frame_size s n.round) bytes n.to)
-    (subst (λ (k : ℕ). Spells s (nth_frame (frame_size s n.round) bytes n.to) (written_as (record n { copy = k }) m)) (sym original)
-    (subst (λ (to : ℕ). Spells s (nth_frame (frame_size s n.round) bytes n.to) (first_copy n.from to n.round m)) (omega arith) (h.each n.to (omega arith))))
+    (subst (λ (k : ℕ). Spells s (nth_frame (frame_size s n.round) bytes n.to)
+    (written_as (record n { copy = k }) m)) (sym original)
+    (subst (λ (to : ℕ). Spells s (nth_frame (frame_size s n.round) bytes n.to)
+    (first_copy n.from to n.round m)) (omega arith) (h.each n.to (omega arith))))
 
 -- it lies within the buffer
-pub within_all : (s : Format) (from round to : ℕ) (m : List Value) (bytes : List ℕ) → to < s.nodes → AreToAll s from round m 0 bytes → to * frame_size s round + frame_size s round ≤ length bytes
+pub within_all : (s : Format) (from round to : ℕ) (m : List Value) (bytes : List ℕ) → to < s.nodes
+    → AreToAll s from round m 0 bytes → to * frame_size s round + frame_size s round ≤ length bytes
 within_all s from round to m bytes within h =
     let size = frame_size s round in
     let e : to * size + size ≡ (to + 1) * size = omega arith in

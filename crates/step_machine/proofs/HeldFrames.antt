@@ -23,21 +23,31 @@ use Rattle.step_machine.proofs.Typing.{message_of_round, sends_typed}
 
 -- no frames are held well
 pub none_held : (a : Algorithm) (n i r : ℕ) → IsHeld a n i r (replicate n None)
-none_held a n i r = record { each = λ j l f is. let no : None ≡ Some f = sym (get_or-replicate n j None None l) ∙ is in absurd cc }
+none_held a n i r = record {
+  each = λ j l f is. let no : None ≡ Some f =
+      sym (get_or-replicate n j None None l) ∙ is in absurd cc;
+}
 
-pub held_none : (a : Algorithm) (n i r : ℕ) (held : HeldRow) → ((j : ℕ) → held_at held j ≡ None) → IsHeld a n i r held
-held_none a n i r held none = record { each = λ j l f is. let no : None ≡ Some f = sym (none j) ∙ is in absurd cc }
+pub held_none : (a : Algorithm) (n i r : ℕ) (held : HeldRow) → ((j : ℕ) → held_at held j ≡ None)
+    → IsHeld a n i r held
+held_none a n i r held none = record {
+  each = λ j l f is. let no : None ≡ Some f = sym (none j)
+      ∙ is in absurd cc;
+}
 
 some_same : (f g : Frame) → Some f ≡ Some g → f ≡ g
 some_same f g h = cc
 
 -- one more frame, of its sender
-pub one_held : (a : Algorithm) (n i r j : ℕ) (held : HeldRow) (f : Frame) → length held ≡ n → j < n → IsFrom a j i r f → IsHeld a n i r held → IsHeld a n i r (set held j (Some f))
+pub one_held : (a : Algorithm) (n i r j : ℕ) (held : HeldRow) (f : Frame) → length held ≡ n → j < n
+    → IsFrom a j i r f → IsHeld a n i r held → IsHeld a n i r (set held j (Some f))
 one_held a n i r j held f size l new h = record { each = λ k m. at k m (cases_eq k j) }
   where
-    at : (k : ℕ) → k < n → (k ≡ j) ⊎ (k ≡ j → ⊥) → ForSome (held_at (set held j (Some f)) k) (IsFrom a k i r)
+    at : (k : ℕ) → k < n → (k ≡ j) ⊎ (k ≡ j → ⊥)
+        → ForSome (held_at (set held j (Some f)) k) (IsFrom a k i r)
     at k m (inl same) g is =
-        let here : Some f ≡ Some g = sym (get_or-set_same held j (Some f) None (omega arith)) ∙ ap (λ x. held_at (set held j (Some f)) x) (sym same) ∙ is in
+        let here : Some f ≡ Some g = sym (get_or-set_same held j (Some f) None (omega arith))
+        ∙ ap (λ x. held_at (set held j (Some f)) x) (sym same) ∙ is in
         subst (λ x. IsFrom a x i r g) (sym same) (subst (IsFrom a j i r) (some_same f g here) new)
     at k m (inr apart) g is =
         let ne : k ≢ j = apart in
@@ -70,7 +80,8 @@ no_rows a n i r = record {
 
 -- one more frame, of the k-th round
 pub one_row : (a : Algorithm) (n i r k j : ℕ) (held : List HeldRow) (f : Frame) → k ≤ ahead → j < n
-    → IsFrom a j i (r + k) f → AreHeld a n i r held → AreHeld a n i r (set held k (set (row_of held k) j (Some f)))
+    → IsFrom a j i (r + k) f → AreHeld a n i r held
+    → AreHeld a n i r (set held k (set (row_of held k) j (Some f)))
 one_row a n i r k j held f l m new h = record {
   places = record {
     rows = length-set _ _ _ ∙ h.places.rows;
@@ -88,14 +99,18 @@ one_row a n i r k j held f l m new h = record {
     other : (k' : ℕ) → (k' ≡ k → ⊥) → row_of (set held k row) k' ≡ row_of held k'
     other k' apart = let ne : k' ≢ k = apart in get_or-set_other held k k' row [] ne
 
-    sized : (k' : ℕ) → k' ≤ ahead → (k' ≡ k) ⊎ (k' ≡ k → ⊥) → length (row_of (set held k row) k') ≡ n
-    sized k' l' (inl same) = ap (λ x. length (row_of (set held k row) x)) same ∙ ap length there ∙ length-set _ _ _ ∙ h.places.sized k l
+    sized : (k' : ℕ) → k' ≤ ahead → (k' ≡ k) ⊎ (k' ≡ k → ⊥)
+        → length (row_of (set held k row) k') ≡ n
+    sized k' l' (inl same) = ap (λ x. length (row_of (set held k row) x)) same ∙ ap length there
+        ∙ length-set _ _ _ ∙ h.places.sized k l
     sized k' l' (inr apart) = ap length (other k' apart) ∙ h.places.sized k' l'
 
-    at : (k' : ℕ) → k' ≤ ahead → (k' ≡ k) ⊎ (k' ≡ k → ⊥) → IsHeld a n i (r + k') (row_of (set held k row) k')
+    at : (k' : ℕ) → k' ≤ ahead → (k' ≡ k) ⊎ (k' ≡ k → ⊥)
+        → IsHeld a n i (r + k') (row_of (set held k row) k')
     at k' l' (inl same) =
         subst (λ x. IsHeld a n i (r + x) (row_of (set held k row) x)) (sym same)
-        (subst (IsHeld a n i (r + k)) (sym there) (one_held a n i (r + k) j (row_of held k) f (h.places.sized k l) m new (h.each k l)))
+        (subst (IsHeld a n i (r + k)) (sym there)
+        (one_held a n i (r + k) j (row_of held k) f (h.places.sized k l) m new (h.each k l)))
     at k' l' (inr apart) = subst (IsHeld a n i (r + k')) (sym (other k' apart)) (h.each k' l')
 
 -- ---- the next round
@@ -104,39 +119,48 @@ one_row a n i r k j held f l m new h = record {
 abbrev pub turned : List HeldRow → HeldRow → List HeldRow
 turned held free = drop 1 (set held 0 free) ++ take 1 (set held 0 free)
 
-pub turned_kept : (held : List HeldRow) (free : HeldRow) (k : ℕ) → length held ≡ suc ahead → k < ahead → row_of (turned held free) k ≡ row_of held (k + 1)
+pub turned_kept : (held : List HeldRow) (free : HeldRow) (k : ℕ) → length held ≡ suc ahead
+    → k < ahead → row_of (turned held free) k ≡ row_of held (k + 1)
 turned_kept [] free k size l = absurd (omega arith)
 turned_kept (x ∷ xs) free k size l =
-    get_or_append_left xs (free ∷ []) [] k (omega arith) ∙ (let e : suc k ≡ k + 1 = omega arith in ap (row_of (x ∷ xs)) e)
+    get_or_append_left xs (free ∷ []) [] k (omega arith)
+    ∙ (let e : suc k ≡ k + 1 = omega arith in ap (row_of (x ∷ xs)) e)
 
-pub turned_last : (held : List HeldRow) (free : HeldRow) → length held ≡ suc ahead → row_of (turned held free) ahead ≡ free
+pub turned_last : (held : List HeldRow) (free : HeldRow) → length held ≡ suc ahead
+    → row_of (turned held free) ahead ≡ free
 turned_last [] free size = absurd (omega arith)
 turned_last (x ∷ xs) free size = get_or_push xs free [] ahead (omega arith)
 
-turned_length : (held : List HeldRow) (free : HeldRow) → length held ≡ suc ahead → length (turned held free) ≡ suc ahead
+turned_length : (held : List HeldRow) (free : HeldRow) → length held ≡ suc ahead
+    → length (turned held free) ≡ suc ahead
 turned_length [] free size = absurd (omega arith)
 turned_length (x ∷ xs) free size = length-append xs (free ∷ []) ∙ omega arith
 
-pub turned_places : (n : ℕ) (held : List HeldRow) (free : HeldRow) → length free ≡ length (row_of held 0) → HasPlaces n held → HasPlaces n (turned held free)
+pub turned_places : (n : ℕ) (held : List HeldRow) (free : HeldRow)
+    → length free ≡ length (row_of held 0) → HasPlaces n held → HasPlaces n (turned held free)
 turned_places n held free same h = record {
   rows = turned_length held free h.rows;
   sized = λ k l. at k l (cases_lt k ahead);
 }
   where
     at : (k : ℕ) → k ≤ ahead → (k < ahead) ⊎ (ahead ≤ k) → length (row_of (turned held free) k) ≡ n
-    at k l (inl before) = ap length (turned_kept held free k h.rows before) ∙ h.sized (k + 1) (omega arith)
+    at k l (inl before) = ap length (turned_kept held free k h.rows before)
+        ∙ h.sized (k + 1) (omega arith)
     at k l (inr past) =
         let last : k ≡ ahead = omega arith in
-        ap (λ x. length (row_of (turned held free) x)) last ∙ ap length (turned_last held free h.rows) ∙ same ∙ h.sized 0 (omega arith)
+        ap (λ x. length (row_of (turned held free) x)) last
+        ∙ ap length (turned_last held free h.rows) ∙ same ∙ h.sized 0 (omega arith)
 
-pub turned_held : (a : Algorithm) (n i r s : ℕ) (held : List HeldRow) (free : HeldRow) → s ≡ r + 1 → length free ≡ length (row_of held 0)
+pub turned_held : (a : Algorithm) (n i r s : ℕ) (held : List HeldRow) (free : HeldRow) → s ≡ r + 1
+    → length free ≡ length (row_of held 0)
     → ((j : ℕ) → held_at free j ≡ None) → AreHeld a n i r held → AreHeld a n i s (turned held free)
 turned_held a n i r s held free next same none h = record {
   places = turned_places n held free same h.places;
   each = λ k l. at k l (cases_lt k ahead);
 }
   where
-    at : (k : ℕ) → k ≤ ahead → (k < ahead) ⊎ (ahead ≤ k) → IsHeld a n i (s + k) (row_of (turned held free) k)
+    at : (k : ℕ) → k ≤ ahead → (k < ahead) ⊎ (ahead ≤ k)
+        → IsHeld a n i (s + k) (row_of (turned held free) k)
     at k l (inl before) =
         let e : r + (k + 1) ≡ s + k = omega arith in
         subst (IsHeld a n i (s + k)) (sym (turned_kept held free k h.places.rows before))
@@ -144,7 +168,8 @@ turned_held a n i r s held free next same none h = record {
     at k l (inr past) =
         let last : k ≡ ahead = omega arith in
         held_none a n i (s + k) (row_of (turned held free) k) (λ j.
-        ap (λ x. held_at (row_of (turned held free) x) j) last ∙ ap (λ x. held_at x j) (turned_last held free h.places.rows) ∙ none j)
+        ap (λ x. held_at (row_of (turned held free) x) j) last
+        ∙ ap (λ x. held_at x j) (turned_last held free h.places.rows) ∙ none j)
 
 -- ---- the inbox
 
@@ -152,12 +177,16 @@ turned_held a n i r s held free next same none h = record {
 abbrev pub said : ℕ → Option Frame → Option Received
 said j o = option_map (λ (f : Frame). record { from = j; message = f.message }) o
 
-said_own : (j : ℕ) (o : Option Frame) → ForSome o (λ f. f.name.from ≡ j) → option_map (λ (f : Frame). record { from = f.name.from; message = f.message }) o ≡ said j o
+said_own : (j : ℕ) (o : Option Frame) → ForSome o (λ f. f.name.from ≡ j)
+    → option_map (λ (f : Frame). record { from = f.name.from; message = f.message }) o ≡ said j o
 said_own j None h = refl
 said_own j (Some f) h = let same : f.name.from ≡ j = h f refl in rw same refl
 
 -- the inbox of frames that stand at their senders' places from k on
-inbox_from : (held : HeldRow) (h : ℕ → Option Frame) (k : ℕ) → ((j : ℕ) → j < length held → get_or held j None ≡ h (k + j)) → ((j : ℕ) → j < length held → ForSome (get_or held j None) (λ f. f.name.from ≡ k + j)) → inbox_of held ≡ filter_map (λ j. said j (h j)) (range_with_len k (length held))
+inbox_from : (held : HeldRow) (h : ℕ → Option Frame) (k : ℕ)
+    → ((j : ℕ) → j < length held → get_or held j None ≡ h (k + j))
+    → ((j : ℕ) → j < length held → ForSome (get_or held j None) (λ f. f.name.from ≡ k + j))
+    → inbox_of held ≡ filter_map (λ j. said j (h j)) (range_with_len k (length held))
 inbox_from [] h k same from = refl
 inbox_from (o ∷ os) h k same from =
     let k0 : k + 0 ≡ k = omega arith in
@@ -166,32 +195,43 @@ inbox_from (o ∷ os) h k same from =
     ap (λ (x : Option Received). cons_option x (inbox_of os)) (said_own k o own ∙ ap (said k) here)
     ∙ ap (cons_option (said k (h k))) (inbox_from os h (k + 1)
     (λ j l. same (suc j) (omega arith) ∙ (let e : k + suc j ≡ k + 1 + j = omega arith in ap h e))
-    (λ j l f is. from (suc j) (omega arith) f is ∙ (let e : k + suc j ≡ k + 1 + j = omega arith in e)))
+    (λ j l f is. from (suc j) (omega arith) f is
+    ∙ (let e : k + suc j ≡ k + 1 + j = omega arith in e)))
 
 -- the frames held are the inbox of their senders, in rising order
-pub inbox_held : (a : Algorithm) (n i r : ℕ) (held : HeldRow) → length held ≡ n → IsHeld a n i r held → inbox_of held ≡ filter_map (λ j. said j (held_at held j)) (range_with_len 0 n)
+pub inbox_held : (a : Algorithm) (n i r : ℕ) (held : HeldRow) → length held ≡ n
+    → IsHeld a n i r held
+    → inbox_of held ≡ filter_map (λ j. said j (held_at held j)) (range_with_len 0 n)
 inbox_held a n i r held size h =
     inbox_from held (held_at held) 0
     (λ j l. let e : j ≡ 0 + j = omega arith in ap (held_at held) e)
-    (λ j l f is. let m : j < n = omega arith in (h.each j m f is).from ∙ (let e : j ≡ 0 + j = omega arith in e))
+    (λ j l f is. let m : j < n = omega arith in (h.each j m f is).from
+    ∙ (let e : j ≡ 0 + j = omega arith in e))
     ∙ ap (λ m. filter_map (λ j. said j (held_at held j)) (range_with_len 0 m)) size
 
 -- ---- what is sent has its types
 
 -- the message of a frame is one of its round's
-pub typed_frame : (a : Algorithm) (f : Frame) → IsHonest a f → (p : ProgramTree) (s : Setup) → KeepsTypes p → a ≡ algorithm_of p s → IsMessageOf p f.name.round f.message
+pub typed_frame : (a : Algorithm) (f : Frame) → IsHonest a f → (p : ProgramTree) (s : Setup)
+    → KeepsTypes p → a ≡ algorithm_of p s → IsMessageOf p f.name.round f.message
 typed_frame a f h p s keeps same =
     subst (λ (o : Option (List Value)). IfSome o (IsMessageOf p f.name.round)) h.says
     (sends_typed a p s keeps same f.name.round f.state f.name.from f.name.to h.types)
 
 -- an inbox of frames that each have a message of the round
-inbox_typed : (p : ProgramTree) (r : ℕ) (held : HeldRow) → ((j : ℕ) → j < length held → ForSome (held_at held j) (λ f. IsMessageOf p r f.message)) → IsInboxOf p r (inbox_of held)
+inbox_typed : (p : ProgramTree) (r : ℕ) (held : HeldRow)
+    → ((j : ℕ) → j < length held → ForSome (held_at held j) (λ f. IsMessageOf p r f.message))
+    → IsInboxOf p r (inbox_of held)
 inbox_typed p r [] h = λ k d l. absurd (omega arith)
 inbox_typed p r (None ∷ os) h = inbox_typed p r os (λ j l. h (suc j) (omega arith))
 inbox_typed p r ((Some f) ∷ os) h =
-    All-cons (λ (m : Received). IsMessageOf p r m.message) (record { from = f.name.from; message = f.message }) (inbox_of os) (h 0 (omega arith) f refl) (inbox_typed p r os (λ j l. h (suc j) (omega arith)))
+    All-cons (λ (m : Received). IsMessageOf p r m.message)
+    (record { from = f.name.from; message = f.message }) (inbox_of os)
+    (h 0 (omega arith) f refl) (inbox_typed p r os (λ j l. h (suc j) (omega arith)))
 
-module _ (a : Algorithm) (n i r : ℕ) (held : HeldRow) (size : length held ≡ n) (h : IsHeld a n i r held) (p : ProgramTree) (s : Setup) (keeps : KeepsTypes p) (same : a ≡ algorithm_of p s) where
+module _ (a : Algorithm) (n i r : ℕ) (held : HeldRow) (size : length held ≡ n)
+    (h : IsHeld a n i r held) (p : ProgramTree) (s : Setup) (keeps : KeepsTypes p)
+    (same : a ≡ algorithm_of p s) where
   typed_at : (j : ℕ) → j < length held → ForSome (held_at held j) (λ f. IsMessageOf p r f.message)
   typed_at j l f is =
       let from = h.each j (omega (arith, size)) f is in
@@ -207,4 +247,5 @@ module _ (a : Algorithm) (n i r : ℕ) (held : HeldRow) (size : length held ≡ 
 
   -- and so the code can read them
   pub are_of_round : AreOfRound p r held
-  are_of_round k d l = subst (MayBeOfRound p r) (get_or_default held k None d l) (may_be (held_at held k) (typed_at k l))
+  are_of_round k d l = subst (MayBeOfRound p r) (get_or_default held k None d l)
+      (may_be (held_at held k) (typed_at k l))

@@ -1,5 +1,23 @@
 -- Fields that are read by the kinds that they are known to have.
-use Rattle.std.proofs.Common.{◌≡◌, ◌∙◌, ℕ, zero, suc, ◌≤◌, List, [], ◌∷◌, map, length, drop, arith, refl, ap, sym, subst}
+use Rattle.std.proofs.Common.{
+  ◌≡◌,
+  ◌∙◌,
+  ℕ,
+  zero,
+  suc,
+  ◌≤◌,
+  List,
+  [],
+  ◌∷◌,
+  map,
+  length,
+  drop,
+  arith,
+  refl,
+  ap,
+  sym,
+  subst,
+}
 use Rattle.std.proofs.lemmas.List.{length-drop}
 use Rattle.round_lang.specs.declared.kind.Kind.{Kind}
 use Rattle.round_lang.specs.declared.kind.Kind.TheVariants as kind
@@ -25,10 +43,12 @@ kind_read (kind.Row n) bytes = ap kind.Row (length-numbers n bytes)
 kinds_read : (ks : List Kind) (bytes : List ℕ) → map kind_of (fields_at ks bytes) ≡ ks
 kinds_read [] bytes = refl
 kinds_read (k ∷ ks) bytes =
-    ap (λ x. x ∷ map kind_of (fields_at ks (drop (width k) bytes))) (kind_read k bytes) ∙ ap (λ l. k ∷ l) (kinds_read ks (drop (width k) bytes))
+    ap (λ x. x ∷ map kind_of (fields_at ks (drop (width k) bytes))) (kind_read k bytes)
+    ∙ ap (λ l. k ∷ l) (kinds_read ks (drop (width k) bytes))
 
 -- the bytes behind a header of version 2
-pub record AreFields (s : Format) (bytes : List ℕ) (kinds : List Kind) (body : List ℕ) : Type 0 where
+pub record AreFields (s : Format) (bytes : List ℕ) (kinds : List Kind)
+    (body : List ℕ) : Type 0 where
   pub block : IsBlock kinds
   pub room : size kinds ≤ length body
   pub message_is : fields_at kinds body ≡ (frame_at s bytes).message
@@ -41,14 +61,22 @@ module _ (s : Format) (format : IsFormat s) (bytes : List ℕ) (h : IsSealed s b
   pub behind_header : 13 ≤ length bytes
   behind_header = omega (arith, h.frame.all, head_is)
 
-  pub read_by : (kinds : List Kind) (body : List ℕ) → map kind_of (frame_at s bytes).message ≡ kinds → body ≡ drop 13 bytes → AreFields s bytes kinds body
+  pub read_by : (kinds : List Kind) (body : List ℕ) → map kind_of (frame_at s bytes).message ≡ kinds
+      → body ≡ drop 13 bytes → AreFields s bytes kinds body
   unfolding frame_at
   read_by kinds body e b =
       let ks = kinds_at s (round_at bytes) in
       let same : kinds ≡ ks = sym e ∙ kinds_read ks (drop (head_at bytes) bytes) in
-      let there : body ≡ drop (head_at bytes) bytes = b ∙ ap (λ (n : ℕ). drop n bytes) (sym head_is) in
+      let there : body ≡ drop (head_at bytes) bytes = b
+      ∙ ap (λ (n : ℕ). drop n bytes) (sym head_is) in
       record {
         block = subst IsBlock (sym same) (format.blocks (position s (round_at bytes)));
-        room = omega (arith, ap size same, ap length there, length-drop (head_at bytes) bytes, h.frame.all);
+        room = omega (
+          arith,
+          ap size same,
+          ap length there,
+          length-drop (head_at bytes) bytes,
+          h.frame.all,
+        );
         message_is = rw (same, there) refl;
       }

@@ -24,18 +24,27 @@ abbrev pub IsOwn : NodeView → Name → Type 0
 IsOwn n name = name ≡ record { from = n.me; to = name.to; round = n.round; copy = 0 }
 
 -- it says what the node's state sends
-pub ready_is : (s : Inside) (n : NodeView) (dest : ℕ) (p : Ready) → node_seen s ≡ n → HasStateTypes (algorithm_of s.machine s.setup) s.state → p ≡ ready_in n dest → IsPrepared (algorithm_in n) p
+pub ready_is : (s : Inside) (n : NodeView) (dest : ℕ) (p : Ready) → node_seen s ≡ n
+    → HasStateTypes (algorithm_of s.machine s.setup) s.state → p ≡ ready_in n dest
+    → IsPrepared (algorithm_in n) p
 ready_is s n dest p seen types e =
-    let typed : HasStateTypes (algorithm_in n) n.state = subst (λ (x : NodeView). HasStateTypes (algorithm_in x) x.state) seen types in
+    let typed : HasStateTypes (algorithm_in n) n.state =
+    subst (λ (x : NodeView). HasStateTypes (algorithm_in x) x.state) seen types in
     subst (IsPrepared (algorithm_in n)) (sym e) (record { says = refl; types = typed })
 
 -- from the node's fields
-pub ready_from : (s : Inside) (n : NodeView) (dest : ℕ) (state : List Value) (m : Option (List Value)) (p : Ready) → node_seen s ≡ n → state ≡ n.state → m ≡ sent_to n dest
-    → p ≡ record { name = record { from = s.me; to = dest; round = s.round; copy = 0 }; state = state; message = m } → p ≡ ready_in n dest
+pub ready_from : (s : Inside) (n : NodeView) (dest : ℕ) (state : List Value)
+    (m : Option (List Value)) (p : Ready) → node_seen s ≡ n → state ≡ n.state → m ≡ sent_to n dest
+    → p ≡ record {
+      name = record { from = s.me; to = dest; round = s.round; copy = 0 };
+      state = state;
+      message = m;
+    } → p ≡ ready_in n dest
 ready_from s n dest state m p seen e f is =
     let name : Name = record { from = s.me; to = dest; round = s.round; copy = 0 } in
     let in_state : List Value → Ready = λ x. record { name = name; state = x; message = m } in
-    let saying : Option (List Value) → Ready = λ x. record { name = name; state = n.state; message = x } in
+    let saying : Option (List Value)
+    → Ready = λ x. record { name = name; state = n.state; message = x } in
     let under : NodeView → Ready = λ x. record {
       name = record { from = x.me; to = dest; round = x.round; copy = 0 };
       state = n.state;
@@ -44,16 +53,26 @@ ready_from s n dest state m p seen e f is =
     is ∙ ap in_state e ∙ ap saying f ∙ ap under seen
 
 -- from what it keeps as said to all
-pub ready_told : (s : Inside) (n : NodeView) (dest : ℕ) (a : Spoken) (p : Ready) → node_seen s ≡ n → (told : IsToldToAll s.machine s.setup s.me s.round s.state a)
-    → p ≡ record { name = record { from = s.me; to = dest; round = s.round; copy = 0 }; state = (origin_of a).state; message = told.message } → p ≡ ready_in n dest
+pub ready_told : (s : Inside) (n : NodeView) (dest : ℕ) (a : Spoken) (p : Ready) → node_seen s ≡ n
+    → (told : IsToldToAll s.machine s.setup s.me s.round s.state a)
+    → p ≡ record {
+      name = record { from = s.me; to = dest; round = s.round; copy = 0 };
+      state = (origin_of a).state;
+      message = told.message;
+    } → p ≡ ready_in n dest
 ready_told s n dest a p seen told =
-    ready_from s n dest (origin_of a).state told.message p seen (told.origin.state_is ∙ ap (λ (x : NodeView). x.state) seen)
+    ready_from s n dest (origin_of a).state told.message p seen (told.origin.state_is
+    ∙ ap (λ (x : NodeView). x.state) seen)
     (sym (told.told dest) ∙ ap (λ (x : NodeView). sent_to x dest) seen)
 
 -- what is said to all for the first time in a round
-pub ready_first : (s : Inside) (n : NodeView) (name : Name) (a : Spoken) (m : Option (List Value)) (p : Ready) → node_seen s ≡ n → IsOwn n name → (origin_of a).state ≡ n.state → m ≡ sent_to n name.to
+pub ready_first : (s : Inside) (n : NodeView) (name : Name) (a : Spoken) (m : Option (List Value))
+    (p : Ready) → node_seen s ≡ n → IsOwn n name → (origin_of a).state ≡ n.state
+    → m ≡ sent_to n name.to
     → p ≡ record { name = name; state = (origin_of a).state; message = m } → p ≡ ready_in n name.to
 ready_first s n name a m p seen own e f is =
     let under : Name → Ready = λ x. record { name = x; state = (origin_of a).state; message = m } in
-    let own_in : NodeView → Name = λ x. record { from = x.me; to = name.to; round = x.round; copy = 0 } in
-    ready_from s n name.to (origin_of a).state m p seen e f (is ∙ ap under (own ∙ sym (ap own_in seen)))
+    let own_in : NodeView
+    → Name = λ x. record { from = x.me; to = name.to; round = x.round; copy = 0 } in
+    ready_from s n name.to (origin_of a).state m p seen e f (is
+    ∙ ap under (own ∙ sym (ap own_in seen)))

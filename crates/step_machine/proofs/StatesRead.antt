@@ -10,25 +10,30 @@ use Rattle.round_lang.specs.Words.{IsSpelled}
 use Rattle.round_lang.proofs.Spelling.{size-kind_of}
 
 -- what is read of a value, and what is left behind it
-pub record IsNext (kinds : List Kind) (words : List ℕ) (kind : Kind) (rest_kinds : List Kind) (rest_words : List ℕ) : Type 0 where
+pub record IsNext (kinds : List Kind) (words : List ℕ) (kind : Kind) (rest_kinds : List Kind)
+    (rest_words : List ℕ) : Type 0 where
   pub value : read kind words ≡ at (values_of kinds words) 0
   pub small : IsSmall (read kind words)
   pub rest : values_of rest_kinds rest_words ≡ drop 1 (values_of kinds words)
   pub spelled : IsSpelled rest_kinds rest_words
 
 -- the values behind the first one are spelled
-spelled_rest : (kind : Kind) (kinds : List Kind) (words : List ℕ) → IsSpelled (kind ∷ kinds) words → IsSpelled kinds (drop (size kind) words)
+spelled_rest : (kind : Kind) (kinds : List Kind) (words : List ℕ) → IsSpelled (kind ∷ kinds) words
+    → IsSpelled kinds (drop (size kind) words)
 spelled_rest kind kinds words h =
     let value = read kind words in
     let values = values_of kinds (drop (size kind) words) in
     let first : kind ≡ kind_of value = ap (λ ks. get_or ks 0 kind) h.kinds_are in
     record {
       kinds_are = ap (drop 1) h.kinds_are;
-      words_are = ap (drop (size kind)) h.words_are ∙ drop_at (words_of value) (all_words values) (size kind) (sym (ap size first ∙ size-kind_of value));
+      words_are = ap (drop (size kind)) h.words_are
+          ∙ drop_at (words_of value) (all_words values) (size kind)
+          (sym (ap size first ∙ size-kind_of value));
       small = h.small.1;
     }
 
-next_of : (kind : Kind) (kinds : List Kind) (words : List ℕ) → IsSpelled (kind ∷ kinds) words → IsNext (kind ∷ kinds) words kind kinds (drop (size kind) words)
+next_of : (kind : Kind) (kinds : List Kind) (words : List ℕ) → IsSpelled (kind ∷ kinds) words
+    → IsNext (kind ∷ kinds) words kind kinds (drop (size kind) words)
 next_of kind kinds words h = record {
   value = refl;
   small = h.small.0;
@@ -36,7 +41,9 @@ next_of kind kinds words h = record {
   spelled = spelled_rest kind kinds words h;
 }
 
-pub IsNext-of : (kinds : List Kind) (words : List ℕ) (kind : Kind) (rest_kinds : List Kind) (rest_words : List ℕ) → IsSpelled kinds words → kinds ≡ kind ∷ rest_kinds → rest_words ≡ drop (size kind) words → IsNext kinds words kind rest_kinds rest_words
+pub IsNext-of : (kinds : List Kind) (words : List ℕ) (kind : Kind) (rest_kinds : List Kind)
+    (rest_words : List ℕ) → IsSpelled kinds words → kinds ≡ kind ∷ rest_kinds
+    → rest_words ≡ drop (size kind) words → IsNext kinds words kind rest_kinds rest_words
 IsNext-of kinds words kind rest_kinds rest_words h k w =
     subst (λ ks. IsNext ks words kind rest_kinds rest_words) (sym k)
     (subst (IsNext (kind ∷ rest_kinds) words kind rest_kinds) (sym w)
@@ -53,7 +60,8 @@ entry_first (suc n) rest entry some =
     let less : suc n - 1 ≡ n = omega arith in
     record { entry_is = refl; rest_is = ap (λ k. take k rest) less }
 
-pub IsEntry-of : (n : ℕ) (words rest : List ℕ) (entry : ℕ) → n ≢ 0 → words ≡ entry ∷ rest → IsEntry n words entry rest
+pub IsEntry-of : (n : ℕ) (words rest : List ℕ) (entry : ℕ) → n ≢ 0 → words ≡ entry ∷ rest
+    → IsEntry n words entry rest
 IsEntry-of n words rest entry some is =
     subst (λ ws. IsEntry n ws entry rest) (sym is) (entry_first n rest entry some)
 

@@ -16,8 +16,11 @@ loop-node-preserved g c =
     elim c.if-contains.branch [
       | then-contains+in_ok-driver w ↦
           subst (λ (x : Recorded _). IsSteppedTo correct old x (i + 1)) (sym w.driver-is)
-          (stepped_next correct old d w.in_ok-driver.driver i c.loop-node.invariant (sym c.contains.ensures ∙ w.if-contains.true) w.in_ok-driver.ensures.plan w.in_ok-driver.ensures.log)
+          (stepped_next correct old d w.in_ok-driver.driver i c.loop-node.invariant
+          (sym c.contains.ensures ∙ w.if-contains.true) w.in_ok-driver.ensures.plan
+          w.in_ok-driver.ensures.log)
       | else-contains w ↦
           subst (λ (x : Recorded _). IsSteppedTo correct old x (i + 1)) (sym w.driver-is)
-          (stepped_none correct old d i c.loop-node.invariant (sym c.contains.ensures ∙ w.if-contains.false))
+          (stepped_none correct old d i c.loop-node.invariant (sym c.contains.ensures
+          ∙ w.if-contains.false))
     ]

@@ -4,7 +4,9 @@ use Rattle.adversary.proofs.driver.first_nodes.Goals as goal
 
 pub loop-me-preserved : goal.loop-me-preserved
 loop-me-preserved c = λ start.
-    one_more start _ _ _ _ _ (c.loop-me.invariant start) (first_node start c.args.program.now c.args.setup.now c.loop-me.me _ c.loop-me-test.true c.in_ok-new.ensures) c.in_ok-push.ensures.items
+    one_more start _ _ _ _ _ (c.loop-me.invariant start)
+    (first_node start c.args.program.now c.args.setup.now c.loop-me.me _ c.loop-me-test.true
+    c.in_ok-new.ensures) c.in_ok-push.ensures.items
 
 pub returns : goal.returns
 returns c = λ start.

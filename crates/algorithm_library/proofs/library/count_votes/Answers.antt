@@ -9,10 +9,14 @@ use Rattle.algorithm_library.proofs.library.count_votes.Goals as goal
 pub program_of-requires : goal.program_of-requires
 program_of-requires c =
     let count = c.if-not-is_count.ensures.0 refl in
-    subst (λ rest. IsProgramText (text_of rest c.args.values)) (sym c.count_votes_rest.ensures) (count_votes_text c.args.values count)
+    subst (λ rest. IsProgramText (text_of rest c.args.values)) (sym c.count_votes_rest.ensures)
+    (count_votes_text c.args.values count)
 
 pub returns-clause-program : goal.returns-clause-program
 returns-clause-program c =
     let count = c.if-not-is_count.ensures.0 refl in
-    let is : IsSource (text_of count_votes_rest c.args.values) c.in_ok-program_of.field-0 = subst (λ rest. IsSource (text_of rest c.args.values) c.in_ok-program_of.field-0) c.count_votes_rest.ensures c.in_ok-program_of.ensures in
-    one_source (text_of count_votes_rest c.args.values) c.in_ok-program_of.field-0 (count_votes_tree c.args.values) is (count_votes_source c.args.values count.some count.few)
+    let is : IsSource (text_of count_votes_rest c.args.values) c.in_ok-program_of.field-0 =
+    subst (λ rest. IsSource (text_of rest c.args.values) c.in_ok-program_of.field-0)
+    c.count_votes_rest.ensures c.in_ok-program_of.ensures in
+    one_source (text_of count_votes_rest c.args.values) c.in_ok-program_of.field-0
+    (count_votes_tree c.args.values) is (count_votes_source c.args.values count.some count.few)

@@ -9,10 +9,14 @@ use Rattle.algorithm_library.proofs.library.gather.Goals as goal
 pub program_of-requires : goal.program_of-requires
 program_of-requires c =
     let count = c.if-not-is_count.ensures.0 refl in
-    subst (λ rest. IsProgramText (text_of rest c.args.values)) (sym c.gather_rest.ensures) (gather_text c.args.values count)
+    subst (λ rest. IsProgramText (text_of rest c.args.values)) (sym c.gather_rest.ensures)
+    (gather_text c.args.values count)
 
 pub returns-clause-program : goal.returns-clause-program
 returns-clause-program c =
     let count = c.if-not-is_count.ensures.0 refl in
-    let is : IsSource (text_of gather_rest c.args.values) c.in_ok-program_of.field-0 = subst (λ rest. IsSource (text_of rest c.args.values) c.in_ok-program_of.field-0) c.gather_rest.ensures c.in_ok-program_of.ensures in
-    one_source (text_of gather_rest c.args.values) c.in_ok-program_of.field-0 (gather_tree c.args.values) is (gather_source c.args.values count.some count.few)
+    let is : IsSource (text_of gather_rest c.args.values) c.in_ok-program_of.field-0 =
+    subst (λ rest. IsSource (text_of rest c.args.values) c.in_ok-program_of.field-0)
+    c.gather_rest.ensures c.in_ok-program_of.ensures in
+    one_source (text_of gather_rest c.args.values) c.in_ok-program_of.field-0
+    (gather_tree c.args.values) is (gather_source c.args.values count.some count.few)

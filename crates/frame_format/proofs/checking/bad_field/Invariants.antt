@@ -5,6 +5,7 @@ use Rattle.frame_format.proofs.checking.bad_field.Given as goal
 
 abbrev pub invariant-loop-i : goal.invariant-loop-i
 invariant-loop-i l = record {
-  same : bad_field l.values (drop l.i l.kinds) (drop l.at l.bytes) l.i ≡ bad_field l.values l.kinds l.bytes 0;
+  same : bad_field l.values (drop l.i l.kinds) (drop l.at l.bytes) l.i
+      ≡ bad_field l.values l.kinds l.bytes 0;
   room : l.at + size (drop l.i l.kinds) ≡ size l.kinds;
 }

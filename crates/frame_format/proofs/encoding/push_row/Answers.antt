@@ -10,6 +10,9 @@ loop-entry-preserved c =
     let i = c.loop-entry.entry in
     let within : i < length entries = omega arith in
     record {
-      bytes = pieces_more (big_bytes 4) c.args.out.now.items c.loop-entry.out.items c.push_num.new.out.items entries i 0 c.entry.result within c.entry.ensures c.loop-entry.invariant.bytes c.in_ok-push_num.ensures;
-      small = all_more (λ e. e < 2 ^ 32) entries i 0 c.entry.result within c.entry.ensures c.loop-entry.invariant.small (omega arith);
+      bytes = pieces_more (big_bytes 4) c.args.out.now.items c.loop-entry.out.items
+          c.push_num.new.out.items entries i 0 c.entry.result within c.entry.ensures
+          c.loop-entry.invariant.bytes c.in_ok-push_num.ensures;
+      small = all_more (λ e. e < 2 ^ 32) entries i 0 c.entry.result within c.entry.ensures
+          c.loop-entry.invariant.small (omega arith);
     }

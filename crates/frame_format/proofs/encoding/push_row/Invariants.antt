@@ -6,6 +6,7 @@ use Rattle.frame_format.proofs.encoding.push_row.Given as goal
 
 abbrev pub invariant-loop-entry : goal.invariant-loop-entry
 invariant-loop-entry l = record {
-  bytes : l.out.items ≡ l.initial.out.items ++ flat_map (big_bytes 4) (take l.entry (row (at l.message l.place)));
+  bytes : l.out.items ≡ l.initial.out.items
+      ++ flat_map (big_bytes 4) (take l.entry (row (at l.message l.place)));
   small : All (λ e. e < 2 ^ 32) (take l.entry (row (at l.message l.place)));
 }

@@ -14,8 +14,16 @@ loop-place-preserved c =
     let old = c.loop-place.blocks.items in
     let kinds = c.in_ok-block_layout.field-0 in
     let new : c.push.new.self.items ≡ old ++ kinds ∷ [] = c.in_ok-push.ensures.items in
-    let within : place < length p.blocks = omega (arith, ap length c.blocks-listed.ensures, ap (λ (t : ProgramTree). length t.blocks) c.program.ensures) in
+    let within : place < length p.blocks = omega (
+      arith,
+      ap length c.blocks-listed.ensures,
+      ap (λ (t : ProgramTree). length t.blocks) c.program.ensures,
+    ) in
     record {
-      blocks = new ∙ ap (λ (bs : List (List Kind)). bs ++ kinds ∷ []) c.loop-place.invariant.blocks ∙ ap (λ (one : List Kind). take place (message_kinds p) ++ one ∷ []) c.in_ok-block_layout.ensures.value ∙ sym (kinds_more p place within);
-      lawful = subst (λ (bs : List (List Kind)). (i : ℕ) → IsBlock (get_or bs i [])) (sym new) (lawful_more old kinds c.loop-place.invariant.lawful c.in_ok-block_layout.ensures.block);
+      blocks = new ∙ ap (λ (bs : List (List Kind)). bs ++ kinds ∷ []) c.loop-place.invariant.blocks
+          ∙ ap (λ (one : List Kind). take place (message_kinds p) ++ one ∷ [])
+          c.in_ok-block_layout.ensures.value ∙ sym (kinds_more p place within);
+      lawful = subst (λ (bs : List (List Kind)). (i : ℕ)
+          → IsBlock (get_or bs i [])) (sym new)
+          (lawful_more old kinds c.loop-place.invariant.lawful c.in_ok-block_layout.ensures.block);
     }

@@ -16,7 +16,8 @@ returns-then-place-kinds-clause-value c =
     let kinds = c.args.kinds.now in
     let body = c.args.bytes.now in
     let i = c.args.place in
-    let is : c.from_place.result.now ≡ drop (size (take i kinds)) body = c.from_place.ensures ∙ ap (λ (n : ℕ). drop n body) c.size_of-first.ensures in
+    let is : c.from_place.result.now ≡ drop (size (take i kinds)) body = c.from_place.ensures
+    ∙ ap (λ (n : ℕ). drop n body) c.size_of-first.ensures in
     ap (field_at (get_or kinds i kind.Num)) is ∙ spot_is kinds body i c.if-place-kinds.true
 
 pub returns-then-place-kinds-clause-room : goal.returns-then-place-kinds-clause-room
@@ -24,9 +25,12 @@ returns-then-place-kinds-clause-room c =
     let kinds = c.args.kinds.now in
     let body = c.args.bytes.now in
     let i = c.args.place in
-    let is : c.from_place.result.now ≡ drop (size (take i kinds)) body = c.from_place.ensures ∙ ap (λ (n : ℕ). drop n body) c.size_of-first.ensures in
-    let room : width (get_or kinds i kind.Num) ≤ length (drop (size (take i kinds)) body) = spot_room kinds body i c.if-place-kinds.true c.requires.room in
+    let is : c.from_place.result.now ≡ drop (size (take i kinds)) body = c.from_place.ensures
+    ∙ ap (λ (n : ℕ). drop n body) c.size_of-first.ensures in
+    let room : width (get_or kinds i kind.Num) ≤ length (drop (size (take i kinds)) body) =
+    spot_room kinds body i c.if-place-kinds.true c.requires.room in
     omega (arith, ap length is)
 
 pub returns-else-place-kinds-clause-value : goal.returns-else-place-kinds-clause-value
-returns-else-place-kinds-clause-value c = no_spot c.args.kinds.now c.args.bytes.now c.args.place (omega arith)
+returns-else-place-kinds-clause-value c =
+    no_spot c.args.kinds.now c.args.bytes.now c.args.place (omega arith)

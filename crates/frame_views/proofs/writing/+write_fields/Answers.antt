@@ -9,6 +9,9 @@ returns-clause-small t c =
     let message = c.args.message.now in
     let place = c.args.place in
     elim c.match-split_first.branch [
-      | in-Some w ↦ (let some : 0 < length kinds = omega (arith, w.in-Some.ensures.cases.1) in small_more c.args.fields.values kinds message place some c.requires.kinds w.put_field.ensures.small w.write_fields.ensures.small)
-      | in_default w ↦ small_none c.args.fields.values kinds (drop place message) w.in_default.ensures.cases c.requires.kinds
+      | in-Some w ↦ (let some : 0 < length kinds = omega (arith, w.in-Some.ensures.cases.1) in
+          small_more c.args.fields.values kinds message place some c.requires.kinds
+          w.put_field.ensures.small w.write_fields.ensures.small)
+      | in_default w ↦ small_none c.args.fields.values kinds
+          (drop place message) w.in_default.ensures.cases c.requires.kinds
     ]

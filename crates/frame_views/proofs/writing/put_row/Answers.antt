@@ -14,7 +14,11 @@ loop-entry-preserved c =
     let long : 4 * v + 4 ≤ length old = omega arith in
     record {
       same = c.put_entry.ensures.same ∙ c.loop-entry.invariant.same;
-      room = ap length c.put_entry.ensures.value ∙ length-with_entry old v n long ∙ c.loop-entry.invariant.room;
-      front = ap (take (4 * (v + 1))) c.put_entry.ensures.value ∙ take-with_entry old entries v n long within c.entry.ensures c.loop-entry.invariant.front;
-      small = all_more (λ e. e < 2 ^ 32) entries v 0 n within c.entry.ensures c.loop-entry.invariant.small (omega arith);
+      room = ap length c.put_entry.ensures.value ∙ length-with_entry old v n long
+          ∙ c.loop-entry.invariant.room;
+      front = ap (take (4 * (v + 1))) c.put_entry.ensures.value
+          ∙ take-with_entry old entries v n long within c.entry.ensures
+          c.loop-entry.invariant.front;
+      small = all_more (λ e. e < 2 ^ 32) entries v 0 n within c.entry.ensures
+          c.loop-entry.invariant.small (omega arith);
     }

@@ -12,8 +12,12 @@ returns-in-Ok-clause-ends g c =
     let seats = c.in_ok-seats.seats.items in
     let ends = c.in_ok-seats.ends.items in
     let stops = c.args.stops.now in
-    let rounds = sym c.requires.rounds ∙ sym (ap (λ (s : Setup). s.rounds) c.in-Ok.ensures.run.setup) in
-    let ended = subst (λ (p : g.row.P.Denot). SeatsEnded (start p) c.args.rounds stops seats ends) (sym c.requires.plan) c.in_ok-seats.ensures in
-    let agree = subst (λ (p : g.row.P.Denot). AccountsAgree (start p) journal seats c.args.joined.relay) c.in-Ok.ensures.run.plan c.in-Ok.ensures.agree in
+    let rounds = sym c.requires.rounds
+    ∙ sym (ap (λ (s : Setup). s.rounds) c.in-Ok.ensures.run.setup) in
+    let ended = subst (λ (p : g.row.P.Denot). SeatsEnded (start p) c.args.rounds stops seats ends)
+    (sym c.requires.plan) c.in_ok-seats.ensures in
+    let agree = subst (λ (p : g.row.P.Denot). AccountsAgree
+    (start p) journal seats c.args.joined.relay) c.in-Ok.ensures.run.plan
+    c.in-Ok.ensures.agree in
     have_ended (start c.args.post.plan) journal stops seats ends c.args.joined.relay agree
     (subst (λ (n : ℕ). SeatsEnded (start c.args.post.plan) n stops seats ends) rounds ended)

@@ -15,5 +15,7 @@ loop-thread_end-preserved g c =
     let size : vec_len seats ≡ length seats.items = search rules in
     let stop = c.stop_of-stop.ensures ∙ ap (stop_of stops) (c.len.ensures ∙ size) in
     rw (c.in_ok-add_both.ensures.seats, c.in_ok-add_both.ensures.ends)
-    (ended_push start c.args.rounds stops seats.items ends.items seat ended c.loop-thread_end.invariant
-    (subst (λ (x : Option ℕ). IsEnded start c.args.rounds x seat ended) stop c.in-Some-into_parts.ensures))
+    (ended_push start c.args.rounds stops seats.items ends.items seat ended
+    c.loop-thread_end.invariant
+    (subst (λ (x : Option ℕ). IsEnded start c.args.rounds x seat ended) stop
+    c.in-Some-into_parts.ensures))

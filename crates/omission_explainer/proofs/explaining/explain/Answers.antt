@@ -12,15 +12,25 @@ returns-clause-agreement g c runs =
     let rows = c.in_ok-rows_of.field-0.items in
     let said = c.in_ok-rows_of.ensures in
     let journal = c.args.journal.now in
-    let reported = subst (λ (z : Recorded _). All (IsReported (g.P.Plan.start z.plan) z.log) rows) c.book-book.ensures said.reported in
-    let rounds = subst (λ (z : Recorded _). All (IsOfRounds (algorithm_of z.log.program z.log.setup) (printed_omits rows)) rows) c.book-book.ensures said.in_rounds in
-    subst AreAgreed (sym c.new.ensures) (rows_agree (g.P.Plan.start journal.plan) journal.log rows reported rounds runs).0
+    let reported = subst (λ (z : Recorded _). All (IsReported (g.P.Plan.start z.plan) z.log) rows)
+    c.book-book.ensures said.reported in
+    let rounds =
+    subst (λ (z : Recorded _). All
+    (IsOfRounds (algorithm_of z.log.program z.log.setup) (printed_omits rows)) rows)
+    c.book-book.ensures said.in_rounds in
+    subst AreAgreed (sym c.new.ensures)
+    (rows_agree (g.P.Plan.start journal.plan) journal.log rows reported rounds runs).0
 
 pub returns-clause-validity : goal.returns-clause-validity
 returns-clause-validity g c runs =
     let rows = c.in_ok-rows_of.field-0.items in
     let said = c.in_ok-rows_of.ensures in
     let journal = c.args.journal.now in
-    let reported = subst (λ (z : Recorded _). All (IsReported (g.P.Plan.start z.plan) z.log) rows) c.book-book.ensures said.reported in
-    let rounds = subst (λ (z : Recorded _). All (IsOfRounds (algorithm_of z.log.program z.log.setup) (printed_omits rows)) rows) c.book-book.ensures said.in_rounds in
-    subst (AreInputs journal.log.setup) (sym c.new.ensures) (rows_agree (g.P.Plan.start journal.plan) journal.log rows reported rounds runs).1
+    let reported = subst (λ (z : Recorded _). All (IsReported (g.P.Plan.start z.plan) z.log) rows)
+    c.book-book.ensures said.reported in
+    let rounds =
+    subst (λ (z : Recorded _). All
+    (IsOfRounds (algorithm_of z.log.program z.log.setup) (printed_omits rows)) rows)
+    c.book-book.ensures said.in_rounds in
+    subst (AreInputs journal.log.setup) (sym c.new.ensures)
+    (rows_agree (g.P.Plan.start journal.plan) journal.log rows reported rounds runs).1

@@ -8,7 +8,8 @@ use Rattle.omission_explainer.proofs.explaining.rows_of.Given as goal
 abbrev pub invariant-loop-round : goal.invariant-loop-round
 invariant-loop-round g l = record {
   reported : All (IsReported (g.P.Plan.start l.book.plan) l.book.log) l.rows.items;
-  listed : map place l.rows.items ≡ flat_map (closed_below l.book.log l.book.log.setup.nodes) (range_with_len 1 (l.round - 1));
+  listed : map place l.rows.items ≡ flat_map (closed_below l.book.log l.book.log.setup.nodes)
+      (range_with_len 1 (l.round - 1));
 }
 
 abbrev pub invariant-loop-node : goal.invariant-loop-node

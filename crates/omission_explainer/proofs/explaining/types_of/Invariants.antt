@@ -3,4 +3,5 @@ use Rattle.round_check.specs.Types.{kind_type}
 use Rattle.omission_explainer.proofs.explaining.types_of.Given as goal
 
 abbrev pub invariant-loop-variable : goal.invariant-loop-variable
-invariant-loop-variable l = l.types.items ≡ map (λ d. kind_type d.kind) (take l.variable-index l.program.variables)
+invariant-loop-variable l = l.types.items ≡ map (λ d. kind_type d.kind)
+    (take l.variable-index l.program.variables)

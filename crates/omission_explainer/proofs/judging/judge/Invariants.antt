@@ -5,4 +5,6 @@ use Rattle.omission_explainer.proofs.judging.judge.Given as goal
 
 abbrev pub invariant-loop-event : goal.invariant-loop-event
 invariant-loop-event g l =
-    Passed (world_of (g.P.Plan.start l.book.plan) l.book.log) (history l.book.log) l.correct.bits l.delta l.gst (moment_at l.event-index l.event-items) l.counts l.lockstep l.bound
+    Passed (world_of (g.P.Plan.start l.book.plan) l.book.log)
+    (history l.book.log) l.correct.bits l.delta l.gst
+    (moment_at l.event-index l.event-items) l.counts l.lockstep l.bound

@@ -16,12 +16,18 @@ returns-then-not-contains g c =
     let start = g.P.Plan.start p in
     let n = nodes_are start v in
     let w = world_of start v in
-    let plan = plan_is start (g.P.Plan.receives p) (g.P.Plan.nodes p) v (g.met.P.Plan.laws p) c.agrees.ensures.sized in
+    let plan = plan_is start (g.P.Plan.receives p) (g.P.Plan.nodes p) v
+    (g.met.P.Plan.laws p) c.agrees.ensures.sized in
     let few = c.agrees.ensures.lawful.sized.few_nodes in
     let slot = c.in-Some.ensures in
     let small = slot.named.to in
-    let out = λ (h : is_in c.args.terms.correct.bits c.in-Some.name.to ≡ true). both_ways c.contains.result c.if-not-contains.true (c.contains.ensures ∙ has_member _ _ (omega arith) h) in
-    (λ h. keeps_other w (history v) c.args.terms.correct.bits c.args.terms.delta c.args.terms.gst c.args.counts.now c.args.node plan c.in-Some.name slot out, λ h. refl)
+    let out = λ (h : is_in c.args.terms.correct.bits c.in-Some.name.to ≡ true).
+    both_ways c.contains.result c.if-not-contains.true (c.contains.ensures
+    ∙ has_member _ _ (omega arith) h) in (
+      λ h. keeps_other w (history v) c.args.terms.correct.bits c.args.terms.delta c.args.terms.gst
+          c.args.counts.now c.args.node plan c.in-Some.name slot out,
+      λ h. refl,
+    )
 
 pub overflow_add-count : goal.overflow_add-count
 overflow_add-count g c =
@@ -32,7 +38,9 @@ overflow_add-count g c =
     let slot = c.in-Some.ensures in
     let small = slot.named.to in
     let sized = c.agrees.ensures.sized in
-    let low = slot_small start (g.P.Plan.receives p) (g.P.Plan.nodes p) v (g.met.P.Plan.laws p) sized c.agrees.ensures.lawful.sized.few_rounds c.args.node _ c.in-Some.name slot (omega arith) in
+    let low = slot_small start (g.P.Plan.receives p) (g.P.Plan.nodes p) v
+    (g.met.P.Plan.laws p) sized c.agrees.ensures.lawful.sized.few_rounds c.args.node _
+    c.in-Some.name slot (omega arith) in
     omega (arith, low, c.from-in-Some.ensures)
 
 pub returns-else-not-contains : goal.returns-else-not-contains
@@ -42,16 +50,25 @@ returns-else-not-contains g c =
     let start = g.P.Plan.start p in
     let n = nodes_are start v in
     let w = world_of start v in
-    let plan = plan_is start (g.P.Plan.receives p) (g.P.Plan.nodes p) v (g.met.P.Plan.laws p) c.agrees.ensures.sized in
+    let plan = plan_is start (g.P.Plan.receives p) (g.P.Plan.nodes p) v
+    (g.met.P.Plan.laws p) c.agrees.ensures.sized in
     let name = c.in-Some.name in
     let slot = c.in-Some.ensures in
-    let here : is_in c.args.terms.correct.bits name.to ≡ true = member_of _ _ (sym c.contains.ensures ∙ c.if-not-contains.false) in
+    let here : is_in c.args.terms.correct.bits name.to ≡ true =
+    member_of _ _ (sym c.contains.ensures ∙ c.if-not-contains.false) in
     let count = get_or c.args.counts.now c.args.node 0 in
-    let low : c.max-low.result ≡ max (count + c.args.terms.delta) (get_or c.args.counts.now name.to 0) = c.max-low.ensures ∙ ap (λ x. max (count + x) (get_or c.args.counts.now name.to 0)) c.from-in-Some.ensures in
-    let both = subst (λ x. (c.has_receive.result ≡ true) ↔ HasReceive w (max (count + c.args.terms.delta) (get_or c.args.counts.now name.to 0)) x) c.open_until.ensures
-    (subst (λ x. (c.has_receive.result ≡ true) ↔ HasReceive w x c.open_until.result) low c.has_receive.ensures) in
+    let low : c.max-low.result ≡ max (count + c.args.terms.delta)
+    (get_or c.args.counts.now name.to 0) = c.max-low.ensures
+    ∙ ap (λ x. max (count + x) (get_or c.args.counts.now name.to 0)) c.from-in-Some.ensures in
+    let both = subst (λ x. (c.has_receive.result ≡ true)
+    ↔ HasReceive w (max (count + c.args.terms.delta) (get_or c.args.counts.now name.to 0)) x)
+    c.open_until.ensures
+    (subst (λ x. (c.has_receive.result ≡ true) ↔ HasReceive w x c.open_until.result) low
+    c.has_receive.ensures) in
     let from : name.from ≡ c.args.node = slot.from in
-    keeps_at w (history v) c.args.terms.correct.bits c.args.terms.delta c.args.terms.gst c.args.counts.now c.args.node plan name c.has_receive.result slot here (omega (arith, c.from.ensures, c.if-count-from.false)) both
+    keeps_at w (history v) c.args.terms.correct.bits c.args.terms.delta c.args.terms.gst
+    c.args.counts.now c.args.node plan name c.has_receive.result slot here
+    (omega (arith, c.from.ensures, c.if-count-from.false)) both
 
 pub returns-in-None : goal.returns-in-None
 returns-in-None g c =
@@ -60,5 +77,9 @@ returns-in-None g c =
     let start = g.P.Plan.start p in
     let n = nodes_are start v in
     let w = world_of start v in
-    let plan = plan_is start (g.P.Plan.receives p) (g.P.Plan.nodes p) v (g.met.P.Plan.laws p) c.agrees.ensures.sized in
-    (λ h. keeps_silent w (history v) c.args.terms.correct.bits c.args.terms.delta c.args.terms.gst c.args.counts.now c.args.node plan c.in-None.ensures, λ h. refl)
+    let plan = plan_is start (g.P.Plan.receives p) (g.P.Plan.nodes p) v
+    (g.met.P.Plan.laws p) c.agrees.ensures.sized in (
+      λ h. keeps_silent w (history v) c.args.terms.correct.bits c.args.terms.delta c.args.terms.gst
+          c.args.counts.now c.args.node plan c.in-None.ensures,
+      λ h. refl,
+    )

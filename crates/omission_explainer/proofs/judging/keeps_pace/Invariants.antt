@@ -3,4 +3,5 @@ use Rattle.round_lang.specs.Sets.{is_in}
 use Rattle.omission_explainer.proofs.judging.keeps_pace.Given as goal
 
 abbrev pub invariant-loop-other : goal.invariant-loop-other
-invariant-loop-other l = (j : ℕ) → j < l.other → is_in l.correct.bits j ≡ true → get_or l.counts l.node 0 ≤ get_or l.counts j 0
+invariant-loop-other l = (j : ℕ) → j < l.other → is_in l.correct.bits j ≡ true
+    → get_or l.counts l.node 0 ≤ get_or l.counts j 0

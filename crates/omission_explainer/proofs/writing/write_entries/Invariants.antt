@@ -7,6 +7,7 @@ use Rattle.omission_explainer.proofs.writing.write_entries.Given as goal
 abbrev pub invariant-loop-value : goal.invariant-loop-value
 invariant-loop-value g l =
     record {
-      told : TellsPassing (g.W.Write.contents l.fn.out) l.fn.text (g.W.Write.contents l.out) l.text (entry_text l.fn.left) (is_entered l.fn.left) l.value l.has_entry;
+      told : TellsPassing (g.W.Write.contents l.fn.out) l.fn.text (g.W.Write.contents l.out) l.text
+          (entry_text l.fn.left) (is_entered l.fn.left) l.value l.has_entry;
       rest : l.left ≡ drop l.value l.fn.left;
     }

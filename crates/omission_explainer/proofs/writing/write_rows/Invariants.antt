@@ -6,4 +6,5 @@ use Rattle.omission_explainer.proofs.writing.write_rows.Given as goal
 
 abbrev pub invariant-loop-row : goal.invariant-loop-row
 invariant-loop-row g l =
-    Tells (g.W.Write.contents l.initial.out) l.initial.text (g.W.Write.contents l.out) l.text (flat_map (row_text l.report) (take l.row-index l.row-items))
+    Tells (g.W.Write.contents l.initial.out) l.initial.text (g.W.Write.contents l.out) l.text
+    (flat_map (row_text l.report) (take l.row-index l.row-items))

@@ -14,9 +14,16 @@ loop-place-preserved g c =
     let place = c.loop-place.place in
     let mid = out c.loop-place.out in
     let new = out c.write_variable.new.out in
-    let more : Tells mid c.loop-place.text new c.write_variable.new.text (variable_text report state place) =
-    subst (λ v. Tells mid c.loop-place.text new c.write_variable.new.text (named_text report place v)) (first_left state c.loop-place.left place c.loop-place.invariant.rest) c.in_ok-write_variable.ensures.text in
+    let more : Tells mid c.loop-place.text new c.write_variable.new.text
+    (variable_text report state place) =
+    subst (λ v. Tells mid c.loop-place.text new c.write_variable.new.text
+    (named_text report place v))
+    (first_left state c.loop-place.left place c.loop-place.invariant.rest)
+    c.in_ok-write_variable.ensures.text in
     record {
-      told = flat_map_below (out c.args.out.now) mid new c.args.text.now c.loop-place.text c.write_variable.new.text (codes " state") (variable_text report state) place c.loop-place.invariant.told more;
-      rest = c.in_ok-write_variable.ensures.left ∙ ap (drop 1) c.loop-place.invariant.rest ∙ drop-drop 1 place state;
+      told = flat_map_below (out c.args.out.now) mid new c.args.text.now c.loop-place.text
+          c.write_variable.new.text (codes " state") (variable_text report state) place
+          c.loop-place.invariant.told more;
+      rest = c.in_ok-write_variable.ensures.left ∙ ap (drop 1) c.loop-place.invariant.rest
+          ∙ drop-drop 1 place state;
     }

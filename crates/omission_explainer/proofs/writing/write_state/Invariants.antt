@@ -8,6 +8,7 @@ use Rattle.omission_explainer.proofs.writing.write_state.Given as goal
 abbrev pub invariant-loop-place : goal.invariant-loop-place
 invariant-loop-place g l =
     record {
-      told : Tells (g.W.Write.contents l.fn.out) l.fn.text (g.W.Write.contents l.out) l.text (codes " state" ++ flat_map (variable_text l.report l.state) (range_with_len 0 l.place));
+      told : Tells (g.W.Write.contents l.fn.out) l.fn.text (g.W.Write.contents l.out) l.text
+          (codes " state" ++ flat_map (variable_text l.report l.state) (range_with_len 0 l.place));
       rest : l.left ≡ drop l.place l.state;
     }

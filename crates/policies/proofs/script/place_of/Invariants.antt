@@ -3,4 +3,5 @@ use Rattle.step_machine.specs.declared.event.InFlight.{InFlight}
 use Rattle.policies.proofs.script.place_of.Given as goal
 
 abbrev pub invariant-loop-place : goal.invariant-loop-place
-invariant-loop-place l = (k : ℕ) (d : InFlight) → k < l.place → ¬ ((get_or l.flight k d).name ≡ l.name)
+invariant-loop-place l = (k : ℕ) (d : InFlight) → k < l.place
+    → ¬ ((get_or l.flight k d).name ≡ l.name)

@@ -6,4 +6,5 @@ use Rattle.round_check.proofs.shapes.state_shape.Given as goal
 
 abbrev pub invariant-loop-variable : goal.invariant-loop-variable
 invariant-loop-variable l =
-    l.kinds.items ≡ map (λ (v : Variable). kind_for l.values (kind_type v.kind)) (take l.variable-index l.variable-items)
+    l.kinds.items ≡ map (λ (v : Variable). kind_for l.values (kind_type v.kind))
+    (take l.variable-index l.variable-items)

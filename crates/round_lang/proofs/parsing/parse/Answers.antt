@@ -2,7 +2,9 @@ use Rattle.round_lang.proofs.Whole.{no_source, source_of}
 use Rattle.round_lang.proofs.parsing.parse.Goals as goal
 
 pub returns-in-Ok-clause-found : goal.returns-in-Ok-clause-found
-returns-in-Ok-clause-found c = source_of _ _ _ c.in_ok-tokens.ensures.found (rw c.deref.ensures.value at c.in-Ok.ensures)
+returns-in-Ok-clause-found c =
+    source_of _ _ _ c.in_ok-tokens.ensures.found (rw c.deref.ensures.value at c.in-Ok.ensures)
 
 pub returns-clause-refused : goal.returns-clause-refused
-returns-clause-refused c one other = no_source _ _ c.in_ok-tokens.ensures.only _ (rw c.fault_of_text.ensures at one) (rw c.deref.ensures.value at c.in-Err.ensures)
+returns-clause-refused c one other = no_source _ _ c.in_ok-tokens.ensures.only _
+    (rw c.fault_of_text.ensures at one) (rw c.deref.ensures.value at c.in-Err.ensures)

@@ -13,5 +13,7 @@ pub returns-clause-broadcast : goal.returns-clause-broadcast
 unfolding Rattle.round_meaning.specs.Rounds.algorithm
 returns-clause-broadcast c = λ is s vs j i k.
     let none : sends_by_dest (block_at c.args.program.now c.args.round) ≡ false =
-    ap (λ p. sends_by_dest (block_at p c.args.round)) (sym c.program.ensures) ∙ sym c.sends_by_dest.ensures ∙ not_true c.sends_by_dest.result is in
-    sent_same (block_at c.args.program.now c.args.round) (with_vars vs (node_env c.args.program.now s.nodes s.faults c.args.round j)) i k none
+    ap (λ p. sends_by_dest (block_at p c.args.round)) (sym c.program.ensures)
+    ∙ sym c.sends_by_dest.ensures ∙ not_true c.sends_by_dest.result is in
+    sent_same (block_at c.args.program.now c.args.round)
+    (with_vars vs (node_env c.args.program.now s.nodes s.faults c.args.round j)) i k none

@@ -11,8 +11,15 @@ eval_set-loop-v-init t c = set_of-none _
 pub eval_set-loop-v-preserved : goal.eval_set-loop-v-preserved
 eval_set-loop-v-preserved t c =
     let tells = sym (ap flag c.in_ok-eval_at.ensures) ∙ sym c.flag.ensures in
-    elim c.if-flag.branch [ eval_set-then-flag w ↦ w.bits-is ∙ set_of-set _ _ _ (omega arith) (tells ∙ w.if-flag.true) c.loop-v.invariant | eval_set-else-flag w ↦ w.bits-is ∙ set_of-kept _ _ _ (tells ∙ w.if-flag.false) c.loop-v.invariant ]
+    elim c.if-flag.branch [
+      | eval_set-then-flag w ↦ w.bits-is
+          ∙ set_of-set _ _ _ (omega arith) (tells
+          ∙ w.if-flag.true) c.loop-v.invariant
+      | eval_set-else-flag w ↦ w.bits-is
+          ∙ set_of-kept _ _ _ (tells ∙ w.if-flag.false) c.loop-v.invariant
+    ]
 
 pub eval_row-loop-v-preserved : goal.eval_row-loop-v-preserved
 eval_row-loop-v-preserved t c =
-    map_push _ _ _ _ _ c.loop-v.invariant (c.num-entry.ensures ∙ ap num c.in_ok-eval_at.ensures) c.in_ok-push.ensures.items
+    map_push _ _ _ _ _ c.loop-v.invariant (c.num-entry.ensures
+    ∙ ap num c.in_ok-eval_at.ensures) c.in_ok-push.ensures.items

@@ -13,4 +13,5 @@ invariant-eval_set-loop-v l =
 
 abbrev pub invariant-eval_row-loop-v : goal.invariant-eval_row-loop-v
 invariant-eval_row-loop-v l =
-    l.entries.items ≡ map (λ v. num (value (tree_of l.body) (bind l.name (env_of l.env) v))) (range_with_len 0 l.v)
+    l.entries.items ≡ map (λ v. num (value (tree_of l.body) (bind l.name (env_of l.env) v)))
+    (range_with_len 0 l.v)

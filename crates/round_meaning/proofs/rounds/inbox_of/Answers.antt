@@ -8,6 +8,15 @@ use Rattle.round_meaning.proofs.rounds.inbox_of.Goals.{in-Some+in_ok-push, in_de
 
 pub loop-from-preserved : goal.loop-from-preserved
 loop-from-preserved c =
-    let h = heard (algorithm_of c.args.program.now c.args.setup.now) (is_omitted c.args.omissions.now c.args.me c.args.round) (state_in c.args.before.now) c.args.round c.args.me in
+    let h = heard (algorithm_of c.args.program.now c.args.setup.now)
+    (is_omitted c.args.omissions.now c.args.me c.args.round)
+    (state_in c.args.before.now) c.args.round c.args.me in
     let j = c.loop-from.from in
-    elim c.match-branch-2.branch [ in-Some+in_ok-push w ↦ filter_map_push h _ _ j _ c.loop-from.invariant (sym c.in_ok-message.ensures ∙ w.in-Some.is) (ap (λ v. v.items) w.inbox-is ∙ w.in_ok-push.ensures.items) | in_default w ↦ ap (λ v. v.items) w.inbox-is ∙ filter_map_skip h _ j c.loop-from.invariant (sym c.in_ok-message.ensures ∙ w.in_default.is) ]
+    elim c.match-branch-2.branch [
+      | in-Some+in_ok-push w ↦ filter_map_push h _ _ j _ c.loop-from.invariant
+          (sym c.in_ok-message.ensures ∙ w.in-Some.is) (ap (λ v. v.items) w.inbox-is
+          ∙ w.in_ok-push.ensures.items)
+      | in_default w ↦ ap (λ v. v.items) w.inbox-is
+          ∙ filter_map_skip h _ j c.loop-from.invariant (sym c.in_ok-message.ensures
+          ∙ w.in_default.is)
+    ]

@@ -11,10 +11,12 @@ pub next_state-requires-clause-nodes : goal.next_state-requires-clause-nodes
 unfolding algorithm
 next_state-requires-clause-nodes c =
     let a = algorithm_of c.args.program.now c.args.setup.now in
-    ap length c.requires.before ∙ length-states_after a (is_omitted c.args.omissions.now) c.args.done
+    ap length c.requires.before
+    ∙ length-states_after a (is_omitted c.args.omissions.now) c.args.done
 
 pub loop-me-preserved : goal.loop-me-preserved
-loop-me-preserved c = map_push _ _ _ _ _ c.loop-me.invariant c.in_ok-state.ensures c.in_ok-push.ensures.ok
+loop-me-preserved c = map_push _ _ _ _ _ c.loop-me.invariant c.in_ok-state.ensures
+    c.in_ok-push.ensures.ok
 
 pub returns : goal.returns
 unfolding algorithm
@@ -23,5 +25,6 @@ returns c =
     let omitted = is_omitted c.args.omissions.now in
     let all : c.loop-me.me ≡ c.args.setup.now.nodes = omega arith in
     c.loop-me.invariant
-    ∙ ap (λ n. map (next_state a omitted (c.args.done + 1) (state_in c.args.before.now)) (range_with_len 0 n)) all
+    ∙ ap (λ n. map (next_state a omitted (c.args.done + 1) (state_in c.args.before.now))
+    (range_with_len 0 n)) all
     ∙ states_after_more a omitted c.args.done c.args.before.now c.requires.before

@@ -7,4 +7,5 @@ use Rattle.round_meaning.proofs.rounds.next_states.Given as goal
 
 abbrev pub invariant-loop-me : goal.invariant-loop-me
 invariant-loop-me l =
-    l.states ≡ map (next_state (algorithm_of l.program l.setup) (is_omitted l.omissions) (l.done + 1) (state_in l.before)) (range_with_len 0 l.me)
+    l.states ≡ map (next_state (algorithm_of l.program l.setup) (is_omitted l.omissions)
+    (l.done + 1) (state_in l.before)) (range_with_len 0 l.me)

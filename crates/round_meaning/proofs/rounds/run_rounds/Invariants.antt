@@ -7,4 +7,5 @@ use Rattle.round_meaning.proofs.rounds.run_rounds.Given as goal
 
 abbrev pub invariant-loop-done : goal.invariant-loop-done
 invariant-loop-done l =
-    l.snapshots.items ≡ map (states_after (algorithm_of l.program l.setup) (is_omitted l.omissions)) (range_with_len 0 (l.done + 1))
+    l.snapshots.items ≡ map (states_after (algorithm_of l.program l.setup) (is_omitted l.omissions))
+    (range_with_len 0 (l.done + 1))

@@ -5,4 +5,5 @@ use Rattle.round_meaning.proofs.turn.run.Given as goal
 
 abbrev pub invariant-loop-assignment : goal.invariant-loop-assignment
 invariant-loop-assignment l =
-    runs (env_of l.env) (drop l.assignment-index l.assignments) l.vars ≡ runs (env_of l.env) l.assignments l.initial.vars
+    runs (env_of l.env) (drop l.assignment-index l.assignments) l.vars
+    ≡ runs (env_of l.env) l.assignments l.initial.vars

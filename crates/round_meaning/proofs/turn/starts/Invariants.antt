@@ -6,4 +6,5 @@ use Rattle.round_meaning.proofs.turn.starts.Given as goal
 
 abbrev pub invariant-loop-variable : goal.invariant-loop-variable
 invariant-loop-variable l =
-    l.values ≡ map (λ (d : Variable). begins (env_of l.env) l.input d.kind) (take l.variable-index l.variables)
+    l.values ≡ map (λ (d : Variable). begins (env_of l.env) l.input d.kind)
+    (take l.variable-index l.variables)

@@ -7,17 +7,25 @@ use Rattle.schedule_text.proofs.reading.read_header.Goals as goal
 pub returns-in_err-draft-clause-read : goal.returns-in_err-draft-clause-read
 returns-in_err-draft-clause-read c =
     let p = err_from_is_err_and c.from_residual.result c.from_residual.ensures.1 in
-    rw (p.1, p.2) (fault_read Header header_read c.args.text.now c.in_err-draft.field-0.0 c.in_err-draft.ensures.read)
+    rw (p.1, p.2) (fault_read Header header_read c.args.text.now c.in_err-draft.field-0.0
+    c.in_err-draft.ensures.read)
 
 pub returns-in_err-draft-clause-only : goal.returns-in_err-draft-clause-only
 returns-in_err-draft-clause-only c =
     let p = err_from_is_err_and c.from_residual.result c.from_residual.ensures.1 in
-    rw (p.1, p.2) (fault_only Header header_read c.args.text.now c.in_err-draft.field-0.0 c.in_err-draft.ensures.read)
+    rw (p.1, p.2) (fault_only Header header_read c.args.text.now c.in_err-draft.field-0.0
+    c.in_err-draft.ensures.read)
 
 pub returns-clause-read : goal.returns-clause-read
 returns-clause-read c =
-    end_read Header header_read c.args.text.now (c.in_ok-draft.draft, c.in_ok-draft.number) c.header.result c.in_ok-draft.ensures.read c.header.ensures.ended
+    end_read Header header_read c.args.text.now (
+      c.in_ok-draft.draft,
+      c.in_ok-draft.number,
+    ) c.header.result c.in_ok-draft.ensures.read c.header.ensures.ended
 
 pub returns-clause-only : goal.returns-clause-only
 returns-clause-only c =
-    end_only Header header_read c.args.text.now (c.in_ok-draft.draft, c.in_ok-draft.number) c.header.result c.in_ok-draft.ensures.read c.header.ensures.ended
+    end_only Header header_read c.args.text.now (
+      c.in_ok-draft.draft,
+      c.in_ok-draft.number,
+    ) c.header.result c.in_ok-draft.ensures.read c.header.ensures.ended

@@ -6,4 +6,6 @@ use Rattle.schedule_text.specs.Small.{IsSmall}
 use Rattle.schedule_text.proofs.writing.write_inputs.Given as goal
 
 abbrev pub invariant-loop-input : goal.invariant-loop-input
-invariant-loop-input l = (string_bytes l.text ≡ string_bytes l.initial.text ++ flat_map (λ v. 32 ∷ decimal v) (take l.input-index l.inputs)) × All IsSmall (take l.input-index l.inputs)
+invariant-loop-input l = (string_bytes l.text ≡ string_bytes l.initial.text
+    ++ flat_map (λ v. 32 ∷ decimal v) (take l.input-index l.inputs))
+    × All IsSmall (take l.input-index l.inputs)

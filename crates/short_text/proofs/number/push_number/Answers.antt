@@ -4,4 +4,5 @@ use Rattle.short_text.proofs.number.push_number.Goals as goal
 
 pub returns-then-number-lt10-clause-text : goal.returns-then-number-lt10-clause-text
 returns-then-number-lt10-clause-text c =
-    c.push.ensures.text ∙ one_digit c.args.text.now c.args.number (omega (arith, c.if-number-lt10.true))
+    c.push.ensures.text
+    ∙ one_digit c.args.text.now c.args.number (omega (arith, c.if-number-lt10.true))

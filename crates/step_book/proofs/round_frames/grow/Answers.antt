@@ -12,5 +12,9 @@ returns-in_ok-resize_with-clause-same c =
     let began = c.begin.new.frames.items in
     let more = h.0 in
     let free : All (λ (o : Option Frame). o ≡ None) more =
-    chained_keeps _ (λ xs _. All (λ o. o ≡ None) xs) (λ xs f o g all step. All-push (λ z. z ≡ None) xs o all (search of_calls)) more _ _ (search rules) h.3 in
-    same_longer None _ began _ more (h.2 ∙ ap (λ z. z ++ more) (take_all _ began (let l = c.if-len-length.true in omega arith))) free c.begin.ensures
+    chained_keeps _ (λ xs _. All (λ o. o ≡ None) xs)
+    (λ xs f o g all step. All-push (λ z. z ≡ None) xs o all (search of_calls)) more _ _
+    (search rules) h.3 in
+    same_longer None _ began _ more (h.2
+    ∙ ap (λ z. z ++ more) (take_all _ began (let l = c.if-len-length.true in omega arith))) free
+    c.begin.ensures

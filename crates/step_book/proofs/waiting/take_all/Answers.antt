@@ -20,4 +20,10 @@ pub loop-frame-preserved : goal.loop-frame-preserved
 loop-frame-preserved c =
     let e = c.take-taken.ensures in
     takes_next _ _ _ _ _ _ _ c.take-taken.result c.loop-frame.invariant c.in-Some.ensures
-    (record { late = e.late; early = e.early; doubled = e.doubled; kept = e.kept; dropped = e.dropped })
+    (record {
+      late = e.late;
+      early = e.early;
+      doubled = e.doubled;
+      kept = e.kept;
+      dropped = e.dropped;
+    })

@@ -5,4 +5,5 @@ use Rattle.step_code.proofs.room.fill.Given as goal
 abbrev pub invariant-loop-i : goal.invariant-loop-i
 invariant-loop-i l =
     ((j : ℕ) → j < l.i → slice_index l.room (l.first + j) ≡ slice_index l.words j)
-    × ((j : ℕ) → (j < l.first) ⊎ (l.first + length l.words ≤ j) → slice_index l.room j ≡ slice_index l.fn.room j)
+    × ((j : ℕ) → (j < l.first) ⊎ (l.first + length l.words ≤ j)
+    → slice_index l.room j ≡ slice_index l.fn.room j)

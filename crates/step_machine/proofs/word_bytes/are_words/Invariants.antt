@@ -4,4 +4,6 @@ use Rattle.step_machine.proofs.word_bytes.are_words.Given as goal
 
 -- all words are the same where those that are left are
 abbrev pub invariant-loop-byte : goal.invariant-loop-byte
-invariant-loop-byte l = (words_from l.begun.weight l.begun.value (drop l.byte-index l.bytes) ≡ l.left) ↔ (words_in l.bytes ≡ l.words)
+invariant-loop-byte l =
+    (words_from l.begun.weight l.begun.value (drop l.byte-index l.bytes) ≡ l.left)
+    ↔ (words_in l.bytes ≡ l.words)

@@ -8,5 +8,7 @@ returns-in-Some-take-clause-some c =
     let word = c.in-Some-take.word in
     let behind = c.in-Some.behind.now in
     let whole = c.in-Some-take.ensures.whole in
-    sym c.loop-byte.invariant ∙ ap (words_from begun.weight begun.value) c.in-Some.ensures.cases.0 ∙ c.in-Some-take.ensures.reads behind
-    ∙ ap (λ v. word ∷ words_from c.take.new.self.weight v behind) whole.0 ∙ ap (λ w. word ∷ words_from w 0 behind) whole.1
+    sym c.loop-byte.invariant ∙ ap (words_from begun.weight begun.value) c.in-Some.ensures.cases.0
+    ∙ c.in-Some-take.ensures.reads behind
+    ∙ ap (λ v. word ∷ words_from c.take.new.self.weight v behind) whole.0
+    ∙ ap (λ w. word ∷ words_from w 0 behind) whole.1

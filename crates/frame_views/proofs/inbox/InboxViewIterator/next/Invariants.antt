@@ -4,7 +4,8 @@ use Rattle.frame_views.proofs.inbox.InboxViewIterator.next.Given as goal
 
 abbrev pub invariant-loop-self : goal.invariant-loop-self
 invariant-loop-self l = record {
-  left : inbox_from l.self-inside.layout.now l.self-inside.at (drop l.self-inside.at l.self-inside.held.now) ≡ l.fn.self;
+  left : inbox_from l.self-inside.layout.now l.self-inside.at
+      (drop l.self-inside.at l.self-inside.held.now) ≡ l.fn.self;
   inbox : IsInbox l.self-inside.layout.now l.self-inside.at l.self-inside.held.now;
 }
 

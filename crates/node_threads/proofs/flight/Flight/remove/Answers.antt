@@ -13,6 +13,12 @@ returns-else-place-eq0 c =
     let k = c.self.inside.gone in
     let xs = c.self.inside.entries.items in
     let i = c.args.place in
-    let le : k + i ≤ length xs = omega (arith, length-drop k xs, c.self.invariant, ap length c.self.view_is, c.requires) in
+    let le : k + i ≤ length xs = omega (
+      arith,
+      length-drop k xs,
+      c.self.invariant,
+      ap length c.self.view_is,
+      c.requires,
+    ) in
     ap (drop k) c.remove-message.ensures.items ∙ drop_remove k i xs le
     ∙ ap (λ ys. remove ys i) c.self.view_is

@@ -13,7 +13,8 @@ invariant_of-result g c =
     let run = c.requires.run in
     let none : a.steps ≡ 0 = omega (arith, c.steps.ensures, c.if-steps-ne0.false) in
     let one : round_by a ≡ 1 = omega (arith, c.round.ensures.value, c.if-round-ne1.false) in
-    let within : c.node-2.result < s.nodes = omega (arith, c.node.ensures, c.node-2.ensures, c.if-node-setup.false) in
+    let within : c.node-2.result < s.nodes =
+    omega (arith, c.node.ensures, c.node-2.ensures, c.if-node-setup.false) in
     record {
       planned = record {
         plan = ap (λ (r : Run _). r.plan) run;
@@ -21,6 +22,8 @@ invariant_of-result g c =
         sized = c.requires.nodes ∙ sym (ap (λ (r : Run _). r.setup.nodes) run);
         few = c.requires.lawful.sized.few_rounds;
       };
-      paired = together_first _ p c.args.program.now s c.node-2.result a c.in_ok-node.node run c.in_ok-node.ensures c.node-2.ensures within one;
-      place = placed_first (g.P.Plan.start p) (g.P.Plan.receives p) (g.P.Plan.nodes p) (g.met.P.Plan.laws p) s.rounds a none one;
+      paired = together_first _ p c.args.program.now s c.node-2.result a c.in_ok-node.node run
+          c.in_ok-node.ensures c.node-2.ensures within one;
+      place = placed_first (g.P.Plan.start p) (g.P.Plan.receives p) (g.P.Plan.nodes p)
+          (g.met.P.Plan.laws p) s.rounds a none one;
     }

@@ -11,6 +11,8 @@ returns-in-Some-get-2 g c =
     let k = c.in-Copy.place in
     let m = c.in-Some-get-2.message.now in
     let found = c.in-Some-get-2.ensures.lookup in
-    let at = at_place flight c.messages-messages.result.now k m c.messages-messages.ensures found.3.0 found.3.1 in
-    subst (λ (z : Choice). IfOk c.copy_of.result (ComesToInOne g.P.Plan.start flight (Some z))) (sym c.in-Copy.is)
+    let at = at_place flight c.messages-messages.result.now k m c.messages-messages.ensures
+    found.3.0 found.3.1 in
+    subst (λ (z : Choice). IfOk c.copy_of.result (ComesToInOne g.P.Plan.start flight (Some z)))
+    (sym c.in-Copy.is)
     (copy_comes g.P.Plan.start flight k m.name c.copy_of.result at c.copy_of.ensures)

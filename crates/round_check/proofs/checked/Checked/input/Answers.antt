@@ -12,5 +12,6 @@ absent (Some x) none some = cc
 pub unreachable-requires : goal.unreachable-requires
 unreachable-requires c =
     let some : is_some (option_copied c.first_input.result) ≡ true =
-    rw (c.first_input.ensures, c.variables.ensures.value, c.deref.ensures) (is_some-first_input (arc_value c.self.inside.shaped).program c.self.invariant) in
+    rw (c.first_input.ensures, c.variables.ensures.value, c.deref.ensures)
+    (is_some-first_input (arc_value c.self.inside.shaped).program c.self.invariant) in
     absent c.first_input.result c.in-None.is some

@@ -13,5 +13,10 @@ returns c =
     let other = arc_value c.other.inside.shaped in
     let alike = slice_eq-Decides Decides-eqb one.spelling.items other.spelling.items c.eq.result
     (rw (c.deref.ensures, c.deref-2.ensures) at c.eq.ensures) in
-    rw (← c.self.view_is, ← c.other.view_is)
-    (λ yes. told_apart one.program other.program (packed_apart (spelled one.program) (spelled other.program) (sym one.spelling_is ∙ alike.0 yes ∙ other.spelling_is)), λ same. alike.1 (one.spelling_is ∙ ap (λ p. packed (spelled p)) same ∙ sym other.spelling_is))
+    rw (← c.self.view_is, ← c.other.view_is) (
+      λ yes. told_apart one.program other.program
+          (packed_apart (spelled one.program) (spelled other.program)
+          (sym one.spelling_is ∙ alike.0 yes ∙ other.spelling_is)),
+      λ same. alike.1
+          (one.spelling_is ∙ ap (λ p. packed (spelled p)) same ∙ sym other.spelling_is),
+    )

@@ -49,7 +49,8 @@ abbrev pub decreases-closed : goal.decreases-closed
 decreases-closed l = 24 * l.inner + 19
 
 abbrev pub invariant-chain-loop-operator : goal.invariant-chain-loop-operator
-invariant-chain-loop-operator l = GoesOn l.inner l.level (lexemes l.tokens) (tree_of l.left) l.depth (lexemes l.rest)
+invariant-chain-loop-operator l =
+    GoesOn l.inner l.level (lexemes l.tokens) (tree_of l.left) l.depth (lexemes l.rest)
 
 abbrev pub decreases-chain-loop-operator : goal.decreases-chain-loop-operator
 decreases-chain-loop-operator l = l.inner + 1 - l.depth

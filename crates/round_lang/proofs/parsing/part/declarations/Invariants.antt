@@ -4,7 +4,8 @@ use Rattle.round_lang.proofs.Loops.{DeclaresOn}
 use Rattle.round_lang.proofs.parsing.part.declarations.Given as goal
 
 abbrev pub invariant-loop-parser : goal.invariant-loop-parser
-invariant-loop-parser l = DeclaresOn (lexemes l.tokens) l.declared.variables.items l.declared.decides.items (lexemes l.rest)
+invariant-loop-parser l = DeclaresOn (lexemes l.tokens) l.declared.variables.items
+    l.declared.decides.items (lexemes l.rest)
 
 abbrev pub decreases-loop-parser : goal.decreases-loop-parser
 decreases-loop-parser l = length (lexemes l.rest)

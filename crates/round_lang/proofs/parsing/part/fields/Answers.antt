@@ -5,7 +5,8 @@ use Rattle.round_lang.proofs.Loops.{fields_next, fields_shorter, fields_end}
 use Rattle.round_lang.proofs.parsing.part.fields.Goals as goal
 
 pub returns-then-begins_with-clause-gives : goal.returns-then-begins_with-clause-gives
-returns-then-begins_with-clause-gives c = rw c.new-fields.ensures.items (fields_none _ (sym c.if-begins_with.ensures))
+returns-then-begins_with-clause-gives c =
+    rw c.new-fields.ensures.items (fields_none _ (sym c.if-begins_with.ensures))
 
 pub returns-in_err-first-clause-gives : goal.returns-in_err-first-clause-gives
 returns-in_err-first-clause-gives c =
@@ -13,18 +14,28 @@ returns-in_err-first-clause-gives c =
     rw (p.1, p.2) (fields_first_fails _ (sym c.if-begins_with.ensures) _ c.in_err-first.ensures)
 
 pub loop-next-init : goal.loop-next-init
-loop-next-init c = rw (c.in_ok-push.ensures.items, c.new-fields.ensures.items) (fields_first _ _ _ (sym c.if-begins_with.ensures) c.in_ok-first.ensures)
+loop-next-init c = rw (c.in_ok-push.ensures.items, c.new-fields.ensures.items)
+    (fields_first _ _ _ (sym c.if-begins_with.ensures) c.in_ok-first.ensures)
 
 pub returns-in_err-next-clause-gives : goal.returns-in_err-next-clause-gives
 returns-in_err-next-clause-gives c =
-    let p = err_from_is_err_and c.from_residual-in_err-next.result c.from_residual-in_err-next.ensures.1 in
-    rw (p.1, p.2) (fields_fails _ _ _ c.loop-next.invariant _ (omega (arith, c.len.ensures, c.loop-next.fields.ok.0)) _ (sym c.in-Some.ensures) _ c.in_err-next.ensures)
+    let p = err_from_is_err_and c.from_residual-in_err-next.result
+    c.from_residual-in_err-next.ensures.1 in
+    rw (p.1, p.2)
+    (fields_fails _ _ _ c.loop-next.invariant _
+    (omega (arith, c.len.ensures, c.loop-next.fields.ok.0)) _ (sym c.in-Some.ensures) _
+    c.in_err-next.ensures)
 
 pub loop-next-smaller : goal.loop-next-smaller
-loop-next-smaller c = fields_shorter _ _ _ c.loop-next.invariant _ _ _ _ (sym c.in-Some.ensures) c.in_ok-next.ensures
+loop-next-smaller c =
+    fields_shorter _ _ _ c.loop-next.invariant _ _ _ _ (sym c.in-Some.ensures) c.in_ok-next.ensures
 
 pub loop-next-preserved : goal.loop-next-preserved
-loop-next-preserved c = rw c.in_ok-push-2.ensures.items (fields_next _ _ _ c.loop-next.invariant _ (omega (arith, c.len.ensures, c.loop-next.fields.ok.0)) _ _ _ (sym c.in-Some.ensures) c.in_ok-next.ensures)
+loop-next-preserved c =
+    rw c.in_ok-push-2.ensures.items
+    (fields_next _ _ _ c.loop-next.invariant _
+    (omega (arith, c.len.ensures, c.loop-next.fields.ok.0)) _ _ _ (sym c.in-Some.ensures)
+    c.in_ok-next.ensures)
 
 pub returns-clause-gives : goal.returns-clause-gives
 returns-clause-gives c = fields_end _ _ _ c.loop-next.invariant (sym c.in_default.ensures)

@@ -4,4 +4,6 @@ use Rattle.schedule_text.proofs.last_round.LastRound.read_anew.Goals as goal
 
 pub invariant_of-self : goal.invariant_of-self
 invariant_of-self c =
-    round_kept c.args.text.now c.in_ok-round.rest.now c.args.word _ _ c.in_ok-round.ensures.number refl c.if-length-le-KEPT.true (omega (arith, c.requires.long)) (λ i. omega (arith, c.type_inv.text i)) c.requires.word
+    round_kept c.args.text.now c.in_ok-round.rest.now c.args.word _ _ c.in_ok-round.ensures.number
+    refl c.if-length-le-KEPT.true (omega (arith, c.requires.long))
+    (λ i. omega (arith, c.type_inv.text i)) c.requires.word

@@ -11,5 +11,8 @@ returns-in-Some-clause-opened g c =
     let h : Setup × PlanKind = (c.in-Some.setup, c.in-Some.plan) in
     let new = c.read_piece.new.self in
     let whole : Some h ≡ header_in new.intake.reader.draft =
-    sym c.in-Some.is ∙ c.in_ok-setup.ensures ∙ ap (λ (r : Reading). header_in r.intake.reader.draft) c.reader.view_is in
-    all_opened (g.S.TextSource.left c.args.source) c.loop-reader.reader new h whole c.loop-reader.invariant.1 c.in_ok-read_piece.ensures.goes_on c.in_ok-read_piece.ensures.ended
+    sym c.in-Some.is ∙ c.in_ok-setup.ensures
+    ∙ ap (λ (r : Reading). header_in r.intake.reader.draft) c.reader.view_is in
+    all_opened (g.S.TextSource.left c.args.source) c.loop-reader.reader new h whole
+    c.loop-reader.invariant.1 c.in_ok-read_piece.ensures.goes_on
+    c.in_ok-read_piece.ensures.ended

@@ -4,4 +4,8 @@ use Rattle.slot_plans.proofs.plan.Plan.len.Goals as goal
 
 pub overflow_add-result : goal.overflow_add-result
 overflow_add-result g c =
-    omega (arith, len-fits (g.met.Self.Plan.laws c.args.self.now) c.args.round c.requires.first c.requires.last)
+    omega (
+      arith,
+      len-fits (g.met.Self.Plan.laws c.args.self.now) c.args.round c.requires.first
+          c.requires.last,
+    )

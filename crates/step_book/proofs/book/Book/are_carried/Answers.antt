@@ -12,9 +12,12 @@ returns-then-not-is_carried g c =
     let nodes = nodes_view c.self.view_is in
     let test = c.loop-from-test.true in
     let read : held_at c.args.frames.now c.loop-from.from ≡ c.index-frames-from.result =
-    get_or_default c.args.frames.now c.loop-from.from None c.index-frames-from.result (omega (arith, c.requires.sized)) ∙ sym c.index-frames-from.is in (
+    get_or_default c.args.frames.now c.loop-from.from None c.index-frames-from.result
+    (omega (arith, c.requires.sized)) ∙ sym c.index-frames-from.is in (
       λ e. cc,
-      λ all. (let on = c.is_carried.ensures.1 (ap (option_map tag_of) (sym read) ∙ all c.loop-from.from (one_of (g.P.Plan.start v.plan) v.log c.loop-from.from (omega arith))) in cc),
+      λ all. (let on = c.is_carried.ensures.1 (ap (option_map tag_of) (sym read)
+          ∙ all c.loop-from.from (one_of (g.P.Plan.start v.plan) v.log c.loop-from.from
+          (omega arith))) in cc),
     )
 
 pub returns : goal.returns

@@ -8,4 +8,5 @@ index-requires g c =
     omega (arith, c.requires, n)
 
 pub returns : goal.returns
-returns g c = count_read (of_view g.P.Plan.start g.P.Plan.nodes c.self.view_is c.self.invariant) c.args.node _ c.requires c.index.ensures
+returns g c = count_read (of_view g.P.Plan.start g.P.Plan.nodes c.self.view_is c.self.invariant)
+    c.args.node _ c.requires c.index.ensures

@@ -12,10 +12,14 @@ add_copies-requires-clause-message g c =
     let names = c.self.inside.messages.items in
     let k = c.loop-serial.serial in
     let item = c.message-item.result in
-    let is = c.name.ensures ∙ c.message-item.is ∙ ap (λ (xs : List Name). get_or xs k item) c.deref-message-items.ensures.value in
-    (h.serials.each k c.name.result).0 (slice_get-get_or names k item (let test = c.loop-serial-test.true in omega arith) ∙ ap (λ (n : Name). Some n) (sym is))
+    let is = c.name.ensures ∙ c.message-item.is
+    ∙ ap (λ (xs : List Name). get_or xs k item) c.deref-message-items.ensures.value in
+    (h.serials.each k c.name.result).0
+    (slice_get-get_or names k item (let test = c.loop-serial-test.true in omega arith)
+    ∙ ap (λ (n : Name). Some n) (sym is))
 
 pub returns : goal.returns
 returns g c =
     let size = ap length c.deref-message-items.ensures.value in
-    flight_whole (of_view g.P.Plan.start g.P.Plan.nodes c.self.view_is c.self.invariant) c.loop-serial.serial c.loop-serial.flight.items (omega arith) c.loop-serial.invariant
+    flight_whole (of_view g.P.Plan.start g.P.Plan.nodes c.self.view_is c.self.invariant)
+    c.loop-serial.serial c.loop-serial.flight.items (omega arith) c.loop-serial.invariant

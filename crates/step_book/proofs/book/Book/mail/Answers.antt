@@ -16,15 +16,19 @@ pub returns-clause-handed : goal.returns-clause-handed
 returns-clause-handed g c =
     let n = handed_len (of_view g.P.Plan.start g.P.Plan.nodes c.self.view_is c.self.invariant) in
     let m = lists_len c.self.inside.mails.items in
-    sym (lists_read c.self.inside.mails.items c.args.node c.index.result.now (omega (arith, c.requires)) c.index.ensures)
-    ∙ handed_read (of_view g.P.Plan.start g.P.Plan.nodes c.self.view_is c.self.invariant) c.args.node c.requires
+    sym (lists_read c.self.inside.mails.items c.args.node c.index.result.now
+    (omega (arith, c.requires)) c.index.ensures)
+    ∙ handed_read (of_view g.P.Plan.start g.P.Plan.nodes c.self.view_is c.self.invariant)
+    c.args.node c.requires
 
 pub returns-clause-waiting : goal.returns-clause-waiting
 returns-clause-waiting g c =
     let n = waiting_len (of_view g.P.Plan.start g.P.Plan.nodes c.self.view_is c.self.invariant) in
     let m = waits_len c.self.inside.mails.items in
-    sym (waits_read c.self.inside.mails.items c.args.node c.index.result.now (omega (arith, c.requires)) c.index.ensures)
-    ∙ waiting_read (of_view g.P.Plan.start g.P.Plan.nodes c.self.view_is c.self.invariant) c.args.node c.requires
+    sym (waits_read c.self.inside.mails.items c.args.node c.index.result.now
+    (omega (arith, c.requires)) c.index.ensures)
+    ∙ waiting_read (of_view g.P.Plan.start g.P.Plan.nodes c.self.view_is c.self.invariant)
+    c.args.node c.requires
 
 pub returns-clause-once : goal.returns-clause-once
 returns-clause-once g c =
@@ -33,5 +37,7 @@ returns-clause-once g c =
     let n = waiting_len h in
     let m = waits_len c.self.inside.mails.items in
     let names : c.index.result.now.waiting ≡ waiting_in (g.P.Plan.start v.plan) v.log c.args.node =
-    sym (waits_read c.self.inside.mails.items c.args.node c.index.result.now (omega (arith, c.requires)) c.index.ensures) ∙ waiting_read h c.args.node c.requires in
-    subst (λ (x : List Name). IsBuffer (world_of (g.P.Plan.start v.plan) v.log) (history v.log) c.args.node x) (sym names) (buffer_once h c.args.node)
+    sym (waits_read c.self.inside.mails.items c.args.node c.index.result.now
+    (omega (arith, c.requires)) c.index.ensures) ∙ waiting_read h c.args.node c.requires in
+    subst (λ (x : List Name). IsBuffer (world_of (g.P.Plan.start v.plan) v.log)
+    (history v.log) c.args.node x) (sym names) (buffer_once h c.args.node)

@@ -14,72 +14,97 @@ use Rattle.step_book.proofs.book.Book.make_copy.Goals as goal
 pub invariant_of-self-then-can_copy : goal.invariant_of-self-then-can_copy
 invariant_of-self-then-can_copy g c =
     to_fields g.P.Plan.start g.P.Plan.nodes c.self.view_is
-    (made (of_view g.P.Plan.start g.P.Plan.nodes c.self.view_is c.self.invariant) c.args.name _ _ c.place-place.result _ c.requires.name c.requires.other (c.can_copy.ensures.0 cc) c.place-place.ensures
+    (made (of_view g.P.Plan.start g.P.Plan.nodes c.self.view_is c.self.invariant) c.args.name _ _
+    c.place-place.result _ c.requires.name c.requires.other
+    (c.can_copy.ensures.0 cc) c.place-place.ensures
     (trace_view (Copy c.args.name) _ c.self.view_is c.in_ok-note_answer.ensures.trace)
-    (puts_after Unsent _ _ _ c.args.name.copy c.place-place.result Flying c.in_ok-reserve.ensures.same c.put.ensures) c.in_ok-note_answer.ensures.answers)
+    (puts_after Unsent _ _ _ c.args.name.copy c.place-place.result Flying
+    c.in_ok-reserve.ensures.same c.put.ensures) c.in_ok-note_answer.ensures.answers)
 
 pub invariant_of-self-2 : goal.invariant_of-self-2
 invariant_of-self-2 g c =
     to_fields g.P.Plan.start g.P.Plan.nodes c.self.view_is
-    (not_made (of_view g.P.Plan.start g.P.Plan.nodes c.self.view_is c.self.invariant) c.args.name _ _ c.requires.name c.requires.other (λ fit. (let on = c.can_copy.ensures.1 fit in cc))
-    (trace_view (Copy c.args.name) _ c.self.view_is c.in_ok-note_answer-2.ensures.trace) c.in_ok-note_answer-2.ensures.answers)
+    (not_made (of_view g.P.Plan.start g.P.Plan.nodes c.self.view_is c.self.invariant) c.args.name _
+    _ c.requires.name c.requires.other (λ fit. (let on = c.can_copy.ensures.1 fit in cc))
+    (trace_view (Copy c.args.name) _ c.self.view_is c.in_ok-note_answer-2.ensures.trace)
+    c.in_ok-note_answer-2.ensures.answers)
 
 pub invariant_of-self : goal.invariant_of-self
-invariant_of-self g c = kept c.self.invariant _ _ _ _ _ _ _ refl refl c.in_err-reserve.ensures.same refl refl refl refl
+invariant_of-self g c = kept c.self.invariant _ _ _ _ _ _ _ refl refl c.in_err-reserve.ensures.same
+    refl refl refl refl
 
 pub invariant_of-self-in_err-note_answer : goal.invariant_of-self-in_err-note_answer
 invariant_of-self-in_err-note_answer g c =
-    kept c.self.invariant _ _ _ _ _ _ _ c.in_err-note_answer.ensures.trace_kept refl c.in_ok-reserve.ensures.same refl refl c.in_err-note_answer.ensures.answers_kept refl
+    kept c.self.invariant _ _ _ _ _ _ _ c.in_err-note_answer.ensures.trace_kept refl
+    c.in_ok-reserve.ensures.same refl refl c.in_err-note_answer.ensures.answers_kept refl
 
 pub returns-then-can_copy-clause-copied : goal.returns-then-can_copy-clause-copied
 returns-then-can_copy-clause-copied g c =
     let v = c.args.self.now in
     let n = c.args.name in
-    ap (λ (z : Log). mark_in (g.P.Plan.start v.plan) z n) (log_view (Copy n) _ c.self.view_is c.in_ok-note_answer.ensures.trace) ∙ copied_mark (of_view g.P.Plan.start g.P.Plan.nodes c.self.view_is c.self.invariant) n c.requires.name c.requires.other
+    ap (λ (z : Log). mark_in (g.P.Plan.start v.plan) z n)
+    (log_view (Copy n) _ c.self.view_is c.in_ok-note_answer.ensures.trace)
+    ∙ copied_mark (of_view g.P.Plan.start g.P.Plan.nodes c.self.view_is c.self.invariant) n
+    c.requires.name c.requires.other
 
 pub returns-then-can_copy-clause-marks : goal.returns-then-can_copy-clause-marks
 returns-then-can_copy-clause-marks g c =
     let v = c.args.self.now in
     let n = c.args.name in
-    subst (λ (z : Log). SameMarksBut (g.P.Plan.start v.plan) n v.log z) (sym (log_view (Copy n) _ c.self.view_is c.in_ok-note_answer.ensures.trace)) (copied_others (of_view g.P.Plan.start g.P.Plan.nodes c.self.view_is c.self.invariant) n)
+    subst (λ (z : Log). SameMarksBut (g.P.Plan.start v.plan) n v.log z)
+    (sym (log_view (Copy n) _ c.self.view_is c.in_ok-note_answer.ensures.trace))
+    (copied_others (of_view g.P.Plan.start g.P.Plan.nodes c.self.view_is c.self.invariant) n)
 
 pub returns-then-can_copy-clause-waiting : goal.returns-then-can_copy-clause-waiting
 returns-then-can_copy-clause-waiting g c =
     let v = c.args.self.now in
     let n = c.args.name in
-    subst (λ (z : Log). SameWaiting (g.P.Plan.start v.plan) v.log z) (sym (log_view (Copy n) _ c.self.view_is c.in_ok-note_answer.ensures.trace)) (copied_waiting (of_view g.P.Plan.start g.P.Plan.nodes c.self.view_is c.self.invariant) n)
+    subst (λ (z : Log). SameWaiting (g.P.Plan.start v.plan) v.log z)
+    (sym (log_view (Copy n) _ c.self.view_is c.in_ok-note_answer.ensures.trace))
+    (copied_waiting (of_view g.P.Plan.start g.P.Plan.nodes c.self.view_is c.self.invariant) n)
 
 pub returns-then-can_copy-clause-kept : goal.returns-then-can_copy-clause-kept
 returns-then-can_copy-clause-kept g c =
     let v = c.args.self.now in
     let n = c.args.name in
-    subst (λ (z : Log). KeepsClosed (g.P.Plan.start v.plan) v.log z) (sym (log_view (Copy n) _ c.self.view_is c.in_ok-note_answer.ensures.trace))
+    subst (λ (z : Log). KeepsClosed (g.P.Plan.start v.plan) v.log z)
+    (sym (log_view (Copy n) _ c.self.view_is c.in_ok-note_answer.ensures.trace))
     (kept_happened (of_view g.P.Plan.start g.P.Plan.nodes c.self.view_is c.self.invariant) (Copy n))
 
 pub returns-clause-copied : goal.returns-clause-copied
 returns-clause-copied g c =
     let v = c.args.self.now in
     let n = c.args.name in
-    ap (λ (z : Log). mark_in (g.P.Plan.start v.plan) z n) (log_view (Copy n) _ c.self.view_is c.in_ok-note_answer-2.ensures.trace) ∙ copied_mark (of_view g.P.Plan.start g.P.Plan.nodes c.self.view_is c.self.invariant) n c.requires.name c.requires.other
+    ap (λ (z : Log). mark_in (g.P.Plan.start v.plan) z n)
+    (log_view (Copy n) _ c.self.view_is c.in_ok-note_answer-2.ensures.trace)
+    ∙ copied_mark (of_view g.P.Plan.start g.P.Plan.nodes c.self.view_is c.self.invariant) n
+    c.requires.name c.requires.other
 
 pub returns-clause-marks : goal.returns-clause-marks
 returns-clause-marks g c =
     let v = c.args.self.now in
     let n = c.args.name in
-    subst (λ (z : Log). SameMarksBut (g.P.Plan.start v.plan) n v.log z) (sym (log_view (Copy n) _ c.self.view_is c.in_ok-note_answer-2.ensures.trace)) (copied_others (of_view g.P.Plan.start g.P.Plan.nodes c.self.view_is c.self.invariant) n)
+    subst (λ (z : Log). SameMarksBut (g.P.Plan.start v.plan) n v.log z)
+    (sym (log_view (Copy n) _ c.self.view_is c.in_ok-note_answer-2.ensures.trace))
+    (copied_others (of_view g.P.Plan.start g.P.Plan.nodes c.self.view_is c.self.invariant) n)
 
 pub returns-clause-waiting : goal.returns-clause-waiting
 returns-clause-waiting g c =
     let v = c.args.self.now in
     let n = c.args.name in
-    subst (λ (z : Log). SameWaiting (g.P.Plan.start v.plan) v.log z) (sym (log_view (Copy n) _ c.self.view_is c.in_ok-note_answer-2.ensures.trace)) (copied_waiting (of_view g.P.Plan.start g.P.Plan.nodes c.self.view_is c.self.invariant) n)
+    subst (λ (z : Log). SameWaiting (g.P.Plan.start v.plan) v.log z)
+    (sym (log_view (Copy n) _ c.self.view_is c.in_ok-note_answer-2.ensures.trace))
+    (copied_waiting (of_view g.P.Plan.start g.P.Plan.nodes c.self.view_is c.self.invariant) n)
 
 pub returns-clause-kept : goal.returns-clause-kept
 returns-clause-kept g c =
     let v = c.args.self.now in
     let n = c.args.name in
-    subst (λ (z : Log). KeepsClosed (g.P.Plan.start v.plan) v.log z) (sym (log_view (Copy n) _ c.self.view_is c.in_ok-note_answer-2.ensures.trace))
+    subst (λ (z : Log). KeepsClosed (g.P.Plan.start v.plan) v.log z)
+    (sym (log_view (Copy n) _ c.self.view_is c.in_ok-note_answer-2.ensures.trace))
     (kept_happened (of_view g.P.Plan.start g.P.Plan.nodes c.self.view_is c.self.invariant) (Copy n))
 
 pub note_answer-requires : goal.note_answer-requires
-note_answer-requires g c = storable_name _ (of_view g.P.Plan.start g.P.Plan.nodes c.self.view_is c.self.invariant).lawful.sized c.args.name c.requires.name
+note_answer-requires g c =
+    storable_name _ (of_view g.P.Plan.start g.P.Plan.nodes c.self.view_is
+    c.self.invariant).lawful.sized c.args.name c.requires.name

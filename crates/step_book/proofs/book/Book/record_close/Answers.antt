@@ -29,7 +29,9 @@ returns-in_err-note_close-clause-err g c =
     let one = c.node-node.ensures.one in
     let nodes = ap (λ (x : Setup). x.nodes) c.requires.setup in
     on_err c.from_residual.result (same_view _ c.self.view_is
-    (rows_same c.self.inside.states.items c.node-node.result c.index_mut.result.now c.note_close.new.states (omega arith) c.index_mut.ensures.value c.in_err-note_close.ensures.err))
+    (rows_same c.self.inside.states.items c.node-node.result c.index_mut.result.now
+    c.note_close.new.states (omega arith) c.index_mut.ensures.value
+    c.in_err-note_close.ensures.err))
 
 pub invariant_of-self : goal.invariant_of-self
 invariant_of-self g c =
@@ -39,7 +41,9 @@ invariant_of-self g c =
     let one = c.node-node.ensures.one in
     let nodes = ap (λ (x : Setup). x.nodes) c.requires.setup in
     same_rows c.self.invariant _
-    (rows_same c.self.inside.states.items c.node-node.result c.index_mut.result.now c.note_close.new.states (omega arith) c.index_mut.ensures.value c.in_err-note_close.ensures.err)
+    (rows_same c.self.inside.states.items c.node-node.result c.index_mut.result.now
+    c.note_close.new.states (omega arith) c.index_mut.ensures.value
+    c.in_err-note_close.ensures.err)
 
 pub invariant_of-self-2 : goal.invariant_of-self-2
 invariant_of-self-2 g c =
@@ -52,11 +56,20 @@ invariant_of-self-2 g c =
     let view = ap length (rows_view c.self.view_is) in
     let one = c.node-node.ensures.one in
     let nodes = ap (λ (x : Setup). x.nodes) c.requires.setup in
-    let P : List (Option Frame) → Type 0 = λ x. IsHeld (algorithm_in n) n.setup.nodes n.me n.round x in
+    let P : List (Option Frame)
+    → Type 0 = λ x. IsHeld (algorithm_in n) n.setup.nodes n.me n.round x in
     to_rows g.P.Plan.start g.P.Plan.nodes c.self.view_is
-    (close (of_view g.P.Plan.start g.P.Plan.nodes c.self.view_is c.self.invariant) n _ (omega arith) c.requires.program c.requires.setup (ap length (sym c.frames-frames.ensures.value) ∙ c.frames-frames.ensures.sized) (subst P c.frames-frames.ensures.value c.frames-frames.ensures.held) c.requires.due c.requires.ended
+    (close (of_view g.P.Plan.start g.P.Plan.nodes c.self.view_is c.self.invariant) n _
+    (omega arith) c.requires.program c.requires.setup
+    (ap length (sym c.frames-frames.ensures.value)
+    ∙ c.frames-frames.ensures.sized)
+    (subst P c.frames-frames.ensures.value c.frames-frames.ensures.held) c.requires.due
+    c.requires.ended
     (rows_closed n c.node-node.result _ c.self.view_is c.node-node.ensures.value
-    (rows_grow s.states.items c.node-node.result c.index_mut.result.now c.note_close.new.states (end_state n) (omega arith) c.index_mut.ensures.value (ended_grown n _ _ _ c.args.finished.now.ended c.requires.state c.in_ok-note_close.ensures.ok))))
+    (rows_grow s.states.items c.node-node.result c.index_mut.result.now c.note_close.new.states
+    (end_state n) (omega arith) c.index_mut.ensures.value
+    (ended_grown n _ _ _ c.args.finished.now.ended c.requires.state
+    c.in_ok-note_close.ensures.ok))))
 
 pub returns-clause-ok : goal.returns-clause-ok
 returns-clause-ok g c =
@@ -68,7 +81,10 @@ returns-clause-ok g c =
     let nodes = ap (λ (x : Setup). x.nodes) c.requires.setup in
     closed_view n _ c.self.view_is
     (rows_closed n c.node-node.result _ c.self.view_is c.node-node.ensures.value
-    (rows_grow c.self.inside.states.items c.node-node.result c.index_mut.result.now c.note_close.new.states (end_state n) (omega arith) c.index_mut.ensures.value (ended_grown n _ _ _ c.args.finished.now.ended c.requires.state c.in_ok-note_close.ensures.ok)))
+    (rows_grow c.self.inside.states.items c.node-node.result c.index_mut.result.now
+    c.note_close.new.states (end_state n) (omega arith) c.index_mut.ensures.value
+    (ended_grown n _ _ _ c.args.finished.now.ended c.requires.state
+    c.in_ok-note_close.ensures.ok)))
 
 pub returns-clause-kept : goal.returns-clause-kept
 returns-clause-kept g c =
@@ -84,5 +100,9 @@ returns-clause-kept g c =
     (sym
     (closed_view n _ c.self.view_is
     (rows_closed n c.node-node.result _ c.self.view_is c.node-node.ensures.value
-    (rows_grow c.self.inside.states.items c.node-node.result c.index_mut.result.now c.note_close.new.states (end_state n) (omega arith) c.index_mut.ensures.value (ended_grown n _ _ _ c.args.finished.now.ended c.requires.state c.in_ok-note_close.ensures.ok)))))
-    (kept_closed (of_view g.P.Plan.start g.P.Plan.nodes c.self.view_is c.self.invariant) n (omega arith))
+    (rows_grow c.self.inside.states.items c.node-node.result c.index_mut.result.now
+    c.note_close.new.states (end_state n) (omega arith) c.index_mut.ensures.value
+    (ended_grown n _ _ _ c.args.finished.now.ended c.requires.state
+    c.in_ok-note_close.ensures.ok)))))
+    (kept_closed (of_view g.P.Plan.start g.P.Plan.nodes c.self.view_is c.self.invariant) n
+    (omega arith))

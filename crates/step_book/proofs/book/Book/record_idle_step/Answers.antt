@@ -18,26 +18,36 @@ pub invariant_of-self-2 : goal.invariant_of-self-2
 invariant_of-self-2 g c =
     let v = c.args.self.now in
     to_fields g.P.Plan.start g.P.Plan.nodes c.self.view_is
-    (idle (of_view g.P.Plan.start g.P.Plan.nodes c.self.view_is c.self.invariant) c.args.node _ _ c.requires.node c.requires.past
-    (trace_view (Step c.args.node) _ c.self.view_is c.in_ok-note_step.ensures.trace) c.in_ok-note_step.ensures.steps)
+    (idle (of_view g.P.Plan.start g.P.Plan.nodes c.self.view_is c.self.invariant) c.args.node _ _
+    c.requires.node c.requires.past
+    (trace_view (Step c.args.node) _ c.self.view_is c.in_ok-note_step.ensures.trace)
+    c.in_ok-note_step.ensures.steps)
 
 pub returns-clause-marks : goal.returns-clause-marks
 returns-clause-marks g c =
     let v = c.args.self.now in
-    subst (λ (z : Log). SameMarks (g.P.Plan.start v.plan) v.log z) (sym (log_view (Step c.args.node) _ c.self.view_is c.in_ok-note_step.ensures.trace))
-    (idle_marks (of_view g.P.Plan.start g.P.Plan.nodes c.self.view_is c.self.invariant) c.args.node c.requires.past)
+    subst (λ (z : Log). SameMarks (g.P.Plan.start v.plan) v.log z)
+    (sym (log_view (Step c.args.node) _ c.self.view_is c.in_ok-note_step.ensures.trace))
+    (idle_marks (of_view g.P.Plan.start g.P.Plan.nodes c.self.view_is c.self.invariant) c.args.node
+    c.requires.past)
 
 pub returns-clause-waiting : goal.returns-clause-waiting
 returns-clause-waiting g c =
     let v = c.args.self.now in
-    subst (λ (z : Log). SameWaiting (g.P.Plan.start v.plan) v.log z) (sym (log_view (Step c.args.node) _ c.self.view_is c.in_ok-note_step.ensures.trace))
-    (idle_waiting (of_view g.P.Plan.start g.P.Plan.nodes c.self.view_is c.self.invariant) c.args.node c.requires.node c.requires.past)
+    subst (λ (z : Log). SameWaiting (g.P.Plan.start v.plan) v.log z)
+    (sym (log_view (Step c.args.node) _ c.self.view_is c.in_ok-note_step.ensures.trace))
+    (idle_waiting (of_view g.P.Plan.start g.P.Plan.nodes c.self.view_is c.self.invariant)
+    c.args.node c.requires.node c.requires.past)
 
 pub returns-clause-kept : goal.returns-clause-kept
 returns-clause-kept g c =
     let v = c.args.self.now in
-    subst (λ (z : Log). KeepsClosed (g.P.Plan.start v.plan) v.log z) (sym (log_view (Step c.args.node) _ c.self.view_is c.in_ok-note_step.ensures.trace))
-    (kept_happened (of_view g.P.Plan.start g.P.Plan.nodes c.self.view_is c.self.invariant) (Step c.args.node))
+    subst (λ (z : Log). KeepsClosed (g.P.Plan.start v.plan) v.log z)
+    (sym (log_view (Step c.args.node) _ c.self.view_is c.in_ok-note_step.ensures.trace))
+    (kept_happened (of_view g.P.Plan.start g.P.Plan.nodes c.self.view_is c.self.invariant)
+    (Step c.args.node))
 
 pub note_step-requires-clause-storable : goal.note_step-requires-clause-storable
-note_step-requires-clause-storable g c = storable_node (of_view g.P.Plan.start g.P.Plan.nodes c.self.view_is c.self.invariant) c.args.node c.requires.node
+note_step-requires-clause-storable g c =
+    storable_node (of_view g.P.Plan.start g.P.Plan.nodes c.self.view_is c.self.invariant)
+    c.args.node c.requires.node

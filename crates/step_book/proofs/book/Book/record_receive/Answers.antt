@@ -6,7 +6,14 @@ use Rattle.step_book.specs.Mailing.{Mailed}
 use Rattle.step_book.specs.Log.{Log, SameMarks, SameWaitingBut, waiting_in}
 use Rattle.step_book.proofs.Events.{count_le, kept, received, to_fields}
 use Rattle.step_book.proofs.Leaves.{received_marks, received_own, received_others}
-use Rattle.step_book.proofs.Reading.{storable_node, buffer_once, of_view, nodes_view, trace_view, log_view}
+use Rattle.step_book.proofs.Reading.{
+  storable_node,
+  buffer_once,
+  of_view,
+  nodes_view,
+  trace_view,
+  log_view,
+}
 use Rattle.step_book.proofs.Reading.{counts_len, handed_len, waiting_len, lists_len, waits_len}
 use Rattle.step_book.proofs.Reading.{waits_read}
 use Rattle.step_book.proofs.Vectors.{waits_set, waits_same, lists_push, lists_same}
@@ -39,9 +46,14 @@ invariant_of-self g c =
     let d = handed_len c.self.invariant in
     let e = lists_len s.mails.items in
     let same = c.in_err-note_receive.ensures.mail_kept in
-    kept c.self.invariant _ _ _ _ _ _ _ c.in_err-note_receive.ensures.trace_kept c.in_err-note_receive.ensures.steps_kept (λ a q. refl)
-    (waits_same s.mails.items k c.index_mut.result.now c.note_receive.new.mail (omega (arith, c.requires.node)) c.index_mut.ensures.value (ap (λ (m : Mailed). m.waiting) same))
-    (lists_same s.mails.items k c.index_mut.result.now c.note_receive.new.mail (omega (arith, c.requires.node)) c.index_mut.ensures.value (ap (λ (m : Mailed). m.handed) same))
+    kept c.self.invariant _ _ _ _ _ _ _ c.in_err-note_receive.ensures.trace_kept
+    c.in_err-note_receive.ensures.steps_kept (λ a q. refl)
+    (waits_same s.mails.items k c.index_mut.result.now c.note_receive.new.mail
+    (omega (arith, c.requires.node)) c.index_mut.ensures.value
+    (ap (λ (m : Mailed). m.waiting) same))
+    (lists_same s.mails.items k c.index_mut.result.now c.note_receive.new.mail
+    (omega (arith, c.requires.node)) c.index_mut.ensures.value
+    (ap (λ (m : Mailed). m.handed) same))
     refl refl
 
 pub invariant_of-self-2 : goal.invariant_of-self-2
@@ -55,37 +67,53 @@ invariant_of-self-2 g c =
     let d = handed_len h in
     let e = lists_len s.mails.items in
     to_fields g.P.Plan.start g.P.Plan.nodes c.self.view_is
-    (received h k _ _ _ _ _ c.requires.node c.requires.fit (sym (waits_read s.mails.items k c.index_mut.result.now (omega (arith, c.requires.node)) c.index_mut.ensures.value))
-    (trace_view (Step k) _ c.self.view_is c.in_ok-note_receive.ensures.trace) c.in_ok-note_receive.ensures.steps
+    (received h k _ _ _ _ _ c.requires.node c.requires.fit
+    (sym (waits_read s.mails.items k c.index_mut.result.now
+    (omega (arith, c.requires.node)) c.index_mut.ensures.value))
+    (trace_view (Step k) _ c.self.view_is c.in_ok-note_receive.ensures.trace)
+    c.in_ok-note_receive.ensures.steps
     (waits_set s.mails.items k c.note_receive.new.mail _ c.in_ok-note_receive.ensures.waiting)
-    (lists_push s.mails.items k c.index_mut.result.now c.note_receive.new.mail _ (omega (arith, c.requires.node)) c.index_mut.ensures.value c.in_ok-note_receive.ensures.handed))
+    (lists_push s.mails.items k c.index_mut.result.now c.note_receive.new.mail _
+    (omega (arith, c.requires.node)) c.index_mut.ensures.value
+    c.in_ok-note_receive.ensures.handed))
 
 pub returns-clause-marks : goal.returns-clause-marks
 returns-clause-marks g c =
     let v = c.args.self.now in
-    subst (λ (z : Log). SameMarks (g.P.Plan.start v.plan) v.log z) (sym (log_view (Step c.args.node) _ c.self.view_is c.in_ok-note_receive.ensures.trace))
-    (received_marks (of_view g.P.Plan.start g.P.Plan.nodes c.self.view_is c.self.invariant) c.args.node c.requires.fit.1)
+    subst (λ (z : Log). SameMarks (g.P.Plan.start v.plan) v.log z)
+    (sym (log_view (Step c.args.node) _ c.self.view_is c.in_ok-note_receive.ensures.trace))
+    (received_marks (of_view g.P.Plan.start g.P.Plan.nodes c.self.view_is c.self.invariant)
+    c.args.node c.requires.fit.1)
 
 pub returns-clause-taken : goal.returns-clause-taken
 returns-clause-taken g c =
     let v = c.args.self.now in
-    ap (λ (z : Log). waiting_in (g.P.Plan.start v.plan) z c.args.node) (log_view (Step c.args.node) _ c.self.view_is c.in_ok-note_receive.ensures.trace)
-    ∙ received_own (of_view g.P.Plan.start g.P.Plan.nodes c.self.view_is c.self.invariant) c.args.node c.requires.fit.1
+    ap (λ (z : Log). waiting_in (g.P.Plan.start v.plan) z c.args.node)
+    (log_view (Step c.args.node) _ c.self.view_is c.in_ok-note_receive.ensures.trace)
+    ∙ received_own (of_view g.P.Plan.start g.P.Plan.nodes c.self.view_is c.self.invariant)
+    c.args.node c.requires.fit.1
 
 pub returns-clause-waiting : goal.returns-clause-waiting
 returns-clause-waiting g c =
     let v = c.args.self.now in
-    subst (λ (z : Log). SameWaitingBut (g.P.Plan.start v.plan) c.args.node v.log z) (sym (log_view (Step c.args.node) _ c.self.view_is c.in_ok-note_receive.ensures.trace))
-    (received_others (of_view g.P.Plan.start g.P.Plan.nodes c.self.view_is c.self.invariant) c.args.node)
+    subst (λ (z : Log). SameWaitingBut (g.P.Plan.start v.plan) c.args.node v.log z)
+    (sym (log_view (Step c.args.node) _ c.self.view_is c.in_ok-note_receive.ensures.trace))
+    (received_others (of_view g.P.Plan.start g.P.Plan.nodes c.self.view_is c.self.invariant)
+    c.args.node)
 
 pub returns-clause-once : goal.returns-clause-once
-returns-clause-once g c = buffer_once (of_view g.P.Plan.start g.P.Plan.nodes c.self.view_is c.self.invariant) c.args.node
+returns-clause-once g c =
+    buffer_once (of_view g.P.Plan.start g.P.Plan.nodes c.self.view_is c.self.invariant) c.args.node
 
 pub returns-clause-kept : goal.returns-clause-kept
 returns-clause-kept g c =
     let v = c.args.self.now in
-    subst (λ (z : Log). KeepsClosed (g.P.Plan.start v.plan) v.log z) (sym (log_view (Step c.args.node) _ c.self.view_is c.in_ok-note_receive.ensures.trace))
-    (kept_happened (of_view g.P.Plan.start g.P.Plan.nodes c.self.view_is c.self.invariant) (Step c.args.node))
+    subst (λ (z : Log). KeepsClosed (g.P.Plan.start v.plan) v.log z)
+    (sym (log_view (Step c.args.node) _ c.self.view_is c.in_ok-note_receive.ensures.trace))
+    (kept_happened (of_view g.P.Plan.start g.P.Plan.nodes c.self.view_is c.self.invariant)
+    (Step c.args.node))
 
 pub note_receive-requires-clause-storable : goal.note_receive-requires-clause-storable
-note_receive-requires-clause-storable g c = storable_node (of_view g.P.Plan.start g.P.Plan.nodes c.self.view_is c.self.invariant) c.args.node c.requires.node
+note_receive-requires-clause-storable g c =
+    storable_node (of_view g.P.Plan.start g.P.Plan.nodes c.self.view_is c.self.invariant)
+    c.args.node c.requires.node

@@ -17,65 +17,102 @@ pub note_send-requires-clause-counted : goal.note_send-requires-clause-counted
 note_send-requires-clause-counted g c =
     let nodes = nodes_view c.self.view_is in
     let from = ap (λ (n : Name). n.from) c.name-name.ensures.value in
-    let n = count_le c.self.invariant c.name-name.result.from (omega (arith, c.requires.name.from)) in
+    let n = count_le c.self.invariant c.name-name.result.from
+    (omega (arith, c.requires.name.from)) in
     omega arith
 
 pub invariant_of-self : goal.invariant_of-self
 invariant_of-self g c =
-    kept c.self.invariant _ _ _ _ _ _ _ c.in_err-note_send.ensures.trace_kept c.in_err-note_send.ensures.steps_kept c.in_err-note_send.ensures.marks_kept refl refl refl c.in_err-note_send.ensures.messages_kept
+    kept c.self.invariant _ _ _ _ _ _ _ c.in_err-note_send.ensures.trace_kept
+    c.in_err-note_send.ensures.steps_kept c.in_err-note_send.ensures.marks_kept refl refl refl
+    c.in_err-note_send.ensures.messages_kept
 
 pub invariant_of-self-2 : goal.invariant_of-self-2
 invariant_of-self-2 g c =
     let v = c.args.self.now in
     let p = c.args.prepared.now in
     to_fields g.P.Plan.start g.P.Plan.nodes c.self.view_is
-    (sent (of_view g.P.Plan.start g.P.Plan.nodes c.self.view_is c.self.invariant) p _ _ _ c.place-place.result c.spoken-mark.result _ c.requires.name (sym (ap (λ (n : Name). n.copy) c.name-name.ensures.value) ∙ c.name-name.ensures.original) c.requires.work c.requires.fit
-    (subst (λ (n : Name). c.place-place.result ≡ ((n.round - 1) * v.log.setup.nodes + n.from) * v.log.setup.nodes + n.to) c.name-name.ensures.value c.place-place.ensures)
+    (sent (of_view g.P.Plan.start g.P.Plan.nodes c.self.view_is c.self.invariant) p _ _ _
+    c.place-place.result c.spoken-mark.result _ c.requires.name
+    (sym (ap (λ (n : Name). n.copy) c.name-name.ensures.value)
+    ∙ c.name-name.ensures.original) c.requires.work c.requires.fit
+    (subst (λ (n : Name). c.place-place.result
+    ≡ ((n.round - 1) * v.log.setup.nodes + n.from) * v.log.setup.nodes + n.to)
+    c.name-name.ensures.value c.place-place.ensures)
     c.spoken-mark.ensures.value
-    (trace_view (Step p.name.from) _ c.self.view_is (c.in_ok-note_send.ensures.trace ∙ ap (λ (n : Name). c.self.inside.trace.items ++ Step n.from ∷ []) c.name-name.ensures.value))
-    (c.in_ok-note_send.ensures.steps ∙ ap (λ (n : Name). set c.self.inside.steps.items n.from (get_or c.self.inside.steps.items n.from 0 + 1)) c.name-name.ensures.value)
+    (trace_view (Step p.name.from) _ c.self.view_is (c.in_ok-note_send.ensures.trace
+    ∙ ap (λ (n : Name). c.self.inside.trace.items ++ Step n.from ∷ [])
+    c.name-name.ensures.value))
+    (c.in_ok-note_send.ensures.steps
+    ∙ ap (λ (n : Name). set c.self.inside.steps.items n.from
+    (get_or c.self.inside.steps.items n.from 0 + 1)) c.name-name.ensures.value)
     c.in_ok-note_send.ensures.marks
-    (c.in_ok-note_send.ensures.messages ∙ ap (λ (n : Name). c.self.inside.messages.items ++ arrival n c.spoken-mark.result) c.name-name.ensures.value))
+    (c.in_ok-note_send.ensures.messages
+    ∙ ap (λ (n : Name). c.self.inside.messages.items ++ arrival n c.spoken-mark.result)
+    c.name-name.ensures.value))
 
 pub returns-clause-sent : goal.returns-clause-sent
 returns-clause-sent g c =
     let v = c.args.self.now in
     let p = c.args.prepared.now in
-    let more = c.in_ok-note_send.ensures.trace ∙ ap (λ (n : Name). c.self.inside.trace.items ++ Step n.from ∷ []) c.name-name.ensures.value in
-    ap (λ (z : Log). mark_in (g.P.Plan.start v.plan) z p.name) (log_view (Step p.name.from) _ c.self.view_is more)
-    ∙ sent_mark (of_view g.P.Plan.start g.P.Plan.nodes c.self.view_is c.self.invariant) p c.requires.name (sym (ap (λ (n : Name). n.copy) c.name-name.ensures.value) ∙ c.name-name.ensures.original) c.requires.work c.requires.fit
+    let more = c.in_ok-note_send.ensures.trace
+    ∙ ap (λ (n : Name). c.self.inside.trace.items ++ Step n.from ∷ [])
+    c.name-name.ensures.value in
+    ap (λ (z : Log). mark_in (g.P.Plan.start v.plan) z p.name)
+    (log_view (Step p.name.from) _ c.self.view_is more)
+    ∙ sent_mark (of_view g.P.Plan.start g.P.Plan.nodes c.self.view_is c.self.invariant) p
+    c.requires.name (sym (ap (λ (n : Name). n.copy) c.name-name.ensures.value)
+    ∙ c.name-name.ensures.original) c.requires.work c.requires.fit
 
 pub returns-clause-marks : goal.returns-clause-marks
 returns-clause-marks g c =
     let v = c.args.self.now in
     let p = c.args.prepared.now in
-    let more = c.in_ok-note_send.ensures.trace ∙ ap (λ (n : Name). c.self.inside.trace.items ++ Step n.from ∷ []) c.name-name.ensures.value in
-    subst (λ (z : Log). SameMarksBut (g.P.Plan.start v.plan) p.name v.log z) (sym (log_view (Step p.name.from) _ c.self.view_is more))
-    (sent_others (of_view g.P.Plan.start g.P.Plan.nodes c.self.view_is c.self.invariant) p.name c.requires.name (sym (ap (λ (n : Name). n.copy) c.name-name.ensures.value) ∙ c.name-name.ensures.original) c.requires.fit.0 c.requires.fit.1)
+    let more = c.in_ok-note_send.ensures.trace
+    ∙ ap (λ (n : Name). c.self.inside.trace.items ++ Step n.from ∷ [])
+    c.name-name.ensures.value in
+    subst (λ (z : Log). SameMarksBut (g.P.Plan.start v.plan) p.name v.log z)
+    (sym (log_view (Step p.name.from) _ c.self.view_is more))
+    (sent_others (of_view g.P.Plan.start g.P.Plan.nodes c.self.view_is c.self.invariant) p.name
+    c.requires.name (sym (ap (λ (n : Name). n.copy) c.name-name.ensures.value)
+    ∙ c.name-name.ensures.original) c.requires.fit.0 c.requires.fit.1)
 
 pub returns-clause-waiting : goal.returns-clause-waiting
 returns-clause-waiting g c =
     let v = c.args.self.now in
     let p = c.args.prepared.now in
-    let more = c.in_ok-note_send.ensures.trace ∙ ap (λ (n : Name). c.self.inside.trace.items ++ Step n.from ∷ []) c.name-name.ensures.value in
-    subst (λ (z : Log). SameWaiting (g.P.Plan.start v.plan) v.log z) (sym (log_view (Step p.name.from) _ c.self.view_is more))
-    (sent_waiting (of_view g.P.Plan.start g.P.Plan.nodes c.self.view_is c.self.invariant) p.name c.requires.name c.requires.fit.1)
+    let more = c.in_ok-note_send.ensures.trace
+    ∙ ap (λ (n : Name). c.self.inside.trace.items ++ Step n.from ∷ [])
+    c.name-name.ensures.value in
+    subst (λ (z : Log). SameWaiting (g.P.Plan.start v.plan) v.log z)
+    (sym (log_view (Step p.name.from) _ c.self.view_is more))
+    (sent_waiting (of_view g.P.Plan.start g.P.Plan.nodes c.self.view_is c.self.invariant) p.name
+    c.requires.name c.requires.fit.1)
 
 pub returns-clause-round : goal.returns-clause-round
-returns-clause-round g c = send_round (of_view g.P.Plan.start g.P.Plan.nodes c.self.view_is c.self.invariant) c.args.prepared.now.name c.requires.name c.requires.fit.0 c.requires.fit.1
+returns-clause-round g c =
+    send_round (of_view g.P.Plan.start g.P.Plan.nodes c.self.view_is c.self.invariant)
+    c.args.prepared.now.name c.requires.name c.requires.fit.0 c.requires.fit.1
 
 pub returns-clause-unsent : goal.returns-clause-unsent
-returns-clause-unsent g c = unsent (of_view g.P.Plan.start g.P.Plan.nodes c.self.view_is c.self.invariant) c.args.prepared.now.name c.requires.fit.1
+returns-clause-unsent g c =
+    unsent (of_view g.P.Plan.start g.P.Plan.nodes c.self.view_is c.self.invariant)
+    c.args.prepared.now.name c.requires.fit.1
 
 pub returns-clause-kept : goal.returns-clause-kept
 returns-clause-kept g c =
     let v = c.args.self.now in
     let p = c.args.prepared.now in
-    let more = c.in_ok-note_send.ensures.trace ∙ ap (λ (n : Name). c.self.inside.trace.items ++ Step n.from ∷ []) c.name-name.ensures.value in
-    subst (λ (z : Log). KeepsClosed (g.P.Plan.start v.plan) v.log z) (sym (log_view (Step p.name.from) _ c.self.view_is more))
-    (kept_happened (of_view g.P.Plan.start g.P.Plan.nodes c.self.view_is c.self.invariant) (Step p.name.from))
+    let more = c.in_ok-note_send.ensures.trace
+    ∙ ap (λ (n : Name). c.self.inside.trace.items ++ Step n.from ∷ [])
+    c.name-name.ensures.value in
+    subst (λ (z : Log). KeepsClosed (g.P.Plan.start v.plan) v.log z)
+    (sym (log_view (Step p.name.from) _ c.self.view_is more))
+    (kept_happened (of_view g.P.Plan.start g.P.Plan.nodes c.self.view_is c.self.invariant)
+    (Step p.name.from))
 
 pub note_send-requires-clause-storable : goal.note_send-requires-clause-storable
 note_send-requires-clause-storable g c =
     let h = of_view g.P.Plan.start g.P.Plan.nodes c.self.view_is c.self.invariant in
-    subst (λ n. IsStorableName n) (sym c.name-name.ensures.value) (storable_name _ h.lawful.sized c.args.prepared.now.name c.requires.name)
+    subst (λ n. IsStorableName n) (sym c.name-name.ensures.value)
+    (storable_name _ h.lawful.sized c.args.prepared.now.name c.requires.name)

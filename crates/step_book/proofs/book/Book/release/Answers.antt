@@ -31,13 +31,18 @@ invariant_of-self g c =
     let e = lists_len s.mails.items in
     let same = c.in_err-note_release.ensures.mail_kept in
     kept c.self.invariant _ _ _ _ _ _ _ c.in_err-note_release.ensures.trace_kept refl (λ a q. refl)
-    (waits_same s.mails.items c.args.name.to c.index_mut.result.now c.note_release.new.mail (omega (arith, c.requires.to)) c.index_mut.ensures.value (ap (λ (m : Mailed). m.waiting) same))
-    (lists_same s.mails.items c.args.name.to c.index_mut.result.now c.note_release.new.mail (omega (arith, c.requires.to)) c.index_mut.ensures.value (ap (λ (m : Mailed). m.handed) same))
+    (waits_same s.mails.items c.args.name.to c.index_mut.result.now c.note_release.new.mail
+    (omega (arith, c.requires.to)) c.index_mut.ensures.value
+    (ap (λ (m : Mailed). m.waiting) same))
+    (lists_same s.mails.items c.args.name.to c.index_mut.result.now c.note_release.new.mail
+    (omega (arith, c.requires.to)) c.index_mut.ensures.value
+    (ap (λ (m : Mailed). m.handed) same))
     c.in_err-note_release.ensures.answers_kept refl
 
 pub put-requires-clause-place : goal.put-requires-clause-place
 put-requires-clause-place g c =
-    flying_in (of_view g.P.Plan.start g.P.Plan.nodes c.self.view_is c.self.invariant) c.args.name c.place-place.result c.requires (c.is_flying.ensures.0 cc) c.place-place.ensures
+    flying_in (of_view g.P.Plan.start g.P.Plan.nodes c.self.view_is c.self.invariant) c.args.name
+    c.place-place.result c.requires (c.is_flying.ensures.0 cc) c.place-place.ensures
 
 pub invariant_of-self-then-is_flying : goal.invariant_of-self-then-is_flying
 invariant_of-self-then-is_flying g c =
@@ -53,83 +58,118 @@ invariant_of-self-then-is_flying g c =
     to_fields g.P.Plan.start g.P.Plan.nodes c.self.view_is
     (moved h n _ _ c.place-place.result _ _ _ c.requires fly c.place-place.ensures
     (trace_view (Release n) _ c.self.view_is c.in_ok-note_release.ensures.trace)
-    (subst (λ m. Puts Unsent s.marks c.put.new.self n.copy c.place-place.result m) (ap Released c.counted.ensures.value) c.put.ensures)
-    (waits_push s.mails.items n.to c.index_mut.result.now c.note_release.new.mail n (omega (arith, c.requires.to)) c.index_mut.ensures.value c.in_ok-note_release.ensures.waiting)
-    (lists_same s.mails.items n.to c.index_mut.result.now c.note_release.new.mail (omega (arith, c.requires.to)) c.index_mut.ensures.value c.in_ok-note_release.ensures.handed)
+    (subst (λ m. Puts Unsent s.marks c.put.new.self n.copy c.place-place.result m)
+    (ap Released c.counted.ensures.value) c.put.ensures)
+    (waits_push s.mails.items n.to c.index_mut.result.now c.note_release.new.mail n
+    (omega (arith, c.requires.to)) c.index_mut.ensures.value
+    c.in_ok-note_release.ensures.waiting)
+    (lists_same s.mails.items n.to c.index_mut.result.now c.note_release.new.mail
+    (omega (arith, c.requires.to)) c.index_mut.ensures.value
+    c.in_ok-note_release.ensures.handed)
     c.in_ok-note_release.ensures.answers)
 
 pub returns-then-is_flying-clause-released : goal.returns-then-is_flying-clause-released
 returns-then-is_flying-clause-released g c =
     let v = c.args.self.now in
     let n = c.args.name in
-    ap (λ (z : Log). mark_in (g.P.Plan.start v.plan) z n) (log_view (Release n) _ c.self.view_is c.in_ok-note_release.ensures.trace) ∙ released_mark (of_view g.P.Plan.start g.P.Plan.nodes c.self.view_is c.self.invariant) n c.requires
+    ap (λ (z : Log). mark_in (g.P.Plan.start v.plan) z n)
+    (log_view (Release n) _ c.self.view_is c.in_ok-note_release.ensures.trace)
+    ∙ released_mark (of_view g.P.Plan.start g.P.Plan.nodes c.self.view_is c.self.invariant) n
+    c.requires
 
 pub returns-then-is_flying-clause-marks : goal.returns-then-is_flying-clause-marks
 returns-then-is_flying-clause-marks g c =
     let v = c.args.self.now in
     let n = c.args.name in
-    subst (λ (z : Log). SameMarksBut (g.P.Plan.start v.plan) n v.log z) (sym (log_view (Release n) _ c.self.view_is c.in_ok-note_release.ensures.trace)) (released_others (of_view g.P.Plan.start g.P.Plan.nodes c.self.view_is c.self.invariant) n)
+    subst (λ (z : Log). SameMarksBut (g.P.Plan.start v.plan) n v.log z)
+    (sym (log_view (Release n) _ c.self.view_is c.in_ok-note_release.ensures.trace))
+    (released_others (of_view g.P.Plan.start g.P.Plan.nodes c.self.view_is c.self.invariant) n)
 
 pub returns-then-is_flying-clause-arrived : goal.returns-then-is_flying-clause-arrived
 returns-then-is_flying-clause-arrived g c =
     let v = c.args.self.now in
     let n = c.args.name in
-    ap (λ (z : Log). waiting_in (g.P.Plan.start v.plan) z n.to) (log_view (Release n) _ c.self.view_is c.in_ok-note_release.ensures.trace) ∙ released_waiting (of_view g.P.Plan.start g.P.Plan.nodes c.self.view_is c.self.invariant) n
+    ap (λ (z : Log). waiting_in (g.P.Plan.start v.plan) z n.to)
+    (log_view (Release n) _ c.self.view_is c.in_ok-note_release.ensures.trace)
+    ∙ released_waiting (of_view g.P.Plan.start g.P.Plan.nodes c.self.view_is c.self.invariant) n
 
 pub returns-then-is_flying-clause-waiting : goal.returns-then-is_flying-clause-waiting
 returns-then-is_flying-clause-waiting g c =
     let v = c.args.self.now in
     let n = c.args.name in
-    subst (λ (z : Log). SameWaitingBut (g.P.Plan.start v.plan) n.to v.log z) (sym (log_view (Release n) _ c.self.view_is c.in_ok-note_release.ensures.trace)) (released_waiting_others (of_view g.P.Plan.start g.P.Plan.nodes c.self.view_is c.self.invariant) n)
+    subst (λ (z : Log). SameWaitingBut (g.P.Plan.start v.plan) n.to v.log z)
+    (sym (log_view (Release n) _ c.self.view_is c.in_ok-note_release.ensures.trace))
+    (released_waiting_others
+    (of_view g.P.Plan.start g.P.Plan.nodes c.self.view_is c.self.invariant) n)
 
 pub returns-clause-released : goal.returns-clause-released
 returns-clause-released g c =
     let v = c.args.self.now in
     let n = c.args.name in
-    ap (λ (z : Log). mark_in (g.P.Plan.start v.plan) z n) (log_view (Release n) _ c.self.view_is c.in_ok-note_answer.ensures.trace) ∙ released_mark (of_view g.P.Plan.start g.P.Plan.nodes c.self.view_is c.self.invariant) n c.requires
+    ap (λ (z : Log). mark_in (g.P.Plan.start v.plan) z n)
+    (log_view (Release n) _ c.self.view_is c.in_ok-note_answer.ensures.trace)
+    ∙ released_mark (of_view g.P.Plan.start g.P.Plan.nodes c.self.view_is c.self.invariant) n
+    c.requires
 
 pub returns-clause-marks : goal.returns-clause-marks
 returns-clause-marks g c =
     let v = c.args.self.now in
     let n = c.args.name in
-    subst (λ (z : Log). SameMarksBut (g.P.Plan.start v.plan) n v.log z) (sym (log_view (Release n) _ c.self.view_is c.in_ok-note_answer.ensures.trace)) (released_others (of_view g.P.Plan.start g.P.Plan.nodes c.self.view_is c.self.invariant) n)
+    subst (λ (z : Log). SameMarksBut (g.P.Plan.start v.plan) n v.log z)
+    (sym (log_view (Release n) _ c.self.view_is c.in_ok-note_answer.ensures.trace))
+    (released_others (of_view g.P.Plan.start g.P.Plan.nodes c.self.view_is c.self.invariant) n)
 
 pub returns-clause-arrived : goal.returns-clause-arrived
 returns-clause-arrived g c =
     let v = c.args.self.now in
     let n = c.args.name in
-    ap (λ (z : Log). waiting_in (g.P.Plan.start v.plan) z n.to) (log_view (Release n) _ c.self.view_is c.in_ok-note_answer.ensures.trace) ∙ released_waiting (of_view g.P.Plan.start g.P.Plan.nodes c.self.view_is c.self.invariant) n
+    ap (λ (z : Log). waiting_in (g.P.Plan.start v.plan) z n.to)
+    (log_view (Release n) _ c.self.view_is c.in_ok-note_answer.ensures.trace)
+    ∙ released_waiting (of_view g.P.Plan.start g.P.Plan.nodes c.self.view_is c.self.invariant) n
 
 pub returns-clause-waiting : goal.returns-clause-waiting
 returns-clause-waiting g c =
     let v = c.args.self.now in
     let n = c.args.name in
-    subst (λ (z : Log). SameWaitingBut (g.P.Plan.start v.plan) n.to v.log z) (sym (log_view (Release n) _ c.self.view_is c.in_ok-note_answer.ensures.trace)) (released_waiting_others (of_view g.P.Plan.start g.P.Plan.nodes c.self.view_is c.self.invariant) n)
+    subst (λ (z : Log). SameWaitingBut (g.P.Plan.start v.plan) n.to v.log z)
+    (sym (log_view (Release n) _ c.self.view_is c.in_ok-note_answer.ensures.trace))
+    (released_waiting_others
+    (of_view g.P.Plan.start g.P.Plan.nodes c.self.view_is c.self.invariant) n)
 
 pub invariant_of-self-2 : goal.invariant_of-self-2
 invariant_of-self-2 g c =
     let v = c.args.self.now in
     let n = c.args.name in
     to_fields g.P.Plan.start g.P.Plan.nodes c.self.view_is
-    (let_be (of_view g.P.Plan.start g.P.Plan.nodes c.self.view_is c.self.invariant) n _ _ c.requires (λ fly. (let on = c.is_flying.ensures.1 fly in cc))
-    (trace_view (Release n) _ c.self.view_is c.in_ok-note_answer.ensures.trace) c.in_ok-note_answer.ensures.answers)
+    (let_be (of_view g.P.Plan.start g.P.Plan.nodes c.self.view_is c.self.invariant) n _ _ c.requires
+    (λ fly. (let on = c.is_flying.ensures.1 fly in cc))
+    (trace_view (Release n) _ c.self.view_is c.in_ok-note_answer.ensures.trace)
+    c.in_ok-note_answer.ensures.answers)
 
 pub returns-then-is_flying-clause-kept : goal.returns-then-is_flying-clause-kept
 returns-then-is_flying-clause-kept g c =
     let v = c.args.self.now in
     let n = c.args.name in
-    subst (λ (z : Log). KeepsClosed (g.P.Plan.start v.plan) v.log z) (sym (log_view (Release n) _ c.self.view_is c.in_ok-note_release.ensures.trace))
-    (kept_happened (of_view g.P.Plan.start g.P.Plan.nodes c.self.view_is c.self.invariant) (Release n))
+    subst (λ (z : Log). KeepsClosed (g.P.Plan.start v.plan) v.log z)
+    (sym (log_view (Release n) _ c.self.view_is c.in_ok-note_release.ensures.trace))
+    (kept_happened (of_view g.P.Plan.start g.P.Plan.nodes c.self.view_is c.self.invariant)
+    (Release n))
 
 pub returns-clause-kept : goal.returns-clause-kept
 returns-clause-kept g c =
     let v = c.args.self.now in
     let n = c.args.name in
-    subst (λ (z : Log). KeepsClosed (g.P.Plan.start v.plan) v.log z) (sym (log_view (Release n) _ c.self.view_is c.in_ok-note_answer.ensures.trace))
-    (kept_happened (of_view g.P.Plan.start g.P.Plan.nodes c.self.view_is c.self.invariant) (Release n))
+    subst (λ (z : Log). KeepsClosed (g.P.Plan.start v.plan) v.log z)
+    (sym (log_view (Release n) _ c.self.view_is c.in_ok-note_answer.ensures.trace))
+    (kept_happened (of_view g.P.Plan.start g.P.Plan.nodes c.self.view_is c.self.invariant)
+    (Release n))
 
 pub note_release-requires : goal.note_release-requires
-note_release-requires g c = storable_name _ (of_view g.P.Plan.start g.P.Plan.nodes c.self.view_is c.self.invariant).lawful.sized c.args.name c.requires
+note_release-requires g c =
+    storable_name _ (of_view g.P.Plan.start g.P.Plan.nodes c.self.view_is
+    c.self.invariant).lawful.sized c.args.name c.requires
 
 pub note_answer-requires : goal.note_answer-requires
-note_answer-requires g c = storable_name _ (of_view g.P.Plan.start g.P.Plan.nodes c.self.view_is c.self.invariant).lawful.sized c.args.name c.requires
+note_answer-requires g c =
+    storable_name _ (of_view g.P.Plan.start g.P.Plan.nodes c.self.view_is
+    c.self.invariant).lawful.sized c.args.name c.requires

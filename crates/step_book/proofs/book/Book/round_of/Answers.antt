@@ -14,7 +14,8 @@ pub overflow_cast-result : goal.overflow_cast-result
 overflow_cast-result g c =
     let h = (of_view g.P.Plan.start g.P.Plan.nodes c.self.view_is c.self.invariant) in
     let n = rows_len h in
-    let size = row_size _ c.self.inside.states.items c.args.node c.index.result.now (rows_view c.self.view_is) (omega (arith, c.requires)) c.index.ensures in
+    let size = row_size _ c.self.inside.states.items c.args.node c.index.result.now
+    (rows_view c.self.view_is) (omega (arith, c.requires)) c.index.ensures in
     let high = round_high h c.args.node c.requires in
     let few = rounds_few h in
     omega (arith, c.len.ensures)
@@ -22,14 +23,16 @@ overflow_cast-result g c =
 pub returns-clause-value : goal.returns-clause-value
 returns-clause-value g c =
     let n = rows_len (of_view g.P.Plan.start g.P.Plan.nodes c.self.view_is c.self.invariant) in
-    let size = row_size _ c.self.inside.states.items c.args.node c.index.result.now (rows_view c.self.view_is) (omega (arith, c.requires)) c.index.ensures in
+    let size = row_size _ c.self.inside.states.items c.args.node c.index.result.now
+    (rows_view c.self.view_is) (omega (arith, c.requires)) c.index.ensures in
     omega (arith, c.len.ensures)
 
 pub returns-clause-low : goal.returns-clause-low
 returns-clause-low g c =
     let h = (of_view g.P.Plan.start g.P.Plan.nodes c.self.view_is c.self.invariant) in
     let n = rows_len h in
-    let size = row_size _ c.self.inside.states.items c.args.node c.index.result.now (rows_view c.self.view_is) (omega (arith, c.requires)) c.index.ensures in
+    let size = row_size _ c.self.inside.states.items c.args.node c.index.result.now
+    (rows_view c.self.view_is) (omega (arith, c.requires)) c.index.ensures in
     let low = round_low h c.args.node c.requires in
     omega (arith, c.len.ensures)
 
@@ -37,7 +40,8 @@ pub returns-clause-high : goal.returns-clause-high
 returns-clause-high g c =
     let h = (of_view g.P.Plan.start g.P.Plan.nodes c.self.view_is c.self.invariant) in
     let n = rows_len h in
-    let size = row_size _ c.self.inside.states.items c.args.node c.index.result.now (rows_view c.self.view_is) (omega (arith, c.requires)) c.index.ensures in
+    let size = row_size _ c.self.inside.states.items c.args.node c.index.result.now
+    (rows_view c.self.view_is) (omega (arith, c.requires)) c.index.ensures in
     let high = round_high h c.args.node c.requires in
     omega (arith, c.len.ensures)
 
@@ -45,7 +49,8 @@ pub returns-clause-small : goal.returns-clause-small
 returns-clause-small g c =
     let h = (of_view g.P.Plan.start g.P.Plan.nodes c.self.view_is c.self.invariant) in
     let n = rows_len h in
-    let size = row_size _ c.self.inside.states.items c.args.node c.index.result.now (rows_view c.self.view_is) (omega (arith, c.requires)) c.index.ensures in
+    let size = row_size _ c.self.inside.states.items c.args.node c.index.result.now
+    (rows_view c.self.view_is) (omega (arith, c.requires)) c.index.ensures in
     let high = round_high h c.args.node c.requires in
     let few = rounds_few h in
     omega (arith, c.len.ensures)

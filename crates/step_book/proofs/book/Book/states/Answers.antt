@@ -13,4 +13,6 @@ index-requires g c =
 pub returns : goal.returns
 returns g c =
     let n = rows_len (of_view g.P.Plan.start g.P.Plan.nodes c.self.view_is c.self.invariant) in
-    ap states_of c.deref.ensures.value ∙ sym (row_read _ c.self.inside.states.items c.args.node c.index.result.now (rows_view c.self.view_is) (omega (arith, c.requires)) c.index.ensures)
+    ap states_of c.deref.ensures.value
+    ∙ sym (row_read _ c.self.inside.states.items c.args.node c.index.result.now
+    (rows_view c.self.view_is) (omega (arith, c.requires)) c.index.ensures)

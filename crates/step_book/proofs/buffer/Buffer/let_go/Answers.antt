@@ -15,11 +15,15 @@ invariant_of-self c =
     let says = IsHonest (algorithm_of c.self.inside.program c.self.inside.setup) in
     let rounds = c.self.inside.flying.items in
     let frames = c.index_mut.result.now in
-    let there = subst (λ (b : BufferView). HasPlace b.flying c.args.round c.args.place) (sym c.self.view_is) c.requires.place in
+    let there = subst (λ (b : BufferView). HasPlace b.flying c.args.round c.args.place)
+    (sym c.self.view_is) c.requires.place in
     let kept = spelt_put _ rounds _ c.self.inside.waiting.items c.args.round c.args.place None
-    (puts_table None rounds frames c.take.new.self c.args.round c.args.place None there.0 c.index_mut.ensures.value c.take.ensures.rest) tt c.self.invariant in
-    let read = get_or_default rounds c.args.round [] frames there.0 ∙ sym c.index_mut.ensures.value in
-    let taken = ap (λ t. get_or t c.args.place None) read ∙ sym c.take.ensures.taken ∙ c.in-Some.is in
+    (puts_table None rounds frames c.take.new.self c.args.round c.args.place None there.0
+    c.index_mut.ensures.value c.take.ensures.rest) tt c.self.invariant in
+    let read = get_or_default rounds c.args.round [] frames there.0
+    ∙ sym c.index_mut.ensures.value in
+    let taken = ap (λ t. get_or t c.args.place None) read ∙ sym c.take.ensures.taken
+    ∙ c.in-Some.is in
     spelt_waits _ _ c.self.inside.waiting.items c.push.new.self.items
     (subst (All says) (sym c.push.ensures)
     (All-push says c.self.inside.waiting.items c.in-Some.frame c.self.invariant.waits

@@ -10,17 +10,22 @@ returns-then-receive-len c =
     let past = c.if-receive-len.true in
     let size = c.len.ensures in
     let all = parts_len 0 c.self.inside.ends.items c.self.inside.names.items in
-    sym (get_or_past (parts 0 c.self.inside.ends.items c.self.inside.names.items) c.args.receive [] (omega arith))
+    sym (get_or_past (parts 0 c.self.inside.ends.items c.self.inside.names.items) c.args.receive []
+    (omega arith))
     ∙ ap (λ (m : Mailed). get_or m.handed c.args.receive []) c.self.view_is
 
 low : (c : goal.After-row_known-1) → c.args.receive < length c.self.inside.ends.items
 low c = let in_list = c.if-receive-len.false in let size = c.len.ensures in omega arith
 
-end_is : (c : goal.After-row_known-1) → c.index.result.now ≡ get_or c.self.inside.ends.items c.args.receive 0
-end_is c = c.index.ensures ∙ sym (get_or_default c.self.inside.ends.items c.args.receive 0 c.index.result.now (low c))
+end_is : (c : goal.After-row_known-1)
+    → c.index.result.now ≡ get_or c.self.inside.ends.items c.args.receive 0
+end_is c = c.index.ensures
+    ∙ sym (get_or_default c.self.inside.ends.items c.args.receive 0 c.index.result.now (low c))
 
-start_is : (c : goal.After-row_known-1) → c.start_of-start.result ≡ get_or (0 ∷ c.self.inside.ends.items) c.args.receive 0
-start_is c = c.start_of-start.ensures ∙ ap (λ xs. get_or (0 ∷ xs) c.args.receive 0) c.deref.ensures.value
+start_is : (c : goal.After-row_known-1)
+    → c.start_of-start.result ≡ get_or (0 ∷ c.self.inside.ends.items) c.args.receive 0
+start_is c = c.start_of-start.ensures
+    ∙ ap (λ xs. get_or (0 ∷ xs) c.args.receive 0) c.deref.ensures.value
 
 pub between-requires-clause-rising : goal.between-requires-clause-rising
 between-requires-clause-rising c =
@@ -40,8 +45,15 @@ pub returns : goal.returns
 returns c =
     let names = c.self.inside.names.items in
     c.between.ensures
-    ∙ ap (λ xs. take (c.index.result.now - c.start_of-start.result) (drop c.start_of-start.result xs)) c.deref-2.ensures.value
-    ∙ ap (λ e. take (e - c.start_of-start.result) (drop c.start_of-start.result names)) (c.index.ensures ∙ sym (get_or_default c.self.inside.ends.items c.args.receive 0 c.index.result.now (let in_list = c.if-receive-len.false in let size = c.len.ensures in omega arith)))
-    ∙ ap (λ s. take (get_or c.self.inside.ends.items c.args.receive 0 - s) (drop s names)) (c.start_of-start.ensures ∙ ap (λ xs. get_or (0 ∷ xs) c.args.receive 0) c.deref.ensures.value)
-    ∙ sym (part_at 0 c.self.inside.ends.items names c.args.receive (let in_list = c.if-receive-len.false in let size = c.len.ensures in omega arith))
+    ∙ ap (λ xs. take (c.index.result.now - c.start_of-start.result)
+    (drop c.start_of-start.result xs)) c.deref-2.ensures.value
+    ∙ ap (λ e. take (e - c.start_of-start.result) (drop c.start_of-start.result names))
+    (c.index.ensures
+    ∙ sym (get_or_default c.self.inside.ends.items c.args.receive 0 c.index.result.now
+    (let in_list = c.if-receive-len.false in let size = c.len.ensures in omega arith)))
+    ∙ ap (λ s. take (get_or c.self.inside.ends.items c.args.receive 0 - s) (drop s names))
+    (c.start_of-start.ensures
+    ∙ ap (λ xs. get_or (0 ∷ xs) c.args.receive 0) c.deref.ensures.value)
+    ∙ sym (part_at 0 c.self.inside.ends.items names c.args.receive
+    (let in_list = c.if-receive-len.false in let size = c.len.ensures in omega arith))
     ∙ ap (λ (m : Mailed). get_or m.handed c.args.receive []) c.self.view_is

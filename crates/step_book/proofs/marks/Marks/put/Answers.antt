@@ -10,6 +10,10 @@ pub returns : goal.returns
 returns c =
     let tables = c.self.inside.tables.items in
     let new = with_item c.index_mut.result.now c.args.place c.new.result in
-    subst (λ (z : List (List Mark)). Puts Unsent z (tables_of (set tables c.args.copy new)) c.args.copy c.args.place c.args.mark) c.self.view_is
+    subst (λ (z : List (List Mark)). Puts Unsent z
+    (tables_of (set tables c.args.copy new)) c.args.copy c.args.place c.args.mark)
+    c.self.view_is
     (puts_vec Unsent tables c.index_mut.result.now new c.args.copy c.args.place c.args.mark
-    (subst (λ (z : List (List Mark)). HasPlace z c.args.copy c.args.place) (sym c.self.view_is) c.requires.place) c.index_mut.ensures.value (ap (set c.index_mut.result.now.items c.args.place) c.new.ensures))
+    (subst (λ (z : List (List Mark)). HasPlace z c.args.copy c.args.place)
+    (sym c.self.view_is) c.requires.place) c.index_mut.ensures.value
+    (ap (set c.index_mut.result.now.items c.args.place) c.new.ensures))

@@ -9,6 +9,9 @@ pub returns-clause-fine : goal.returns-clause-fine
 returns-clause-fine c =
     let p : ProgramTree = c.self.inside.program in
     let code = c.self.inside.init.items in
-    let in_room = subst (λ n. Fine p.values n code (length code)) c.self.invariant.compiled.room_is c.self.invariant.safe.start in
-    let lent = subst (λ (l : List Instr). Fine p.values (room_of p) l (length l)) (sym c.deref.ensures.value) in_room in
-    subst (λ (q : ProgramTree). Fine q.values (room_of q) c.deref.result.now (length c.deref.result.now)) c.self.view_is lent
+    let in_room = subst (λ n. Fine p.values n code (length code)) c.self.invariant.compiled.room_is
+    c.self.invariant.safe.start in
+    let lent = subst (λ (l : List Instr). Fine p.values (room_of p) l (length l))
+    (sym c.deref.ensures.value) in_room in
+    subst (λ (q : ProgramTree). Fine q.values (room_of q) c.deref.result.now
+    (length c.deref.result.now)) c.self.view_is lent

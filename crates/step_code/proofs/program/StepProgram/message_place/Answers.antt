@@ -10,9 +10,11 @@ returns-clause-place c = c.self.invariant.compiled.message_is ∙ ap message_pla
 pub returns-clause-behind : goal.returns-clause-behind
 returns-clause-behind c =
     subst (λ (p : ProgramTree). state_place p.values ≤ c.self.inside.message) c.self.view_is
-    (subst (λ n. state_place c.self.inside.program.values ≤ n) (sym c.self.invariant.compiled.message_is) (state_from c.self.inside.program))
+    (subst (λ n. state_place c.self.inside.program.values ≤ n)
+    (sym c.self.invariant.compiled.message_is) (state_from c.self.inside.program))
 
 pub returns-clause-within : goal.returns-clause-within
 returns-clause-within c =
     subst (λ (p : ProgramTree). c.self.inside.message ≤ room_of p) c.self.view_is
-    (subst (λ n. n ≤ room_of c.self.inside.program) (sym c.self.invariant.compiled.message_is) (message_within c.self.inside.program))
+    (subst (λ n. n ≤ room_of c.self.inside.program) (sym c.self.invariant.compiled.message_is)
+    (message_within c.self.inside.program))

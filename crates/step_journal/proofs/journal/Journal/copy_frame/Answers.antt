@@ -4,7 +4,13 @@ use Rattle.round_meaning.specs.Rounds.{algorithm_of}
 use Rattle.step_machine.specs.Sealed.{Frame, IsHonest, original}
 use Rattle.step_book.specs.Log.{IsFlying, Recorded, SameMarksBut, SameWaiting, mark_in}
 use Rattle.step_book.specs.Buffers.{IsGenuine}
-use Rattle.step_journal.proofs.BufferViews.{fits_kept, fits_made, fits_not_made, fits_view, name_view}
+use Rattle.step_journal.proofs.BufferViews.{
+  fits_kept,
+  fits_made,
+  fits_not_made,
+  fits_view,
+  name_view,
+}
 use Rattle.step_journal.proofs.BufferViews.{place_view, run_honest_kept}
 use Rattle.step_journal.proofs.journal.Journal.copy_frame.Goals as goal
 
@@ -14,13 +20,18 @@ invariant_of-self-in_default g c =
     let n = c.args.name in
     let start = g.P.Plan.start s.plan in
     let ok = c.in_ok-made.ensures.ok in
-    let mark = ap (λ (z : Recorded _). mark_in start z.log n) (sym ok) ∙ c.in_ok-made.ensures.copied in
-    let marks = subst (λ (z : Recorded _). SameMarksBut start n s.log z.log) ok c.in_ok-made.ensures.marks in
-    let waits = subst (λ (z : Recorded _). SameWaiting start s.log z.log) ok c.in_ok-made.ensures.waiting in
+    let mark = ap (λ (z : Recorded _). mark_in start z.log n) (sym ok)
+    ∙ c.in_ok-made.ensures.copied in
+    let marks = subst (λ (z : Recorded _). SameMarksBut start n s.log z.log) ok
+    c.in_ok-made.ensures.marks in
+    let waits = subst (λ (z : Recorded _). SameWaiting start s.log z.log) ok
+    c.in_ok-made.ensures.waiting in
     fits_view g.P.Plan.start ok
     (fits_not_made c.self.invariant n
     (λ fit.
-    let some = c.in_ok-frame.ensures.there.1 (subst (λ (z : Recorded _). IsFlying (g.P.Plan.start z.plan) z.log (original n)) c.self.view_is fit.0) in
+    let some = c.in_ok-frame.ensures.there.1
+    (subst (λ (z : Recorded _). IsFlying (g.P.Plan.start z.plan) z.log (original n))
+    c.self.view_is fit.0) in
     let none = subst (λ (o : Option Frame). IsSome o) c.in_default.is some in
     cc)
     mark marks waits)
@@ -28,7 +39,8 @@ invariant_of-self-in_default g c =
 pub invariant_of-self-in_err-reserve_flying : goal.invariant_of-self-in_err-reserve_flying
 invariant_of-self-in_err-reserve_flying g c =
     let a = name_view c.args.name c.self.view_is c.requires.name in
-    fits_kept c.self.invariant c.args.name.to c.index_mut-buffer.result.now c.reserve_flying.new.self a.to c.index_mut-buffer.ensures.value c.reserve_flying.ensures.run
+    fits_kept c.self.invariant c.args.name.to c.index_mut-buffer.result.now
+    c.reserve_flying.new.self a.to c.index_mut-buffer.ensures.value c.reserve_flying.ensures.run
     c.in_err-reserve_flying.ensures.flying c.in_err-reserve_flying.ensures.waiting
 
 pub invariant_of-self-then-made : goal.invariant_of-self-then-made
@@ -37,17 +49,29 @@ invariant_of-self-then-made g c =
     let n = c.args.name in
     let start = g.P.Plan.start s.plan in
     let ok = c.in_ok-made-2.ensures.ok in
-    let mark = ap (λ (z : Recorded _). mark_in start z.log n) (sym ok) ∙ c.in_ok-made-2.ensures.copied in
-    let marks = subst (λ (z : Recorded _). SameMarksBut start n s.log z.log) ok c.in_ok-made-2.ensures.marks in
-    let waits = subst (λ (z : Recorded _). SameWaiting start s.log z.log) ok c.in_ok-made-2.ensures.waiting in
-    let named = subst (λ (o : Option Frame). IfSome o (λ frame. frame.name ≡ n)) c.in-Some.is c.in_ok-frame.ensures.named in
-    let genuine = subst (λ (o : Option Frame). IfSome o (λ frame. IsGenuine (algorithm_of c.args.self.now.log.program c.args.self.now.log.setup) c.args.self.now.log.rows frame)) c.in-Some.is c.in_ok-frame.ensures.genuine in
+    let mark = ap (λ (z : Recorded _). mark_in start z.log n) (sym ok)
+    ∙ c.in_ok-made-2.ensures.copied in
+    let marks = subst (λ (z : Recorded _). SameMarksBut start n s.log z.log) ok
+    c.in_ok-made-2.ensures.marks in
+    let waits = subst (λ (z : Recorded _). SameWaiting start s.log z.log) ok
+    c.in_ok-made-2.ensures.waiting in
+    let named = subst (λ (o : Option Frame). IfSome o (λ frame. frame.name ≡ n)) c.in-Some.is
+    c.in_ok-frame.ensures.named in
+    let genuine =
+    subst (λ (o : Option Frame). IfSome o
+    (λ frame. IsGenuine (algorithm_of c.args.self.now.log.program c.args.self.now.log.setup)
+    c.args.self.now.log.rows frame)) c.in-Some.is c.in_ok-frame.ensures.genuine in
     fits_view g.P.Plan.start ok
-    (fits_made c.self.invariant n c.in-Some.frame c.place-place.result c.index_mut-buffer.result.now c.reserve_flying.new.self c.index_mut-buffer-then-made.result.now c.put.new.self
+    (fits_made c.self.invariant n c.in-Some.frame c.place-place.result c.index_mut-buffer.result.now
+    c.reserve_flying.new.self c.index_mut-buffer-then-made.result.now c.put.new.self
     (name_view n c.self.view_is c.requires.name) (c.in_ok-made-2.ensures.made.0 (cc)) named
-    (subst (λ (z : Recorded _). IsGenuine (algorithm_of z.log.program z.log.setup) z.log.rows c.in-Some.frame) (sym c.self.view_is) genuine)
-    (place_view n c.place-place.result c.self.view_is c.place-place.ensures) c.index_mut-buffer.ensures.value c.reserve_flying.ensures.run c.in_ok-reserve_flying.ensures.flying c.in_ok-reserve_flying.ensures.waiting
-    c.index_mut-buffer-then-made.ensures.value c.put.ensures.run c.put.ensures.flying c.put.ensures.waiting mark marks waits)
+    (subst (λ (z : Recorded _). IsGenuine (algorithm_of z.log.program z.log.setup) z.log.rows
+    c.in-Some.frame) (sym c.self.view_is) genuine)
+    (place_view n c.place-place.result c.self.view_is c.place-place.ensures)
+    c.index_mut-buffer.ensures.value c.reserve_flying.ensures.run
+    c.in_ok-reserve_flying.ensures.flying c.in_ok-reserve_flying.ensures.waiting
+    c.index_mut-buffer-then-made.ensures.value c.put.ensures.run c.put.ensures.flying
+    c.put.ensures.waiting mark marks waits)
 
 pub invariant_of-self-else-made : goal.invariant_of-self-else-made
 invariant_of-self-else-made g c =
@@ -56,38 +80,53 @@ invariant_of-self-else-made g c =
     let start = g.P.Plan.start s.plan in
     let ok = c.in_ok-made-2.ensures.ok in
     let a = name_view n c.self.view_is c.requires.name in
-    let mark = ap (λ (z : Recorded _). mark_in start z.log n) (sym ok) ∙ c.in_ok-made-2.ensures.copied in
-    let marks = subst (λ (z : Recorded _). SameMarksBut start n s.log z.log) ok c.in_ok-made-2.ensures.marks in
-    let waits = subst (λ (z : Recorded _). SameWaiting start s.log z.log) ok c.in_ok-made-2.ensures.waiting in
+    let mark = ap (λ (z : Recorded _). mark_in start z.log n) (sym ok)
+    ∙ c.in_ok-made-2.ensures.copied in
+    let marks = subst (λ (z : Recorded _). SameMarksBut start n s.log z.log) ok
+    c.in_ok-made-2.ensures.marks in
+    let waits = subst (λ (z : Recorded _). SameWaiting start s.log z.log) ok
+    c.in_ok-made-2.ensures.waiting in
     fits_view g.P.Plan.start ok
     (fits_not_made
-    (fits_kept c.self.invariant n.to c.index_mut-buffer.result.now c.reserve_flying.new.self a.to c.index_mut-buffer.ensures.value c.reserve_flying.ensures.run c.in_ok-reserve_flying.ensures.flying c.in_ok-reserve_flying.ensures.waiting)
+    (fits_kept c.self.invariant n.to c.index_mut-buffer.result.now c.reserve_flying.new.self a.to
+    c.index_mut-buffer.ensures.value c.reserve_flying.ensures.run
+    c.in_ok-reserve_flying.ensures.flying c.in_ok-reserve_flying.ensures.waiting)
     n (λ fit. (let on = c.in_ok-made-2.ensures.made.1 fit in cc)) mark marks waits)
 
 pub invariant_of-self-in_err-made-2 : goal.invariant_of-self-in_err-made-2
 invariant_of-self-in_err-made-2 g c =
     let a = name_view c.args.name c.self.view_is c.requires.name in
     fits_view g.P.Plan.start c.in_err-made-2.ensures.err
-    (fits_kept c.self.invariant c.args.name.to c.index_mut-buffer.result.now c.reserve_flying.new.self a.to c.index_mut-buffer.ensures.value c.reserve_flying.ensures.run
+    (fits_kept c.self.invariant c.args.name.to c.index_mut-buffer.result.now
+    c.reserve_flying.new.self a.to c.index_mut-buffer.ensures.value c.reserve_flying.ensures.run
     c.in_ok-reserve_flying.ensures.flying c.in_ok-reserve_flying.ensures.waiting)
 
 pub put-requires-clause-honest : goal.put-requires-clause-honest
 put-requires-clause-honest g c =
     let n = c.args.name in
     let a = name_view n c.self.view_is c.requires.name in
-    let genuine = subst (λ (o : Option Frame). IfSome o (λ frame. IsGenuine (algorithm_of c.args.self.now.log.program c.args.self.now.log.setup) c.args.self.now.log.rows frame)) c.in-Some.is c.in_ok-frame.ensures.genuine in
-    run_honest_kept c.self.invariant n.to c.index_mut-buffer.result.now c.reserve_flying.new.self c.index_mut-buffer-then-made.result.now c.in-Some.frame
-    a.to c.index_mut-buffer.ensures.value c.reserve_flying.ensures.run c.index_mut-buffer-then-made.ensures.value
-    (subst (λ (z : Recorded _). IsHonest (algorithm_of z.log.program z.log.setup) c.in-Some.frame) (sym c.self.view_is) genuine.honest)
+    let genuine =
+    subst (λ (o : Option Frame). IfSome o
+    (λ frame. IsGenuine (algorithm_of c.args.self.now.log.program c.args.self.now.log.setup)
+    c.args.self.now.log.rows frame)) c.in-Some.is c.in_ok-frame.ensures.genuine in
+    run_honest_kept c.self.invariant n.to c.index_mut-buffer.result.now c.reserve_flying.new.self
+    c.index_mut-buffer-then-made.result.now c.in-Some.frame
+    a.to c.index_mut-buffer.ensures.value c.reserve_flying.ensures.run
+    c.index_mut-buffer-then-made.ensures.value
+    (subst (λ (z : Recorded _). IsHonest (algorithm_of z.log.program z.log.setup) c.in-Some.frame)
+    (sym c.self.view_is) genuine.honest)
 
 pub returns-then-made-clause-marks : goal.returns-then-made-clause-marks
 returns-then-made-clause-marks g c =
-    subst (λ (z : Recorded _). SameMarksBut (g.P.Plan.start z.plan) c.args.name z.log c.make_copy-2.new.self.log) c.self.view_is c.in_ok-made-2.ensures.marks
+    subst (λ (z : Recorded _). SameMarksBut (g.P.Plan.start z.plan) c.args.name z.log
+    c.make_copy-2.new.self.log) c.self.view_is c.in_ok-made-2.ensures.marks
 
 pub returns-clause-marks : goal.returns-clause-marks
 returns-clause-marks g c =
-    subst (λ (z : Recorded _). SameMarksBut (g.P.Plan.start z.plan) c.args.name z.log c.make_copy-2.new.self.log) c.self.view_is c.in_ok-made-2.ensures.marks
+    subst (λ (z : Recorded _). SameMarksBut (g.P.Plan.start z.plan) c.args.name z.log
+    c.make_copy-2.new.self.log) c.self.view_is c.in_ok-made-2.ensures.marks
 
 pub returns-clause-waiting : goal.returns-clause-waiting
 returns-clause-waiting g c =
-    subst (λ (z : Recorded _). SameWaiting (g.P.Plan.start z.plan) z.log c.make_copy-2.new.self.log) c.self.view_is c.in_ok-made-2.ensures.waiting
+    subst (λ (z : Recorded _). SameWaiting (g.P.Plan.start z.plan) z.log c.make_copy-2.new.self.log)
+    c.self.view_is c.in_ok-made-2.ensures.waiting

@@ -11,10 +11,16 @@ invariant_of-self-then-lost g c =
     let start = g.P.Plan.start s.plan in
     let ok = c.in_ok-lost.ensures.ok in
     let old = c.index_mut-buffer.result.now in
-    let mark = ap (λ (z : Recorded _). mark_in start z.log n) (sym ok) ∙ c.in_ok-lost.ensures.dropped in
-    let marks = subst (λ (z : Recorded _). SameMarksBut start n s.log z.log) ok c.in_ok-lost.ensures.marks in
-    let waits = subst (λ (z : Recorded _). SameWaiting start s.log z.log) ok c.in_ok-lost.ensures.waiting in
+    let mark = ap (λ (z : Recorded _). mark_in start z.log n) (sym ok)
+    ∙ c.in_ok-lost.ensures.dropped in
+    let marks = subst (λ (z : Recorded _). SameMarksBut start n s.log z.log) ok
+    c.in_ok-lost.ensures.marks in
+    let waits = subst (λ (z : Recorded _). SameWaiting start s.log z.log) ok
+    c.in_ok-lost.ensures.waiting in
     fits_view g.P.Plan.start ok
-    (fits_lost c.self.invariant n old c.remove.new.self (name_view n c.self.view_is c.requires) (c.in_ok-lost.ensures.lost.0 (cc)) c.index_mut-buffer.ensures.value c.remove.ensures.run
-    (subst (λ (z : ℕ). Puts None old.flying c.remove.new.self.flying n.round z None) (place_view n c.place-place.result c.self.view_is c.place-place.ensures) c.remove.ensures.flying)
+    (fits_lost c.self.invariant n old c.remove.new.self (name_view n c.self.view_is c.requires)
+    (c.in_ok-lost.ensures.lost.0 (cc)) c.index_mut-buffer.ensures.value c.remove.ensures.run
+    (subst (λ (z : ℕ). Puts None old.flying c.remove.new.self.flying n.round z None)
+    (place_view n c.place-place.result c.self.view_is c.place-place.ensures)
+    c.remove.ensures.flying)
     c.remove.ensures.waiting mark marks waits)

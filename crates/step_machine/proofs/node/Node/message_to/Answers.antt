@@ -15,8 +15,14 @@ pub returns-clause-kinds : goal.returns-clause-kinds
 returns-clause-kinds c =
     let s = c.self.inside in
     let keeps : KeepsTypes s.machine = subst KeepsTypes c.program.ensures c.keeps_types.ensures in
-    let typed : IfSome ((algorithm_of s.machine s.setup).send s.round s.state s.me c.args.dest) (IsMessageOf s.machine s.round) =
-    sends_typed (algorithm_of s.machine s.setup) s.machine s.setup keeps refl s.round s.state s.me c.args.dest c.self.invariant.state.types in
-    let fits : ForSome c.in_ok-message.message (AreOf s.machine.values (kinds_at (format_of s.machine s.setup.nodes) s.round)) =
-    λ m is. message_fits s.machine s.setup.nodes s.round m (subst (λ (o : Option (List Value)). IfSome o (IsMessageOf s.machine s.round)) (sym c.in_ok-message.ensures.message ∙ is) typed) in
-    subst (λ (n : NodeView). ForSome c.in_ok-message.message (AreOf n.program.values (kinds_at (format_in n) n.round))) c.self.view_is fits
+    let typed : IfSome ((algorithm_of s.machine s.setup).send s.round s.state s.me c.args.dest)
+    (IsMessageOf s.machine s.round) =
+    sends_typed (algorithm_of s.machine s.setup) s.machine s.setup keeps refl s.round s.state s.me
+    c.args.dest c.self.invariant.state.types in
+    let fits : ForSome c.in_ok-message.message
+    (AreOf s.machine.values (kinds_at (format_of s.machine s.setup.nodes) s.round)) =
+    λ m is. message_fits s.machine s.setup.nodes s.round m
+    (subst (λ (o : Option (List Value)). IfSome o (IsMessageOf s.machine s.round))
+    (sym c.in_ok-message.ensures.message ∙ is) typed) in
+    subst (λ (n : NodeView). ForSome c.in_ok-message.message
+    (AreOf n.program.values (kinds_at (format_in n) n.round))) c.self.view_is fits

@@ -15,13 +15,23 @@ returns-clause-ready c =
     let m = c.in_ok-message.message in
     let a = c.in_ok-spoken.spoken in
     let name = c.args.name in
-    let seen : node_seen c.self.inside ≡ n = c.self.view_is ∙ c.in_ok-origin.ensures.same ∙ c.in_ok-message.ensures.same in
-    let spoken : AreSpoken n.me n.round m a = subst (λ (x : NodeView). AreSpoken x.me x.round m a) seen c.in_ok-spoken.ensures.spoken in
-    let named : AreSpoken name.from name.round m a = subst (λ (x : Name). AreSpoken x.from x.round m a) (sym c.requires.named) spoken in
+    let seen : node_seen c.self.inside ≡ n = c.self.view_is ∙ c.in_ok-origin.ensures.same
+    ∙ c.in_ok-message.ensures.same in
+    let spoken : AreSpoken n.me n.round m a =
+    subst (λ (x : NodeView). AreSpoken x.me x.round m a) seen c.in_ok-spoken.ensures.spoken in
+    let named : AreSpoken name.from name.round m a =
+    subst (λ (x : Name). AreSpoken x.from x.round m a) (sym c.requires.named) spoken in
     let state : (origin_of a).state ≡ n.state =
-    ap (λ (o : Origin). o.state) c.in_ok-spoken.ensures.origin ∙ c.in_ok-origin.ensures.origin.state_is ∙ ap (λ (x : NodeView). x.state) c.in_ok-message.ensures.same in
-    let ready = ready_first s n name a m c.in_ok-prepared.prepared seen c.requires.named state c.in_ok-message.ensures.says (c.in_ok-prepared.ensures m named) in
-    let under : Name → Ready = λ x. record { name = x; state = n.state; message = (ready_in n name.to).message } in
+    ap (λ (o : Origin). o.state) c.in_ok-spoken.ensures.origin
+    ∙ c.in_ok-origin.ensures.origin.state_is
+    ∙ ap (λ (x : NodeView). x.state) c.in_ok-message.ensures.same in
+    let ready = ready_first s n name a m c.in_ok-prepared.prepared seen c.requires.named state
+    c.in_ok-message.ensures.says (c.in_ok-prepared.ensures m named) in
+    let under : Name → Ready = λ x. record {
+      name = x;
+      state = n.state;
+      message = (ready_in n name.to).message;
+    } in
     ready ∙ sym (ap under c.requires.named)
 
 pub returns-clause-prepared : goal.returns-clause-prepared
@@ -31,10 +41,16 @@ returns-clause-prepared c =
     let m = c.in_ok-message.message in
     let a = c.in_ok-spoken.spoken in
     let name = c.args.name in
-    let seen : node_seen c.self.inside ≡ n = c.self.view_is ∙ c.in_ok-origin.ensures.same ∙ c.in_ok-message.ensures.same in
-    let spoken : AreSpoken n.me n.round m a = subst (λ (x : NodeView). AreSpoken x.me x.round m a) seen c.in_ok-spoken.ensures.spoken in
-    let named : AreSpoken name.from name.round m a = subst (λ (x : Name). AreSpoken x.from x.round m a) (sym c.requires.named) spoken in
+    let seen : node_seen c.self.inside ≡ n = c.self.view_is ∙ c.in_ok-origin.ensures.same
+    ∙ c.in_ok-message.ensures.same in
+    let spoken : AreSpoken n.me n.round m a =
+    subst (λ (x : NodeView). AreSpoken x.me x.round m a) seen c.in_ok-spoken.ensures.spoken in
+    let named : AreSpoken name.from name.round m a =
+    subst (λ (x : Name). AreSpoken x.from x.round m a) (sym c.requires.named) spoken in
     let state : (origin_of a).state ≡ n.state =
-    ap (λ (o : Origin). o.state) c.in_ok-spoken.ensures.origin ∙ c.in_ok-origin.ensures.origin.state_is ∙ ap (λ (x : NodeView). x.state) c.in_ok-message.ensures.same in
-    let ready = ready_first s n name a m c.in_ok-prepared.prepared seen c.requires.named state c.in_ok-message.ensures.says (c.in_ok-prepared.ensures m named) in
+    ap (λ (o : Origin). o.state) c.in_ok-spoken.ensures.origin
+    ∙ c.in_ok-origin.ensures.origin.state_is
+    ∙ ap (λ (x : NodeView). x.state) c.in_ok-message.ensures.same in
+    let ready = ready_first s n name a m c.in_ok-prepared.prepared seen c.requires.named state
+    c.in_ok-message.ensures.says (c.in_ok-prepared.ensures m named) in
     ready_is s n name.to c.in_ok-prepared.prepared seen c.self.invariant.state.types ready

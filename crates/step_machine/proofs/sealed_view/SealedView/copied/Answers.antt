@@ -15,11 +15,15 @@ alone-requires c =
     let new = c.write_copy.new.bytes in
     let first = c.self.inside.first in
     let from : o ≡ arc_value d.origin = c.in_ok-origin.ensures in
-    let read : SpelledIsRead (layout_in o) = subst SpelledIsRead (c.deref-2.ensures ∙ ap layout_in c.deref.ensures) c.spelled_is_read.ensures in
+    let read : SpelledIsRead (layout_in o) =
+    subst SpelledIsRead (c.deref-2.ensures
+    ∙ ap layout_in c.deref.ensures) c.spelled_is_read.ensures in
     let old : c.deref_mut.result.now ≡ bytes_from d first =
     c.deref_mut.ensures.value ∙ c.in_ok-frames.ensures.items ∙ c.part.ensures in
-    let long : length new ≡ c.in_ok-frames.frames.len = omega (arith, c.write_copy.auto.bytes, c.deref_mut.ensures.len) in
-    (copy_is d first c.args.copy o _ _ new from read c.self.invariant old (take_at new _ c.in_ok-frames.frames.len long) c.write_copy.ensures).0
+    let long : length new ≡ c.in_ok-frames.frames.len =
+    omega (arith, c.write_copy.auto.bytes, c.deref_mut.ensures.len) in
+    (copy_is d first c.args.copy o _ _ new from read c.self.invariant old
+    (take_at new _ c.in_ok-frames.frames.len long) c.write_copy.ensures).0
 
 pub returns : goal.returns
 returns c =
@@ -28,10 +32,15 @@ returns c =
     let new = c.write_copy.new.bytes in
     let first = c.self.inside.first in
     let from : o ≡ arc_value d.origin = c.in_ok-origin.ensures in
-    let read : SpelledIsRead (layout_in o) = subst SpelledIsRead (c.deref-2.ensures ∙ ap layout_in c.deref.ensures) c.spelled_is_read.ensures in
+    let read : SpelledIsRead (layout_in o) =
+    subst SpelledIsRead (c.deref-2.ensures
+    ∙ ap layout_in c.deref.ensures) c.spelled_is_read.ensures in
     let old : c.deref_mut.result.now ≡ bytes_from d first =
     c.deref_mut.ensures.value ∙ c.in_ok-frames.ensures.items ∙ c.part.ensures in
-    let long : length new ≡ c.in_ok-frames.frames.len = omega (arith, c.write_copy.auto.bytes, c.deref_mut.ensures.len) in
+    let long : length new ≡ c.in_ok-frames.frames.len =
+    omega (arith, c.write_copy.auto.bytes, c.deref_mut.ensures.len) in
     subst (λ (f : Frame). IfOk c.alone.result (λ frame. frame ≡ f))
-    ((copy_is d first c.args.copy o _ _ new from read c.self.invariant old (take_at new _ c.in_ok-frames.frames.len long) c.write_copy.ensures).1 ∙ ap (copied_as c.args.copy) c.self.view_is)
+    ((copy_is d first c.args.copy o _ _ new from read c.self.invariant old
+    (take_at new _ c.in_ok-frames.frames.len long) c.write_copy.ensures).1
+    ∙ ap (copied_as c.args.copy) c.self.view_is)
     c.alone.ensures

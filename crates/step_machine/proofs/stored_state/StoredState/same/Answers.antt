@@ -8,7 +8,11 @@ pub returns-then-are_words : goal.returns-then-are_words
 returns-then-are_words c =
     let inside = c.self.inside in
     let words : words_in inside.bytes.items ≡ all_words c.args.state.now =
-    ap words_in (sym c.as_slice.ensures) ∙ c.are_words.ensures.0 c.if-are_words.true ∙ c.as_words.ensures.words in (
-      λ t. sym c.self.view_is ∙ (spelled_values c.args.state.now c.as_words.ensures.small inside.shape _ (c.is.ensures.0 t ∙ c.kinds.ensures) words).0,
-      λ e. c.is.ensures.1 (c.self.invariant.kinds_are ∙ ap (map kind_of) (c.self.view_is ∙ e) ∙ sym c.kinds.ensures),
+    ap words_in (sym c.as_slice.ensures) ∙ c.are_words.ensures.0 c.if-are_words.true
+    ∙ c.as_words.ensures.words in (
+      λ t. sym c.self.view_is
+          ∙ (spelled_values c.args.state.now c.as_words.ensures.small inside.shape _
+          (c.is.ensures.0 t ∙ c.kinds.ensures) words).0,
+      λ e. c.is.ensures.1 (c.self.invariant.kinds_are ∙ ap (map kind_of) (c.self.view_is ∙ e)
+          ∙ sym c.kinds.ensures),
     )
