@@ -1,10 +1,10 @@
 -- The order of keys, and what holds of each event.
 use Rattle.std.proofs.Common.{ℕ, ◌<◌, ◌≤◌, List, [], ◌∷◌, ◌∙◌, arith}
-use Rattle.policies.specs.declared.bounded.Bounded.{Bounded}
 use Rattle.step_book.specs.World.{World}
 use Rattle.step_book.proofs.Moments.{At, Newest, Older}
 use Rattle.step_machine.specs.declared.event.Event.{Event}
 use Rattle.lockstep_runs.specs.Lockstep.{AllBefore, Each, IsBefore, Key, Tick, Part, Turn}
+use Rattle.lockstep_runs.specs.Timing.{Timing}
 
 pub before_before : (a b c : Key) → IsBefore a b → IsBefore b c → IsBefore a c
 before_before a b c (Tick l) (Tick m) = Tick (omega arith)
@@ -18,7 +18,8 @@ before_before a b c (Turn e f l) (Part g m) = Part (e ∙ g) (omega arith)
 before_before a b c (Turn e f l) (Turn g h m) = Turn (e ∙ g) (f ∙ h) (omega arith)
 
 -- what comes before a tick comes before all that isn't in an earlier tick
-pub before_tick : (a b : Key) (tick : ℕ) → tick ≤ b.tick → IsBefore a (record { tick = tick; part = 0; turn = 0 }) → IsBefore a b
+pub before_tick : (a b : Key) (tick : ℕ) → tick ≤ b.tick
+    → IsBefore a (record { tick = tick; part = 0; turn = 0 }) → IsBefore a b
 before_tick a b tick l (Tick m) = Tick (omega arith)
 before_tick a b tick l (Part e m) = absurd (omega arith)
 before_tick a b tick l (Turn e f m) = absurd (omega arith)
@@ -35,7 +36,8 @@ before_parts a b p (Tick l) = l
 before_parts a b p (Part e l) = absurd (omega arith)
 before_parts a b p (Turn e f l) = absurd (omega arith)
 
-pub each_map : (F G : Event → List Event → Type 0) (t : List Event) → ((e : Event) (past : List Event) → F e past → G e past) → Each F t → Each G t
+pub each_map : (F G : Event → List Event → Type 0) (t : List Event)
+    → ((e : Event) (past : List Event) → F e past → G e past) → Each F t → Each G t
 unfolding Each
 each_map F G [] f h = tt
 each_map F G (e ∷ past) f h = (f e past h.0, each_map F G past f h.1)
@@ -44,18 +46,22 @@ pub each_none : (F : Event → List Event → Type 0) → Each F []
 unfolding Each
 each_none F = tt
 
-pub each_more : (F : Event → List Event → Type 0) (e : Event) (t : List Event) → F e t → Each F t → Each F (e ∷ t)
+pub each_more : (F : Event → List Event → Type 0) (e : Event) (t : List Event) → F e t → Each F t
+    → Each F (e ∷ t)
 unfolding Each
 each_more F e t h k = (h, k)
 
-pub all_before : (w : World) (b : Bounded) (k l : Key) (t : List Event) → IsBefore k l → AllBefore w b k t → AllBefore w b l t
+pub all_before : (w : World) (b : Timing) (k l : Key) (t : List Event) → IsBefore k l
+    → AllBefore w b k t → AllBefore w b l t
 all_before w b k l t h all = each_map _ _ t (λ e past m. before_before _ k l m h) all
 
-pub all_before_tick : (w : World) (b : Bounded) (k : Key) (tick : ℕ) (t : List Event) → tick ≤ k.tick → AllBefore w b (record { tick = tick; part = 0; turn = 0 }) t → AllBefore w b k t
+pub all_before_tick : (w : World) (b : Timing) (k : Key) (tick : ℕ) (t : List Event) → tick ≤ k.tick
+    → AllBefore w b (record { tick = tick; part = 0; turn = 0 }) t → AllBefore w b k t
 all_before_tick w b k tick t h all = each_map _ _ t (λ e past m. before_tick _ k tick h m) all
 
 -- what holds of each event holds of one
-pub each_at : (F : Event → List Event → Type 0) (m : List Event) (e : Event) (t : List Event) → Each F t → At m e t → F e m
+pub each_at : (F : Event → List Event → Type 0) (m : List Event) (e : Event) (t : List Event)
+    → Each F t → At m e t → F e m
 unfolding Each
 each_at F m e [] h s = elim s [ ]
 each_at F m e (d ∷ t) h Newest = h.0

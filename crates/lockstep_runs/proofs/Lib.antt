@@ -5,3 +5,4 @@ pub mod Turns
 pub mod Paces
 pub mod Ticks
 pub mod Judged
+pub mod IdleTicks

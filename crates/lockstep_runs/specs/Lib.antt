@@ -1,4 +1,7 @@
 pub use Rattle.adversary.specs.Driving
 pub use Rattle.policies.specs.Policies
+pub mod Timing
+pub mod Changes
 pub mod Lockstep
 pub mod Pacing
+pub mod IdleTicks

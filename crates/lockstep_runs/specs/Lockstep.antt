@@ -1,9 +1,8 @@
--- Runs in which the correct nodes step in lockstep, and each message has its delay.
-use Rattle.std.specs.Prelude.{◌≡◌, ℕ, ◌+◌, ◌-◌, ◌%◌, ◌<◌, ◌≤◌, true, List, [], ◌∷◌, length}
-use Rattle.std.specs.Prelude.{if◌then◌else◌, IfSome, Option}
+-- Runs in lockstep: each node takes one step in each tick until it stops, and each message has its
+-- delay.
+use Rattle.std.specs.Prelude.{◌≡◌, ℕ, ◌+◌, ◌-◌, ◌%◌, ◌<◌, ◌≤◌, ◌⊎◌, true, false, List, []}
+use Rattle.std.specs.Prelude.{◌∷◌, length, IfSome, Option}
 use Rattle.policies.specs.declared.bounded.Bounded.{Bounded}
-use Rattle.policies.specs.Policies.{due_at}
-use Rattle.policies.specs.Tables.{round_entry}
 use Rattle.round_meaning.specs.declared.setup.Setup.{Setup}
 use Rattle.round_meaning.specs.Nodes.{has_node}
 use Rattle.round_meaning.specs.Setups.{IsLawful}
@@ -20,6 +19,9 @@ use Rattle.step_machine.specs.declared.event.Event.TheVariants.{Step, Release, D
 use Rattle.step_machine.specs.declared.event.InFlight.{InFlight}
 use Rattle.step_machine.specs.declared.event.Name.{Name}
 use Rattle.step_book.specs.Serials.{serial}
+use Rattle.lockstep_runs.specs.Changes.{timing_by, timing_of}
+use Rattle.lockstep_runs.specs.Timing.{Timing, steps_in}
+use Rattle.lockstep_runs.specs.declared.changes.Changes.{Changes}
 
 -- where an event stands in a run: its tick, the part of the tick, which is 0 for releases and 1 for
 -- the steps after them, and its turn there
@@ -38,32 +40,33 @@ pub data IsBefore (a b : Key) : Type 0 where
 abbrev pub in_flight : World → List Event → Name → InFlight
 in_flight w t n = record { name = n; sent_at = w.start n.round + n.to; serial = serial w t n }
 
--- the tick in which it's released: its sender's step number and the delay by the table
-abbrev pub due_in : World → Bounded → List Event → Name → ℕ
-due_in w b t n = due_at b (in_flight w t n)
+-- the tick in which it's released, if it isn't omitted
+abbrev pub due_in : World → Timing → List Event → Name → ℕ
+due_in w timing t n = timing.due (in_flight w t n)
 
 -- the node that steps first in a tick
-abbrev pub first_in : Bounded → ℕ → ℕ → ℕ
-first_in b nodes tick = round_entry b.orders tick 0 % nodes
+abbrev pub first_in : Timing → ℕ → ℕ → ℕ
+first_in timing nodes tick = timing.first tick % nodes
 
 -- a node's turn in a tick: they step in their order from the first on, and round again
-abbrev pub turn_in : Bounded → ℕ → ℕ → ℕ → ℕ
-turn_in b nodes tick i = (i + nodes - first_in b nodes tick) % nodes
+abbrev pub turn_in : Timing → ℕ → ℕ → ℕ → ℕ
+turn_in timing nodes tick i = (i + nodes - first_in timing nodes tick) % nodes
 
 -- a step's key, by how many steps of the node went before it
-abbrev pub step_key : Bounded → ℕ → ℕ → ℕ → Key
-step_key b nodes i tick = record { tick = tick; part = 1; turn = turn_in b nodes tick i }
+abbrev pub step_key : Timing → ℕ → ℕ → ℕ → Key
+step_key timing nodes i tick =
+    record { tick = tick; part = 1; turn = turn_in timing nodes tick i }
 
 -- a release's key
-abbrev pub release_key : World → Bounded → List Event → Name → Key
-release_key w b t n = record { tick = due_in w b t n; part = 0; turn = serial w t n }
+abbrev pub release_key : World → Timing → List Event → Name → Key
+release_key w timing t n = record { tick = due_in w timing t n; part = 0; turn = serial w t n }
 
 -- the key of an event, by what went before it
-abbrev pub key_of : World → Bounded → Event → List Event → Key
-key_of w b (Step i) past = step_key b (nodes_of w) i (steps i past)
-key_of w b (Release n) past = release_key w b past n
-key_of w b (Drop n) past = release_key w b past n
-key_of w b (Copy n) past = release_key w b past n
+abbrev pub key_of : World → Timing → Event → List Event → Key
+key_of w timing (Step i) past = step_key timing (nodes_of w) i (steps i past)
+key_of w timing (Release n) past = release_key w timing past n
+key_of w timing (Drop n) past = release_key w timing past n
+key_of w timing (Copy n) past = release_key w timing past n
 
 -- it holds of each event of a history, which has the newest first, and of what went before it
 unfoldable pub Each : (Event → List Event → Type 0) → List Event → Type 0
@@ -71,8 +74,8 @@ Each Holds [] = Unit {0}
 Each Holds (e ∷ past) = Holds e past × Each Holds past
 
 -- the keys of all events are smaller than this one
-abbrev pub AllBefore : World → Bounded → Key → List Event → Type 0
-AllBefore w b k t = Each (λ e past. IsBefore (key_of w b e past) k) t
+abbrev pub AllBefore : World → Timing → Key → List Event → Type 0
+AllBefore w timing k t = Each (λ e past. IsBefore (key_of w timing e past) k) t
 
 -- the name is of copy 0 of a message of the run
 pub record IsOriginal (w : World) (n : Name) : Type 0 where
@@ -84,23 +87,38 @@ pub record IsAloft (w : World) (t : List Event) (n : Name) : Type 0 where
   pub original : IsOriginal w n
   pub flies : mark_of w t n ≡ Flying
 
--- a run has steps of correct nodes, and releases of messages in flight that are due below `ticks`
-abbrev pub MayHappen : World → Bounded → ℕ → ℕ → Event → List Event → Type 0
-MayHappen w b correct ticks (Step i) past = has_node correct i ≡ true
-MayHappen w b correct ticks (Release n) past = IsAloft w past n × (due_in w b past n < ticks)
-MayHappen w b correct ticks (Drop n) past = ⊥
-MayHappen w b correct ticks (Copy n) past = ⊥
+-- a message in flight is released in its tick, below `ticks`, if it isn't omitted
+pub record IsReleased (w : World) (timing : Timing) (ticks : ℕ) (n : Name)
+    (past : List Event) : Type 0 where
+  pub aloft : IsAloft w past n
+  pub kept : timing.omits n ≡ false
+  pub due : due_in w timing past n < ticks
+
+-- a run has steps of nodes that haven't stopped, and releases
+abbrev pub MayHappen : World → Timing → ℕ → Event → List Event → Type 0
+MayHappen w timing ticks (Step i) past = IfSome (timing.stop i) (λ stop. steps i past < stop)
+MayHappen w timing ticks (Release n) past = IsReleased w timing ticks n past
+MayHappen w timing ticks (Drop n) past = ⊥
+MayHappen w timing ticks (Copy n) past = ⊥
 
 -- a history is one of lockstep over so many ticks
-pub record IsLockstepRun (w : World) (b : Bounded) (correct ticks : ℕ)
-    (t : List Event) : Type 0 where
-  pub events : Each (MayHappen w b correct ticks) t
+pub record IsTimedRun (w : World) (timing : Timing) (ticks : ℕ) (t : List Event) : Type 0 where
+  pub events : Each (MayHappen w timing ticks) t
   -- the keys rise from each event to all that are newer
-  pub rising : Each (λ e past. AllBefore w b (key_of w b e past) past) t
-  -- each correct node takes as many steps, and no other takes one
-  pub steps : (i : ℕ) → i < nodes_of w → steps i t ≡ (if has_node correct i then ticks else 0)
-  -- a message that is still in flight is due later
-  pub released : (n : Name) → IsAloft w t n → ticks ≤ due_in w b t n
+  pub rising : Each (λ e past. AllBefore w timing (key_of w timing e past) past) t
+  -- each node takes one step in each tick until it stops
+  pub steps : (i : ℕ) → i < nodes_of w → steps i t ≡ steps_in ticks (timing.stop i)
+  -- a message that is still in flight is omitted, or due later
+  pub released : (n : Name) → IsAloft w t n
+      → (timing.omits n ≡ true) ⊎ (ticks ≤ due_in w timing t n)
+
+-- the same by the tables, for these correct nodes and with these changes
+abbrev pub IsChangedRun : World → Bounded → Changes → ℕ → ℕ → List Event → Type 0
+IsChangedRun w b c correct ticks t = IsTimedRun w (timing_by b c correct) ticks t
+
+-- the same with no changes: each correct node takes as many steps, and no other takes one
+abbrev pub IsLockstepRun : World → Bounded → ℕ → ℕ → List Event → Type 0
+IsLockstepRun w b correct ticks t = IsTimedRun w (timing_of b [] [] [] correct) ticks t
 
 -- from the plan's clear round on, if it has one, no closed round of a correct node omits the
 -- message of a correct node

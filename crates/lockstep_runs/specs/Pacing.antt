@@ -1,10 +1,8 @@
 -- What holds while a lockstep run is made.
-use Rattle.std.specs.Prelude.{◌≡◌, ℕ, ◌<◌, ◌≤◌, List, Option, Some, None, if◌then◌else◌}
+use Rattle.std.specs.Prelude.{◌≡◌, ℕ, ◌<◌, ◌≤◌, false, List, Option, Some, None}
 use Rattle.std.specs.BTreeMap as tree
 use Rattle.std.specs.BTreeMap.{BTreeMap}
 use Rattle.std.specs.Ordering.{nat_cmp, ordering_then}
-use Rattle.policies.specs.declared.bounded.Bounded.{Bounded}
-use Rattle.round_meaning.specs.Nodes.{has_node}
 use Rattle.step_book.specs.Log.{Log, Recorded, history, world_of}
 use Rattle.step_book.specs.Trace.{steps}
 use Rattle.step_book.specs.World.{IsPlan, World, nodes_of}
@@ -12,6 +10,7 @@ use Rattle.step_machine.specs.declared.event.Event.{Event}
 use Rattle.step_machine.specs.declared.event.Name.{Name}
 use Rattle.lockstep_runs.specs.Lockstep.{AllBefore, Each, IsAloft, IsBefore, Key, MayHappen, due_in}
 use Rattle.lockstep_runs.specs.Lockstep.{key_of}
+use Rattle.lockstep_runs.specs.Timing.{Timing, steps_in}
 use Rattle.step_book.specs.Serials.{sent, serial}
 
 -- messages by the tick in which they're due and by their serials
@@ -23,36 +22,39 @@ abbrev pub waits_at : Flight → ℕ → ℕ → Option Name
 waits_at f tick turn =
     tree.get (λ x y. ordering_then (nat_cmp x.0 y.0) (nat_cmp x.1 y.1)) f (tick, turn)
 
--- the message is in flight, due in this tick, and has this serial
-pub record Flies (w : World) (b : Bounded) (t : List Event)
+-- the message is in flight and not omitted, due in this tick, and has this serial
+pub record Flies (w : World) (timing : Timing) (t : List Event)
     (tick turn : ℕ) (n : Name) : Type 0 where
   pub aloft : IsAloft w t n
-  pub due : tick ≡ due_in w b t n
+  pub kept : timing.omits n ≡ false
+  pub due : tick ≡ due_in w timing t n
   pub place : turn ≡ serial w t n
   pub sent : turn < sent w t
 
--- each message in flight stands there, and nothing else
-pub record IsFlight (w : World) (b : Bounded) (t : List Event) (f : Flight) : Type 0 where
-  pub only : (tick turn : ℕ) (n : Name) → waits_at f tick turn ≡ Some n → Flies w b t tick turn n
-  pub all : (n : Name) → IsAloft w t n → waits_at f (due_in w b t n) (serial w t n) ≡ Some n
+-- each message in flight that isn't omitted stands there, and nothing else
+pub record IsFlight (w : World) (timing : Timing) (t : List Event) (f : Flight) : Type 0 where
+  pub only : (tick turn : ℕ) (n : Name) → waits_at f tick turn ≡ Some n
+      → Flies w timing t tick turn n
+  pub all : (n : Name) → IsAloft w t n → timing.omits n ≡ false
+      → waits_at f (due_in w timing t n) (serial w t n) ≡ Some n
 
 -- the run was one of lockstep so far, up to a key
-pub record IsPaced (w : World) (b : Bounded) (correct ticks : ℕ) (up_to : Key)
+pub record IsPaced (w : World) (timing : Timing) (ticks : ℕ) (up_to : Key)
     (t : List Event) (f : Flight) : Type 0 where
   pub plan : IsPlan w
-  pub events : Each (MayHappen w b correct ticks) t
-  pub rising : Each (λ e past. AllBefore w b (key_of w b e past) past) t
-  pub before : AllBefore w b up_to t
-  pub flight : IsFlight w b t f
+  pub events : Each (MayHappen w timing ticks) t
+  pub rising : Each (λ e past. AllBefore w timing (key_of w timing e past) past) t
+  pub before : AllBefore w timing up_to t
+  pub flight : IsFlight w timing t f
 
 -- the flight is that of the run that is recorded
-abbrev pub IsFlightIn : (ℕ → ℕ) → Log → Bounded → Flight → Type 0
-IsFlightIn start v b f = IsFlight (world_of start v) b (history v) f
+abbrev pub IsFlightIn : (ℕ → ℕ) → Log → Timing → Flight → Type 0
+IsFlightIn start v timing f = IsFlight (world_of start v) timing (history v) f
 
 -- the run that is recorded was one of lockstep so far
-abbrev pub IsPacedIn : (ℕ → ℕ) → Log → Bounded → ℕ → ℕ → Key → Flight → Type 0
-IsPacedIn start v b correct ticks up_to f =
-    IsPaced (world_of start v) b correct ticks up_to (history v) f
+abbrev pub IsPacedIn : (ℕ → ℕ) → Log → Timing → ℕ → Key → Flight → Type 0
+IsPacedIn start v timing ticks up_to f =
+    IsPaced (world_of start v) timing ticks up_to (history v) f
 
 -- the key with which a tick begins
 abbrev pub tick_key : ℕ → Key
@@ -62,10 +64,10 @@ tick_key tick = record { tick = tick; part = 0; turn = 0 }
 abbrev pub NoneBefore : Flight → ℕ → Type 0
 NoneBefore f tick = (due turn : ℕ) (n : Name) → waits_at f due turn ≡ Some n → tick ≤ due
 
--- how many steps each node took: the correct ones as many as ticks are over
-abbrev pub AreSteps : World → ℕ → List Event → ℕ → Type 0
-AreSteps w correct t ticks =
-    (i : ℕ) → i < nodes_of w → steps i t ≡ (if has_node correct i then ticks else 0)
+-- how many steps each node took: one in each tick that is over, until it stopped
+abbrev pub AreSteps : World → Timing → List Event → ℕ → Type 0
+AreSteps w timing t ticks =
+    (i : ℕ) → i < nodes_of w → steps i t ≡ steps_in ticks (timing.stop i)
 
 -- the same program, setup and plan
 pub record IsSameRun {P : Type 0} (old new : Recorded P) : Type 0 where

@@ -4,8 +4,12 @@ ghost use Rattle.adversary.specs.Driving.{ClosedAreDue};
 ghost use Rattle.round_meaning.specs.Setups.{IsLawful};
 ghost use Rattle.step_book.specs.Log.{history, world_of};
 ghost use Rattle.omission_explainer.specs.Verdict.{AreNodes, IsDelayBound, IsLockstep};
-ghost use Rattle.lockstep_runs.specs.Lockstep.{HearsFromClear, IsFit, IsLockstepRun};
+ghost use Rattle.lockstep_runs.specs.Changes.{AreFit, SparesCorrect};
+ghost use Rattle.lockstep_runs.specs.Lockstep.{HearsFromClear, IsChangedRun, IsFit};
+ghost use Rattle.lockstep_runs.specs.Lockstep.{IsLockstepRun};
 
+use crate::changes::Changes;
+use crate::course::Course;
 use crate::ticking::tick;
 use adversary::{Driver, RunFault, are_nodes};
 use policies::Bounded;
@@ -62,10 +66,65 @@ pub fn run_lockstep<P: Plan>(
     if !is_fit(program, setup, correct, bounded) {
         return Err(RunFault::BadSetup);
     }
-    Ok(run(alloc, program, setup, plan, correct, bounded, ticks)?)
+    let changes = Changes::none(alloc);
+    let course = Course {
+        correct,
+        bounded,
+        changes: &changes,
+    };
+    Ok(run(alloc, program, setup, plan, &course, ticks)?)
 }
 
-fn is_fit(program: &Checked, setup: &Setup, correct: NodeSet, bounded: &Bounded) -> bool
+/// The journal of such a run with crashes, omissions and delays of single messages.
+///
+/// In each tick first each message that is due and isn't omitted is released, by rising serials.
+/// Then the correct nodes and those that haven't stopped yet take one step each, in the order of
+/// `run_lockstep`; a node that isn't correct and has no stop takes none. The correct nodes keep
+/// lockstep whatever the changes are.
+///
+/// Also refused as `BadSetup` are a stop of a correct node or of one that the setup hasn't, and a
+/// delay of a message that the run hasn't. An omission of one that it hasn't changes nothing.
+pub fn run_changed_lockstep<P: Plan>(
+    alloc: Global,
+    program: &Checked,
+    setup: &Setup,
+    plan: P,
+    correct: NodeSet,
+    bounded: &Bounded,
+    changes: &Changes,
+    ticks: u32,
+) -> Result<Journal<P>, RunFault>
+    requires { IsLawful program.now.values setup.now → P.nodes plan ≡ setup.now.nodes }
+    ensures bad_setup { (result ≡ Err RunFault.BadSetup)
+        ↔ (IsFit program.now.values setup.now correct.bits bounded.now
+        × AreFit setup.now correct.bits changes.now → ⊥) }
+    ensures cause { IfErr result (λ fault. (fault ≡ RunFault.NoMemory)
+        ⊎ (fault ≡ RunFault.BadSetup)) }
+    ensures program { IfOk result (λ j. j.log.program ≡ program.now) }
+    ensures setup { IfOk result (λ j. j.log.setup ≡ setup.now) }
+    ensures plan { IfOk result (λ j. j.plan ≡ plan) }
+    ensures closed { IfOk result (λ j. ClosedAreDue (P.start j.plan) j.log) }
+    ensures lockstep { IfOk result (λ j. IsChangedRun (world_of (P.start j.plan) j.log)
+        bounded.now changes.now correct.bits ticks (history j.log)) }
+    ensures paced { IfOk result (λ j. IsLockstep j.log.trace correct.bits) }
+    ensures bound { IfOk result (λ j. SparesCorrect correct.bits bounded.now.delta changes.now
+        → IsDelayBound (P.start j.plan) j.log correct.bits bounded.now.delta bounded.now.gst) }
+    ensures hears { IfOk result (λ j. SparesCorrect correct.bits bounded.now.delta changes.now
+        → HearsFromClear (P.receives j.plan) (P.start j.plan) j.log correct.bits
+        bounded.now.delta bounded.now.gst) }
+{
+    if !is_fit(program, setup, correct, bounded) || !changes.are_fit(setup, correct) {
+        return Err(RunFault::BadSetup);
+    }
+    let course = Course {
+        correct,
+        bounded,
+        changes,
+    };
+    Ok(run(alloc, program, setup, plan, &course, ticks)?)
+}
+
+pub(crate) fn is_fit(program: &Checked, setup: &Setup, correct: NodeSet, bounded: &Bounded) -> bool
     ensures { IsTrue result ↔ IsFit program.now.values setup.now correct.bits bounded.now }
 {
     setup.is_lawful(program)
@@ -81,37 +140,40 @@ fn run<P: Plan>(
     program: &Checked,
     setup: &Setup,
     plan: P,
-    correct: NodeSet,
-    bounded: &Bounded,
+    course: &Course<'_>,
     ticks: u32,
 ) -> Result<Journal<P>, NoMemory>
-    requires fit { IsFit program.now.values setup.now correct.bits bounded.now }
+    requires fit { IsFit program.now.values setup.now course.now.correct.bits
+        course.now.bounded.now }
     requires nodes { P.nodes plan ≡ setup.now.nodes }
     ensures program { IfOk result (λ j. j.log.program ≡ program.now) }
     ensures setup { IfOk result (λ j. j.log.setup ≡ setup.now) }
     ensures plan { IfOk result (λ j. j.plan ≡ plan) }
     ensures closed { IfOk result (λ j. ClosedAreDue (P.start j.plan) j.log) }
-    ensures lockstep { IfOk result (λ j. IsLockstepRun
-        (world_of (P.start j.plan) j.log) bounded.now correct.bits ticks (history j.log)) }
-    ensures paced { IfOk result (λ j. IsLockstep j.log.trace correct.bits) }
-    ensures bound { IfOk result (λ j. IsDelayBound
-        (P.start j.plan) j.log correct.bits bounded.now.delta bounded.now.gst) }
-    ensures hears { IfOk result (λ j. HearsFromClear (P.receives j.plan)
-        (P.start j.plan) j.log correct.bits bounded.now.delta bounded.now.gst) }
+    ensures lockstep { IfOk result (λ j. IsChangedRun (world_of (P.start j.plan) j.log)
+        course.now.bounded.now course.now.changes.now course.now.correct.bits ticks
+        (history j.log)) }
+    ensures paced { IfOk result (λ j. IsLockstep j.log.trace course.now.correct.bits) }
+    ensures bound { let b = course.now.bounded.now in let correct = course.now.correct.bits in
+        IfOk result (λ j. SparesCorrect correct b.delta course.now.changes.now
+        → IsDelayBound (P.start j.plan) j.log correct b.delta b.gst) }
+    ensures hears { let b = course.now.bounded.now in let correct = course.now.correct.bits in
+        IfOk result (λ j. SparesCorrect correct b.delta course.now.changes.now
+        → HearsFromClear (P.receives j.plan) (P.start j.plan) j.log correct b.delta b.gst) }
 {
     let mut driver = Driver::open(alloc, program, setup, plan)?;
     let mut flight = BTreeMap::new(alloc);
     for now in 0..ticks {
-        driver = tick(driver, &mut flight, correct, bounded, now)?;
+        driver = tick(driver, &mut flight, course, now)?;
     }
     let journal = driver.into_journal();
     journal.book().agrees();
-    are_below_64(correct.bits);
+    are_below_64(course.correct.bits);
     Ok(journal)
 }
 
 /// Nothing at run time: a set of 64 bits has no member past 63.
-fn are_below_64(members: u64)
+pub(crate) fn are_below_64(members: u64)
     ensures { AreNodes 64 members }
 {
     let _members = members;

@@ -1,0 +1,14 @@
+use Rattle.std.proofs.Common.{◌-◌, ◌≤◌}
+use Rattle.lockstep_runs.specs.Changes.{timing_by}
+use Rattle.lockstep_runs.proofs.Ticks.{IsTicked}
+use Rattle.lockstep_runs.proofs.idle.run.Given as goal
+
+abbrev pub invariant-loop-now : goal.invariant-loop-now
+invariant-loop-now g l =
+    IsTicked g.P.Plan.start l.fn.program l.fn.setup l.fn.plan
+    (timing_by l.fn.course.bounded.now l.fn.course.changes.now l.fn.course.correct.bits) l.now
+    l.driver l.flight
+    × (l.now ≤ l.fn.ticks)
+
+abbrev pub decreases-loop-now : goal.decreases-loop-now
+decreases-loop-now g l = l.ticks - l.now
