@@ -499,6 +499,8 @@ class Generator:
     def threads_options(self, files):
         option, _ = self.file("setup", *self.thread_setup(self.values), files)
         trace = "none/t.schedule" if self.often(0.02) else "t.schedule"
+        if option[1] != "-" and self.often(0.02):
+            trace = option[1]
         return [option, ("--trace", trace)] + [("--decided",)] * self.often(0.4)
 
     def lockstep_options(self, files):
@@ -512,6 +514,24 @@ class Generator:
         if self.often(0.5):
             ticks = self.number(list(range(40)), ["", "x", "-1", "4294967296"])
             options.append(("--ticks", ticks))
+        return options + (self.changes(nodes, files) if self.often(0.5) else [])
+
+    def changes(self, nodes, files):
+        """Writes the options that change a run in lockstep."""
+        options, wrong = [], ["", "x", "-1", "4294967296"]
+        is_wrong = self.often(0.3)
+        number = lambda usual, wrong: (
+            self.number(usual, wrong) if is_wrong else str(self.one(usual))
+        )
+        for _ in range(self.one([0, 1, 1, 3])):
+            node = number(list(range(nodes)), [str(nodes), *wrong])
+            options.append(("--stop", node, number(list(range(30)), wrong)))
+        for _ in range(self.one([0, 1, 1, 3])):
+            ends = [number(list(range(nodes)), [str(nodes), *wrong]) for _ in range(2)]
+            numbers = number([1, 1, 1, 2], ["0", "9", *wrong]), number(list(range(9)), wrong)
+            options.append(("--delay", *ends, *numbers))
+        if self.often(0.3):
+            options.append(self.file("omissions", self.omissions(nodes, 2), nodes, files)[0])
         return options
 
     def realise_options(self, files):

@@ -470,7 +470,8 @@ NEEDED = {
     "realise": ["header", "omissions"],
     "rounds": ["header", "omissions"],
 }
-ALLOWED = {"lockstep": ["delays", "orders", "ticks"]}
+ALLOWED = {"lockstep": ["delays", "orders", "ticks", "omissions"]}
+REPEATED = {"lockstep": {"stop": 2, "delay": 4}}  # (how many values each use has)
 DECIDED = ("run", "threads", "rounds")
 
 
@@ -480,7 +481,7 @@ def read_words(words):
         raise BadWords
     command, rest = words[0], collections.deque(words[1:])
     needed = NEEDED[command]
-    allowed = needed + ALLOWED.get(command, [])
+    allowed, repeated = needed + ALLOWED.get(command, []), REPEATED.get(command, {})
     sources, options, is_behind = [], {}, False
     while rest:
         word = rest.popleft()
@@ -491,8 +492,15 @@ def read_words(words):
             is_behind = True
         elif word == "--decided" and command in DECIDED and "decided" not in options:
             options["decided"] = ""
+        elif word.startswith("--") and name in repeated:
+            values = [given] if equals else []
+            while not equals and len(values) < repeated[name] and rest and is_value(rest[0]):
+                values.append(rest.popleft())
+            if len(values) != repeated[name]:
+                raise BadWords
+            options.setdefault(name, []).append(values)
         elif word.startswith("--") and name in allowed and name not in options:
-            if not equals and (not rest or (rest[0].startswith("-") and rest[0] != "-")):
+            if not equals and (not rest or not is_value(rest[0])):
                 raise BadWords
             options[name] = given if equals else rest.popleft()
         else:
@@ -501,6 +509,10 @@ def read_words(words):
         raise BadWords
     check_forms(sources[0], options)
     return command, sources[0], options
+
+
+def is_value(word):
+    return not word.startswith("-") or word == "-"
 
 
 NO_LIST = "error: LIST is numbers of 0 to 4294967295 with commas between them"
@@ -529,6 +541,12 @@ def check_forms(source, options):
         raise BadWords(NO_LIST)
     if not is_number(options.get("ticks", "0")):
         raise BadWords("error: T is a number of 0 to 4294967295")
+    if not all(is_number(it) for use in changes_in(options) for it in use):
+        raise BadWords("error: `--stop` and `--delay` have numbers of 0 to 4294967295")
+
+
+def changes_in(options):
+    return options.get("stop", []) + options.get("delay", [])
 
 
 def text_of(content, limit, too_long):
@@ -604,7 +622,8 @@ def carried_out(words, files):
     correct = sorted({int(it) for it in options.get("correct", "").split(",") if it})
     if command == "threads":
         check_run(checked, setup, [], [node for node, _ in behind.stops])
-        if "/" in options["trace"]:  # (there are no folders)
+        is_read = options["trace"] in {source, options["setup"]} - {"-"}
+        if is_read or "/" in options["trace"]:  # (there are no folders)
             raise Refused("write")
         return None
     if command in ("realise", "rounds"):
@@ -612,9 +631,11 @@ def carried_out(words, files):
         check_omissions(setup, behind)
         run = Rounds(Algorithm(checked, setup), behind)
         return run.schedule() if command == "realise" else run.report() + run.told(options)
-    check_run(checked, setup, behind, correct)
     if command == "lockstep":
-        return lockstep(Algorithm(checked, setup), correct, options)
+        check_run(checked, setup, [], correct)
+        check_omissions(setup, behind)
+        return lockstep(Algorithm(checked, setup), correct, behind, options)
+    check_run(checked, setup, behind, correct)
     run = Run(Algorithm(checked, setup), behind)
     if command == "judge":
         return run.verdict(behind, correct, int(options["delta"]), int(options["gst"]))
@@ -707,7 +728,20 @@ class Rounds(Run):
 # Runs in lockstep
 
 
-def lockstep(algorithm, correct, options):
+def changes(setup, correct, omissions, options, run):
+    """Returns the stops of nodes and the delays of single messages, by node and by message, or
+    refuses one that the run can't have."""
+    crashes = {it.sender for it in omissions if it.kind == "crash"}
+    stops = {it: Rounds(run.algorithm, omissions).ends[it] for it in crashes}
+    stops.update((int(node), int(tick)) for node, tick in options.get("stop", []))
+    delays = [tuple(map(int, it)) for it in options.get("delay", [])]
+    is_run = all(max(j, i) < setup.nodes and 1 <= r <= setup.rounds for j, i, r, _ in delays)
+    if not is_run or any(it >= setup.nodes or it in correct for it in stops):
+        raise Refused("run 1")
+    return stops, {it[:3]: max(1, it[3]) for it in delays}
+
+
+def lockstep(algorithm, correct, omissions, options):
     """Returns the schedule of a run in lockstep, event by event in the order of their keys."""
     setup, numbers = algorithm.setup, lambda name: [int(it) for it in options[name].split(",")]
     delays = numbers("delays") if "delays" in options else []
@@ -717,17 +751,23 @@ def lockstep(algorithm, correct, options):
     ticks = int(options.get("ticks", run.start(setup.rounds + 1)))
     if len(delays) > TABLE or len(orders) > TABLE:
         raise Refused("run 1")
+    stops, own = changes(setup, correct, omissions, options, run)
+    stops.update((it, ticks) for it in correct)
     events, keyed, serial = [], [], 0
     for tick in range(ticks):
         first = orders[tick % len(orders)] % setup.nodes if orders else 0
         due = sorted(it for it in keyed if it[0] == tick)
         keyed = [it for it in keyed if it[0] > tick]
-        events += [("release", *name) for _, _, name in due]
-        for node in sorted(correct, key=lambda it: (it + setup.nodes - first) % setup.nodes):
+        for _, _, (sender, to, number) in due:
+            if not any(it.omits(to, number, sender) for it in omissions):
+                events.append(("release", sender, to, number))
+        going = [it for it in stops if tick < stops[it]]
+        for node in sorted(going, key=lambda it: (it + setup.nodes - first) % setup.nodes):
             sent = slot_of(run, node, tick, events)
             if sent:
                 delay = max(1, delays[serial % len(delays)]) if delays else 1
-                keyed.append((tick + (min(delay, delta) if tick >= gst else delay), serial, sent))
+                due_in = own.get(sent, min(delay, delta) if tick >= gst else delay)
+                keyed.append((tick + due_in, serial, sent))
                 serial += 1
             events.append(("step", node))
     return schedule_text(setup, events)

@@ -96,6 +96,7 @@ plain_name : (name : PropertyName) → is_plain (codes "# " ++ name_text name
 plain_name names.Agreement = refl
 plain_name names.Validity = refl
 plain_name names.Final = refl
+plain_name names.Safety = refl
 plain_name names.Termination = refl
 plain_name names.Always = refl
 
@@ -206,11 +207,11 @@ module _ (source : Source) (files : Files) (header : Bor (List ℕ)) (e : Explor
       → FindsIn source files (files header.now) e found → (r ≡ refusal.Write)
       ⊎ (r ≡ refusal.NoMemory) → IsRefusedCommand (words.Explore source header e) files r
   explore_unwritten found r h (inl same) =
-      subst (IsRefusedCommand (words.Explore source header e) files) (sym same) (
+      subst (IsRefusedCommand (words.Explore source header e) files) (sym same) (inr (
         (λ name. None),
         answers_text found.told.items,
         (found.told.items, tells_at_first source files e found (files header.now) h, refl),
-      )
+      ))
   explore_unwritten found r h (inr same) =
       subst (IsRefusedCommand (words.Explore source header e) files) (sym same)
       (no_room source files (files header.now) e)

@@ -35,11 +35,14 @@ or_last false true = refl
 or_last false false = refl
 
 -- one node more
-pub listed_more : (nodes members more n : ℕ) (list : List ℕ) → n < nodes → more ≡ union members (only 64 n) → AreListed nodes list members → AreListed nodes (list ++ n ∷ []) more
+pub listed_more : (nodes members more n : ℕ) (list : List ℕ) → n < nodes
+    → more ≡ union members (only 64 n) → AreListed nodes list members
+    → AreListed nodes (list ++ n ∷ []) more
 listed_more nodes members more n list within e are = record {
   nodes_alone = nodes_with nodes members more n within e are.nodes_alone;
   listed = λ i h.
-      let one : is_in (only 64 n) i ≡ nat_eq i n = is_in-set_of 64 (λ v. nat_eq v n) i ∙ ap (λ b. b && nat_eq i n) (below i h) in
+      let one : is_in (only 64 n) i ≡ nat_eq i n =
+      is_in-set_of 64 (λ v. nat_eq v n) i ∙ ap (λ b. b && nat_eq i n) (below i h) in
       ap (λ s. is_in s i) e
       ∙ is_in-set_of 64 (λ v. is_in members v || is_in (only 64 n) v) i
       ∙ ap (λ b. b && (is_in members i || is_in (only 64 n) i)) (below i h)
@@ -50,11 +53,13 @@ listed_more nodes members more n list within e are = record {
 
 -- one number more below a bound
 pub below_more : (nodes : ℕ) (list : List ℕ) (i e : ℕ) → i < length list → get_or list i e < nodes
-    → ((k d : ℕ) → k < i → get_or list k d < nodes) → (k d : ℕ) → k < i + 1 → get_or list k d < nodes
+    → ((k d : ℕ) → k < i → get_or list k d < nodes) → (k d : ℕ) → k < i + 1
+    → get_or list k d < nodes
 below_more nodes list i e inside one h k d within =
     elim (cases_lt k i) [
       | inl before ↦ h k d before
       | inr past ↦
           let here : k ≡ i = omega (arith, within, past) in
-          subst (λ j. get_or list j d < nodes) (sym here) (subst (λ n. n < nodes) (get_or_default list i e d inside) one)
+          subst (λ j. get_or list j d < nodes) (sym here)
+          (subst (λ n. n < nodes) (get_or_default list i e d inside) one)
     ]

@@ -1,33 +1,10 @@
--- From what is made of omissions to what the commands do with it.
-use Rattle.std.proofs.Common.{◌≡◌, inl, inr, ℕ, ◌<◌, ◌≤◌, Bool, Bor}
-use Rattle.std.proofs.Common.{true}
-use Rattle.std.proofs.Common.{◌&&◌, List, Option, Some, None, Err, map, sym, ap}
-use Rattle.std.proofs.Common.{◌∙◌}
-use Rattle.std.proofs.Common.{subst, arith}
-use Rattle.std.specs.Prelude.{IfSome, slice_index}
+-- What is made of omissions is what the definitions say.
+use Rattle.std.proofs.Common.{◌≡◌, ◌∙◌, ◌<◌, ◌≤◌, ◌&&◌, ℕ, List, ap, arith, map, sym, true}
+use Rattle.std.specs.Prelude.{slice_index}
 use Rattle.std.specs.List.{range_with_len}
 use Rattle.std.proofs.lemmas.Bool.{and_from, le-leb, lt-ltb}
 use Rattle.std.proofs.lemmas.List.FromFn.{get_or-map-range_with_len}
-use Rattle.adversary.specs.declared.fault.RunFault.{RunFault}
-use Rattle.adversary.specs.declared.fault.RunFault.TheVariants as run
-use Rattle.command_runs.specs.InOmissions.{OmissionCause, RunsReportRounds, ShowsOmitting}
-use Rattle.command_runs.specs.InOmissions.{realised_by}
-use Rattle.command_runs.specs.Refused.{IsNotRealised, IsPlan, IsRefusedCommand}
-use Rattle.command_runs.specs.Refused.{IsUnrealised, IsUnserved, fault_in, of_run, of_schedule}
-use Rattle.command_runs.specs.Refused.{omission_fault}
-use Rattle.command_runs.specs.Served.{IsOmissionText}
-use Rattle.command_runs.specs.Stages.{AreOmissionsIn, IsNotRealisedAs, IsUnread}
-use Rattle.command_runs.specs.Texts.{Files, IsTextOf}
-use Rattle.command_runs.specs.declared.refusal.Refusal.{Refusal}
-use Rattle.command_runs.specs.declared.refusal.Refusal.TheVariants as refusal
-use Rattle.command_runs.specs.declared.texts.Text.{Text}
-use Rattle.command_runs.specs.declared.texts.Text.TheVariants as text
-use Rattle.command_runs.proofs.Refusing.{whole_text}
-use Rattle.command_runs.proofs.Telling.{IsLast, last_nodes, last_write}
-use Rattle.command_words.specs.declared.values.Source.{Source}
-use Rattle.command_words.specs.declared.values.Source.TheVariants as source
-use Rattle.command_words.specs.declared.words.Words.{Words}
-use Rattle.command_words.specs.declared.words.Words.TheVariants as words
+use Rattle.command_runs.specs.InOmissions.{RunsReportRounds, ShowsOmitting, realised_by}
 use Rattle.omission_explainer.specs.declared.report.Report.{Report}
 use Rattle.omission_explainer.specs.Reported.{declared_names, declared_types}
 use Rattle.omission_schedules.proofs.OneReport.{one_report}
@@ -36,145 +13,12 @@ use Rattle.omission_schedules.proofs.Shown.{schedules_show_rounds}
 use Rattle.omission_schedules.specs.Reports.{IsExplained, IsScheduleRun, ShowsRounds}
 use Rattle.omission_schedules.specs.Schedules.{schedule_with_stops}
 use Rattle.omission_texts.specs.Meaning.{IsTableOf, is_message, omits}
-use Rattle.omission_texts.specs.Readings.{IsRead}
 use Rattle.omission_texts.specs.Stops.{steps_of}
-use Rattle.omission_texts.specs.Texts.{Says as SaysOmissions}
 use Rattle.omission_texts.specs.declared.line.OmissionLine.{OmissionLine}
 use Rattle.round_lang.specs.Syntax.{ProgramTree}
 use Rattle.round_meaning.specs.Omissions.{is_omitted}
-use Rattle.round_meaning.specs.Setups.{IsLawful}
 use Rattle.round_meaning.specs.declared.omissions.Omission.{Omission}
 use Rattle.round_meaning.specs.declared.setup.Setup.{Setup}
-use Rattle.schedule_text.specs.Texts.{max_text as max_schedule}
-use Rattle.schedule_text.specs.declared.kind.Kind.TheVariants as kinds
-use Rattle.schedule_text.specs.declared.fault.ScheduleFault.{ScheduleFault}
-use Rattle.schedule_text.specs.declared.fault.ScheduleFault.TheVariants as schedule
-use Rattle.slot_plans.specs.Plan.{IsDelta, IsNodeCount}
-use Rattle.slot_plans.specs.declared.kind.PlanKind.{PlanKind}
-use Rattle.slot_plans.specs.declared.kind.PlanKind.TheVariants.{Growing, Known}
-
--- ---- what a file says
-
--- what was read as omissions is what their file says
-pub file_omissions : (file : Option (List ℕ)) (t : Text) (ls : List OmissionLine)
-    → IfSome file (IsTextOf max_schedule t) → AreOmissionsIn t ls
-    → IfSome file (λ held. IsOmissionText held ls)
-file_omissions None t ls is has = tt
-file_omissions (Some held) (text.Whole bytes) ls is has = record {
-  fits = whole_text max_schedule held bytes.items is.0 is.1 has.0;
-  says = subst (λ h. SaysOmissions h ls) is.1 has.1;
-}
-file_omissions (Some held) (text.Longer bytes) ls is has = absurd has
-
--- what `read_omissions` refuses
-pub no_omissions : (held : List ℕ) (f : ScheduleFault) → IsRead held (Err f)
-    → IsUnread omission_fault held (of_schedule f)
-no_omissions held (schedule.BadLine n) said = said
-no_omissions held (schedule.NumberTooLarge n) said = said
-no_omissions held schedule.TooLong said = said
-no_omissions held schedule.NoMemory said = tt
-
--- ---- why nothing is made of it
-
--- what making it refuses, under a plan
-pub not_realised : (p : ProgramTree) (s : Setup) (ls : List OmissionLine) (f : RunFault)
-    → OmissionCause p s ls f → IsNotRealisedAs p s ls (of_run f)
-not_realised p s ls run.BadSetup none = none
-not_realised p s ls (run.UnknownNode n) none = none
-not_realised p s ls (run.UnknownMessage n) none = none
-not_realised p s ls run.NoMemory none = tt
-not_realised p s ls run.NoThread none = none
-not_realised p s ls run.Unmatched none = none
-
--- and under one within its limits
-pub not_realised_by : (p : ProgramTree) (s : Setup) (k : PlanKind) (ls : List OmissionLine)
-    (r : Refusal) → IsPlan k → IsNotRealisedAs p s ls r → IsNotRealised p s k ls r
-not_realised_by p s k ls (refusal.Run run.BadSetup) plan none = λ both. none both.0
-not_realised_by p s k ls (refusal.Run (run.UnknownNode n)) plan none = none
-not_realised_by p s k ls (refusal.Run (run.UnknownMessage n)) plan none = (none.0, plan, none.1)
-not_realised_by p s k ls (refusal.Run run.NoMemory) plan none = none
-not_realised_by p s k ls (refusal.Run run.NoThread) plan none = none
-not_realised_by p s k ls (refusal.Run run.Unmatched) plan none = none
-not_realised_by p s k ls refusal.NoMemory plan none = tt
-not_realised_by p s k ls (refusal.Words fault) plan none = none
-not_realised_by p s k ls refusal.File plan none = none
-not_realised_by p s k ls (refusal.Source fault) plan none = none
-not_realised_by p s k ls (refusal.Check fault) plan none = none
-not_realised_by p s k ls (refusal.Condition fault) plan none = none
-not_realised_by p s k ls (refusal.Schedule fault) plan none = none
-not_realised_by p s k ls (refusal.Library fault) plan none = none
-not_realised_by p s k ls refusal.NoSuchProgram plan none = none
-not_realised_by p s k ls refusal.Write plan none = none
-not_realised_by p s k ls refusal.NodeNoMemory plan none = none
-
--- where there is no plan, a number is past its limits
-pub no_known_rounds : (p : ProgramTree) (s : Setup) (delta : ℕ)
-    → ¬ (IsNodeCount s.nodes × IsDelta delta) → ¬ (IsLawful p.values s × IsPlan (Known delta))
-no_known_rounds p s delta none is = none ((is.0.sized.some_node, is.0.sized.few_nodes), is.1)
-
-pub no_growing_rounds : (p : ProgramTree) (s : Setup) → ¬ (IsNodeCount s.nodes)
-    → ¬ (IsLawful p.values s × IsPlan Growing)
-no_growing_rounds p s none is = none (is.0.sized.some_node, is.0.sized.few_nodes)
-
--- a refusal of what is told last isn't one of these
-never_unrealised : (s : Source) (files : Files) (header omissions : Option (List ℕ)) (r : Refusal)
-    → IsLast r
-    → ((p : ProgramTree) (u : Setup) (k : PlanKind) (ls : List OmissionLine)
-    → IsNotRealised p u k ls r → ⊥) → IsUnrealised s files header omissions r → ⊥
-never_unrealised (source.File name) files header omissions r last never (inl h) = last.program _ h
-never_unrealised (source.Library name values) files header omissions r last never (inl h) = h
-never_unrealised s files header omissions r last never (inr (inl h)) =
-    last.text (fault_in kinds.Header) header h.1
-never_unrealised s files header omissions r last never (inr (inr (inl h))) =
-    last.text omission_fault omissions h.2
-never_unrealised (source.File name) files header omissions r last never
-    (inr (inr (inr (opened, (u, k, ls, read, said, inl none))))) = none
-never_unrealised (source.Library name values) files header omissions r last never
-    (inr (inr (inr (opened, (u, k, ls, read, said, inl none))))) =
-    last.offer name.now values u.nodes u.faults none
-never_unrealised s files header omissions r last never
-    (inr (inr (inr (opened, (u, k, ls, read, said, inr (p, is, none)))))) = never p u k ls none
-
--- what isn't told last is a cause of the command as it is of what it makes
-unserved : (w : Words) (files : Files) (r : Refusal) → (IsUnserved w files refusal.Write → ⊥)
-    → (IsUnserved w files refusal.NodeNoMemory → ⊥) → IsUnserved w files r
-    → IsRefusedCommand w files r
-unserved w files refusal.Write write nodes h = absurd (write h)
-unserved w files refusal.NodeNoMemory write nodes h = absurd (nodes h)
-unserved w files refusal.NoMemory write nodes h = h
-unserved w files (refusal.Words fault) write nodes h = h
-unserved w files refusal.File write nodes h = h
-unserved w files (refusal.Source fault) write nodes h = h
-unserved w files (refusal.Check fault) write nodes h = h
-unserved w files (refusal.Condition fault) write nodes h = h
-unserved w files (refusal.Schedule fault) write nodes h = h
-unserved w files (refusal.Library fault) write nodes h = h
-unserved w files refusal.NoSuchProgram write nodes h = h
-unserved w files (refusal.Run fault) write nodes h = h
-
-module _ (s : Source) (files : Files) (header omissions : Bor (List ℕ)) where
-  never_write : IsUnrealised s files (files header.now) (files omissions.now) refusal.Write → ⊥
-  never_write h = never_unrealised s files (files header.now) (files omissions.now) refusal.Write
-      last_write (λ p u k ls none. none) h
-
-  never_nodes : IsUnrealised s files (files header.now) (files omissions.now) refusal.NodeNoMemory
-      → ⊥
-  never_nodes h = never_unrealised s files (files header.now) (files omissions.now)
-      refusal.NodeNoMemory last_nodes (λ p u k ls none. none) h
-
-  pub realise_refused : (r : Refusal)
-      → IsUnrealised s files (files header.now) (files omissions.now) r
-      → IsRefusedCommand (words.Realise s header omissions) files r
-  realise_refused r h = unserved (words.Realise s header omissions) files r never_write never_nodes
-      h
-
-  pub rounds_refused : (told : Bool) (r : Refusal)
-      → IsUnrealised s files (files header.now) (files omissions.now) r
-      → IsRefusedCommand (words.Rounds s header omissions told) files r
-  rounds_refused told r h = unserved (words.Rounds s header omissions told) files r never_write
-      never_nodes h
-
--- ---- what is made of it
 
 -- a table of what lines omit, and the stops of the nodes, as the definitions have them
 module _ (nodes : ℕ) (start : ℕ → ℕ) (s : Setup) (ls : List OmissionLine) (table : List Omission)

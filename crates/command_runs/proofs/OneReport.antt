@@ -20,7 +20,8 @@ use Rattle.step_book.specs.Trace.{steps}
 use Rattle.step_book.specs.declared.mark.Mark.{Mark}
 use Rattle.step_machine.specs.declared.event.Event.{Event}
 use Rattle.step_machine.specs.declared.event.Name.{Name}
-use Rattle.omission_explainer.specs.Reported.{IsReported, closed_below, closed_rounds, count_in, counts_in}
+use Rattle.omission_explainer.specs.Reported.{IsReported, closed_below, closed_rounds, count_in}
+use Rattle.omission_explainer.specs.Reported.{counts_in}
 use Rattle.omission_explainer.specs.Reported.{heard_in, is_closed, omitted_in, place, silent_in}
 use Rattle.omission_explainer.specs.Rows.{ClosedRound}
 use Rattle.omission_explainer.specs.declared.report.Report.{Report}
@@ -45,31 +46,46 @@ row_at start v here =
     }
 
 -- a reported row shows just that
-is_row : (start : ℕ → ℕ) (v : Log) (x : ClosedRound) → IsReported start v x → x ≡ row_at start v (place x)
+is_row : (start : ℕ → ℕ) (v : Log) (x : ClosedRound) → IsReported start v x
+    → x ≡ row_at start v (place x)
 is_row start v x h =
     ap (λ k. record x { heard = k }) h.printed.heard
     ∙ ap (λ k. record x { heard = heard_in start v x.round x.node; silent = k }) h.printed.silent
-    ∙ ap (λ k. record x { heard = heard_in start v x.round x.node; silent = silent_in start v x.round x.node; omitted = k }) h.printed.omitted
+    ∙ ap (λ k. record x {
+      heard = heard_in start v x.round x.node;
+      silent =
+          silent_in start v x.round x.node;
+      omitted = k;
+    }) h.printed.omitted
     ∙ ap (λ k. record (row_at start v (place x)) { state = x.state; decision = k }) h.decided
-    ∙ ap (λ k. record (row_at start v (place x)) { state = k; decision = decision v.program k }) h.stated
+    ∙ ap (λ k. record (row_at start v (place x)) { state = k; decision = decision v.program k })
+    h.stated
 
 -- rows are those of their places
-are_rows : (f : ℕ × ℕ → ClosedRound) (xs : List ClosedRound) → All (λ x. x ≡ f (place x)) xs → xs ≡ map f (map place xs)
+are_rows : (f : ℕ × ℕ → ClosedRound) (xs : List ClosedRound) → All (λ x. x ≡ f (place x)) xs
+    → xs ≡ map f (map place xs)
 are_rows f [] h = refl
 are_rows f (x ∷ xs) h =
     let P : ClosedRound → Type 0 = λ y. y ≡ f (place y) in
-    ap (λ y. y ∷ xs) (All-head P x xs h) ∙ ap (λ ys. f (place x) ∷ ys) (are_rows f xs (All-tail P x xs h))
+    ap (λ y. y ∷ xs) (All-head P x xs h)
+    ∙ ap (λ ys. f (place x) ∷ ys) (are_rows f xs (All-tail P x xs h))
 
 -- a round from 1 on is closed in two runs alike where they have as many closed rounds of a node
-same_closed : (v w : Log) (r i : ℕ) → 0 < r → round_of w i - 1 ≡ round_of v i - 1 → (nat_lt r (round_of w i) ≡ true) ⊎ (nat_lt r (round_of w i) ≡ false) → nat_lt r (round_of w i) ≡ nat_lt r (round_of v i)
-same_closed v w r i first h (inl is) = let also : nat_lt r (round_of v i) ≡ true = grind (arith, nat_tests) in is ∙ sym also
-same_closed v w r i first h (inr isnt) = let also : nat_lt r (round_of v i) ≡ false = grind (arith, nat_tests) in isnt ∙ sym also
+same_closed : (v w : Log) (r i : ℕ) → 0 < r → round_of w i - 1 ≡ round_of v i - 1
+    → (nat_lt r (round_of w i) ≡ true) ⊎ (nat_lt r (round_of w i) ≡ false)
+    → nat_lt r (round_of w i) ≡ nat_lt r (round_of v i)
+same_closed v w r i first h (inl is) = let also : nat_lt r (round_of v i) ≡ true =
+    grind (arith, nat_tests) in is ∙ sym also
+same_closed v w r i first h (inr isnt) = let also : nat_lt r (round_of v i) ≡ false =
+    grind (arith, nat_tests) in isnt ∙ sym also
 
 -- where as many rounds of each of the first n nodes are closed, the same ones are listed
-same_below : (v w : Log) (r n : ℕ) → 0 < r → ((i : ℕ) → i < n → round_of w i - 1 ≡ round_of v i - 1) → closed_below w n r ≡ closed_below v n r
+same_below : (v w : Log) (r n : ℕ) → 0 < r → ((i : ℕ) → i < n → round_of w i - 1 ≡ round_of v i - 1)
+    → closed_below w n r ≡ closed_below v n r
 same_below v w r zero first h = refl
 same_below v w r (suc n) first h =
-    let more : (z : Log) → closed_below z (n + 1) r ≡ closed_below z n r ++ cond (nat_lt r (round_of z n)) ((r, n) ∷ []) [] =
+    let more : (z : Log) → closed_below z (n + 1) r ≡ closed_below z n r
+    ++ cond (nat_lt r (round_of z n)) ((r, n) ∷ []) [] =
     λ z. filter_of_map_range_with_len_more (is_closed z) (λ i. (r, i)) 0 n n (omega arith) in
     let below = same_below v w r n first (λ i l. h i (omega arith)) in
     let last = same_closed v w r n first (h n (omega arith)) (cases_Bool _) in
@@ -79,14 +95,17 @@ same_below v w r (suc n) first h =
     ∙ sym (more v) ∙ ap (λ k. closed_below v k r) (add-one n)
 
 -- functions that agree from a on give the same lists
-flat_same : {X : Type 0} (f g : ℕ → List X) (a n : ℕ) → ((r : ℕ) → a ≤ r → f r ≡ g r) → flat_map f (range_with_len a n) ≡ flat_map g (range_with_len a n)
+flat_same : {X : Type 0} (f g : ℕ → List X) (a n : ℕ) → ((r : ℕ) → a ≤ r → f r ≡ g r)
+    → flat_map f (range_with_len a n) ≡ flat_map g (range_with_len a n)
 flat_same f g a zero h = refl
 flat_same f g a (suc n) h =
     ap (λ xs. xs ++ flat_map f (range_with_len (a + 1) n)) (h a (omega arith))
     ∙ ap (λ xs. g a ++ xs) (flat_same f g (a + 1) n (λ r l. h r (omega arith)))
 
 -- a run has no more closed rounds of a node than another one with these events
-not_more : (start : ℕ → ℕ) (v w : Log) (mark : Name → Mark) (waiting : ℕ → List Name) → ClosedAreDue start v → JournalAgrees start w mark waiting → w.setup ≡ v.setup → w.trace ≡ v.trace
+not_more : (start : ℕ → ℕ) (v w : Log) (mark : Name → Mark) (waiting : ℕ → List Name)
+    → ClosedAreDue start v → JournalAgrees start w mark waiting → w.setup ≡ v.setup
+    → w.trace ≡ v.trace
     → (i : ℕ) → i < v.setup.nodes → round_of w i - 1 ≤ round_of v i - 1
 not_more start v w mark waiting due agrees setup trace i node = by_number (round_of w i - 1) refl
   where
@@ -103,11 +122,13 @@ not_more start v w mark waiting due agrees setup trace i node = by_number (round
     by_number zero e = omega (arith, e)
     by_number (suc q) e =
         let over = agrees.closed i (suc q) there (omega arith) (omega (arith, e)) in
-        let closed = (due i (suc q) node (omega arith) (omega (arith, over.last, last))).1 (omega (arith, over.over, counted)) in
+        let closed = (due i (suc q) node (omega arith) (omega (arith, over.last, last))).1
+        (omega (arith, over.over, counted)) in
         omega (arith, e, closed)
 
 -- two runs of the same events
-module _ (start : ℕ → ℕ) (p : ProgramTree) (s : Setup) (events : List Event) (a b : Report) (x : IsReportOf start p s events a) (y : IsReportOf start p s events b) where
+module _ (start : ℕ → ℕ) (p : ProgramTree) (s : Setup) (events : List Event) (a b : Report)
+    (x : IsReportOf start p s events a) (y : IsReportOf start p s events b) where
   setups : y.run.setup ≡ x.run.setup
   setups = y.setup ∙ sym x.setup
 
@@ -118,33 +139,40 @@ module _ (start : ℕ → ℕ) (p : ProgramTree) (s : Setup) (events : List Even
   rounds i node =
       let below = not_more start x.run y.run _ _ x.closed y.agrees setups traces i node in
       let there : i < y.run.setup.nodes = subst (λ (z : Setup). i < z.nodes) (sym setups) node in
-      let above = not_more start y.run x.run _ _ y.closed x.agrees (sym setups) (sym traces) i there in
+      let above =
+      not_more start y.run x.run _ _ y.closed x.agrees (sym setups) (sym traces) i there in
       omega (arith, below, above)
 
   places : closed_rounds y.run ≡ closed_rounds x.run
   places =
       ap (λ (z : Setup). flat_map (closed_below y.run z.nodes) (range_with_len 1 z.rounds)) setups
-      ∙ flat_same (closed_below y.run x.run.setup.nodes) (closed_below x.run x.run.setup.nodes) 1 x.run.setup.rounds
+      ∙ flat_same (closed_below y.run x.run.setup.nodes) (closed_below x.run x.run.setup.nodes) 1
+      x.run.setup.rounds
       (λ r l. same_below x.run y.run r x.run.setup.nodes (omega arith) rounds)
 
   counts : counts_in y.run ≡ counts_in x.run
   counts =
       ap (λ (z : Setup). map (count_in y.run) (range_with_len 0 z.nodes)) setups
       ∙ map_same (count_in y.run) (count_in x.run) 0 x.run.setup.nodes
-      (λ i low high. ap (λ (t : List Event). (steps i (reverse t), round_of y.run i - 1)) traces ∙ ap (λ k. (count_of x.run i, k)) (rounds i (omega arith)))
+      (λ i low high. ap (λ (t : List Event). (steps i (reverse t), round_of y.run i - 1)) traces
+      ∙ ap (λ k. (count_of x.run i, k)) (rounds i (omega arith)))
 
   abbrev shown : ℕ × ℕ → ClosedRound
   shown = row_at start (of_events p s events)
 
-  by_events : (v : Log) (here : ℕ × ℕ) → v.program ≡ p → v.setup ≡ s → v.trace ≡ events → row_at start v here ≡ shown here
+  by_events : (v : Log) (here : ℕ × ℕ) → v.program ≡ p → v.setup ≡ s → v.trace ≡ events
+      → row_at start v here ≡ shown here
   by_events v here program setup trace =
       ap (λ z. row_at start (of_events z v.setup v.trace) here) program
       ∙ ap (λ z. row_at start (of_events p z v.trace) here) setup
       ∙ ap (λ z. row_at start (of_events p s z) here) trace
 
-  rows_of : (v : Log) (rows : List ClosedRound) → v.program ≡ p → v.setup ≡ s → v.trace ≡ events → All (IsReported start v) rows → rows ≡ map shown (map place rows)
+  rows_of : (v : Log) (rows : List ClosedRound) → v.program ≡ p → v.setup ≡ s → v.trace ≡ events
+      → All (IsReported start v) rows → rows ≡ map shown (map place rows)
   rows_of v rows program setup trace reported =
-      are_rows shown rows (All-weaker (IsReported start v) (λ r. r ≡ shown (place r)) (λ r h. is_row start v r h ∙ by_events v (place r) program setup trace) rows reported)
+      are_rows shown rows
+      (All-weaker (IsReported start v) (λ r. r ≡ shown (place r))
+      (λ r h. is_row start v r h ∙ by_events v (place r) program setup trace) rows reported)
 
   rows : b.rows ≡ a.rows
   rows =

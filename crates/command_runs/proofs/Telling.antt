@@ -4,8 +4,10 @@ use Rattle.std.proofs.Common.{Result, Ok, Err, refl, sym, subst}
 use Rattle.std.specs.Prelude.{IfErr, IfSome, codes}
 use Rattle.std.specs.Global.{Vec}
 use Rattle.std.specs.Io.KnownBytes.{Keeps}
+use Rattle.adversary.specs.declared.fault.RunFault.TheVariants as run
 use Rattle.command_runs.specs.Refused.{IsNoOffer, IsNoProgram, IsNotOffered, IsNotRun}
-use Rattle.command_runs.specs.Refused.{IsOpened, IsRefusedCommand, IsRefusedInTurn, IsSilent, IsUnanswered}
+use Rattle.command_runs.specs.Refused.{IsOpened, IsRefusedCommand, IsRefusedInTurn, IsSilent}
+use Rattle.command_runs.specs.Refused.{IsUnanswered}
 use Rattle.command_runs.specs.Refused.{Fault, HasNoText, Later, fault_in}
 use Rattle.command_runs.specs.Served.{IsCheckedSource, JudgesRun, Opens}
 use Rattle.command_runs.specs.Served.{file_name, told_text}
@@ -36,23 +38,26 @@ keeps_same (Some xs) = refl
 pub silent_same : (x : Option (List ℕ)) (r : Refusal) → IsSilent x x r
 silent_same x refusal.Write = tt
 silent_same x refusal.NodeNoMemory = tt
-silent_same x (refusal.Words fault) = keeps_same x
+silent_same x (refusal.Words f) = keeps_same x
 silent_same x refusal.File = keeps_same x
-silent_same x (refusal.Source fault) = keeps_same x
-silent_same x (refusal.Check fault) = keeps_same x
-silent_same x (refusal.Condition fault) = keeps_same x
-silent_same x (refusal.Schedule fault) = keeps_same x
-silent_same x (refusal.Library fault) = keeps_same x
+silent_same x (refusal.Source f) = keeps_same x
+silent_same x (refusal.Check f) = keeps_same x
+silent_same x (refusal.Condition f) = keeps_same x
+silent_same x (refusal.Schedule f) = keeps_same x
+silent_same x (refusal.Library f) = keeps_same x
 silent_same x refusal.NoSuchProgram = keeps_same x
-silent_same x (refusal.Run fault) = keeps_same x
+silent_same x (refusal.Run f) = keeps_same x
 silent_same x refusal.NoMemory = keeps_same x
 
 -- only a refused writing is told after some was written
-pub silent_write : {A : Type 0} (result : Result A Refusal) (old new : Option (List ℕ)) → IfErr result (λ r. r ≡ refusal.Write) → IfErr result (IsSilent old new)
+pub silent_write : {A : Type 0} (result : Result A Refusal) (old new : Option (List ℕ))
+    → IfErr result (λ r. r ≡ refusal.Write) → IfErr result (IsSilent old new)
 silent_write (Ok x) old new h = tt
 silent_write (Err r) old new h = subst (IsSilent old new) (sym h) tt
 
-some_program : (file : Option (List ℕ)) (p : ProgramTree) → IfSome file (λ text. IsCheckedSource text p) → IfSome file (λ held. (q : ProgramTree) × IsCheckedSource held q)
+some_program : (file : Option (List ℕ)) (p : ProgramTree)
+    → IfSome file (λ text. IsCheckedSource text p)
+    → IfSome file (λ held. (q : ProgramTree) × IsCheckedSource held q)
 some_program None p h = tt
 some_program (Some text) p h = (p, h)
 
@@ -64,7 +69,8 @@ opened_is (source.File name) files (opened.Library n k) h = absurd h
 opened_is (source.Library name values) files (opened.File p) h = absurd h
 
 -- the library has no program for what was opened
-pub held_back : (s : Source) (files : Files) (o : Opened) (n t : ℕ) (r : Refusal) → Opens s files o → IsHeldBack o n t r → IsNotOffered s n t r
+pub held_back : (s : Source) (files : Files) (o : Opened) (n t : ℕ) (r : Refusal) → Opens s files o
+    → IsHeldBack o n t r → IsNotOffered s n t r
 held_back (source.File name) files (opened.File p) n t r h none = none
 held_back (source.Library name values) files (opened.Library m k) n t r h none =
     subst (λ v. IsNotOffered (source.Library name v) n t r) h.1
@@ -92,57 +98,88 @@ last_write = record {
   text = λ HasFault file h. h;
 }
 
+pub last_no_thread : IsLast (refusal.Run run.NoThread)
+last_no_thread = record {
+  program = λ file h. h;
+  offer = λ name values n t h. h;
+  text = λ HasFault file h. h;
+}
+
+pub last_unmatched : IsLast (refusal.Run run.Unmatched)
+last_unmatched = record {
+  program = λ file h. h;
+  offer = λ name values n t h. h;
+  text = λ HasFault file h. h;
+}
+
 -- nor is it what refuses a run, before anything is written
-pub not_in_turn : (kind : Kind) (NotRun : Later kind) (s : Source) (files : Files) (file : Option (List ℕ)) (r : Refusal) → IsLast r → ((p : ProgramTree) (u : Setup) (k : PlanKind) (t : Tail kind) → NotRun p u k t r → ⊥)
+pub not_in_turn : (kind : Kind) (NotRun : Later kind) (s : Source) (files : Files)
+    (file : Option (List ℕ)) (r : Refusal) → IsLast r
+    → ((p : ProgramTree) (u : Setup) (k : PlanKind) (t : Tail kind) → NotRun p u k t r → ⊥)
     → IsRefusedInTurn kind NotRun s files file r → ⊥
-not_in_turn kind NotRun (source.File name) files file r last never (inl h) = last.program (files (file_name name.now)) h
+not_in_turn kind NotRun (source.File name) files file r last never (inl h) =
+    last.program (files (file_name name.now)) h
 not_in_turn kind NotRun (source.Library name values) files file r last never (inl h) = h
 not_in_turn kind NotRun s files file r last never (inr (inl h)) = last.text (fault_in kind) file h.1
-not_in_turn kind NotRun (source.File name) files file r last never (inr (inr (opened, (u, k, t, read, inl none)))) = none
-not_in_turn kind NotRun (source.Library name values) files file r last never (inr (inr (opened, (u, k, t, read, inl none)))) =
+not_in_turn kind NotRun (source.File name) files file r last never
+    (inr (inr (opened, (u, k, t, read, inl none)))) = none
+not_in_turn kind NotRun (source.Library name values) files file r last never
+    (inr (inr (opened, (u, k, t, read, inl none)))) =
     last.offer name.now values u.nodes u.faults none
-not_in_turn kind NotRun s files file r last never (inr (inr (opened, (u, k, t, read, inr (p, is, none))))) = never p u k t none
+not_in_turn kind NotRun s files file r last never
+    (inr (inr (opened, (u, k, t, read, inr (p, is, none))))) = never p u k t none
 
 -- a refused answer, of `run` and of `judge`
-pub run_refused : (source : Source) (files : Files) (schedule : Bor (List ℕ)) (told : Bool) (r : Refusal) → IsRefusedAnswer source files (files schedule.now) (question.Report told) r
+pub run_refused : (source : Source) (files : Files) (schedule : Bor (List ℕ)) (told : Bool)
+    (r : Refusal) → IsRefusedAnswer source files (files schedule.now) (question.Report told) r
     → IsRefusedCommand (words.Run source schedule told) files r
 run_refused source files schedule told refusal.Write (answer.Report report shown, h) =
     (files, told_text report told, (report, h.1, refl))
 run_refused source files schedule told refusal.Write (answer.Verdict verdict, h) = absurd h
-run_refused source files schedule told (refusal.Words fault) h = h
+run_refused source files schedule told (refusal.Words f) h = h
 run_refused source files schedule told refusal.File h = h
-run_refused source files schedule told (refusal.Source fault) h = h
-run_refused source files schedule told (refusal.Check fault) h = h
-run_refused source files schedule told (refusal.Condition fault) h = h
-run_refused source files schedule told (refusal.Schedule fault) h = h
-run_refused source files schedule told (refusal.Library fault) h = h
+run_refused source files schedule told (refusal.Source f) h = h
+run_refused source files schedule told (refusal.Check f) h = h
+run_refused source files schedule told (refusal.Condition f) h = h
+run_refused source files schedule told (refusal.Schedule f) h = h
+run_refused source files schedule told (refusal.Library f) h = h
 run_refused source files schedule told refusal.NoSuchProgram h = h
-run_refused source files schedule told (refusal.Run fault) h = h
+run_refused source files schedule told (refusal.Run f) h = h
 run_refused source files schedule told refusal.NoMemory h = h
 run_refused source files schedule told refusal.NodeNoMemory h =
-    absurd (not_in_turn kinds.Schedule (λ p s k events r. IsNotRun p s k events [] r) source files (files schedule.now) refusal.NodeNoMemory last_nodes (λ p s k events none. none) h)
+    absurd (not_in_turn kinds.Schedule (λ p s k events r. IsNotRun p s k events [] r) source files
+    (files schedule.now) refusal.NodeNoMemory last_nodes (λ p s k events none. none) h)
 
-module _ (source : Source) (files : Files) (schedule : Bor (List ℕ)) (correct : Vec ℕ) (delta gst : ℕ) (list : Bor (List ℕ)) (same : list.now ≡ correct.items) where
-  unanswered : (r : Refusal) → IsUnanswered source files (files schedule.now) list.now r → IsUnanswered source files (files schedule.now) correct.items r
+module _ (source : Source) (files : Files) (schedule : Bor (List ℕ)) (correct : Vec ℕ)
+    (delta gst : ℕ) (list : Bor (List ℕ)) (same : list.now ≡ correct.items) where
+  unanswered : (r : Refusal) → IsUnanswered source files (files schedule.now) list.now r
+      → IsUnanswered source files (files schedule.now) correct.items r
   unanswered r h = subst (λ ns. IsUnanswered source files (files schedule.now) ns r) same h
 
-  pub judge_refused : (r : Refusal) → IsRefusedAnswer source files (files schedule.now) (question.Verdict (record { correct = list; delta = delta; gst = gst })) r
+  pub judge_refused : (r : Refusal)
+      → IsRefusedAnswer source files (files schedule.now)
+      (question.Verdict (record { correct = list; delta = delta; gst = gst })) r
       → IsRefusedCommand (words.Judge source schedule correct delta gst) files r
   judge_refused refusal.Write (answer.Report report shown, h) = absurd h
   judge_refused refusal.Write (answer.Verdict verdict, h) = (
     files,
     verdict_text verdict ++ codes "\n",
-    (verdict, subst (λ ns. JudgesRun source files (files schedule.now) ns delta gst verdict) same h, refl),
+    (
+      verdict,
+      subst (λ ns. JudgesRun source files (files schedule.now) ns delta gst verdict) same h,
+      refl,
+    ),
   )
-  judge_refused (refusal.Words fault) h = unanswered (refusal.Words fault) h
+  judge_refused (refusal.Words f) h = unanswered (refusal.Words f) h
   judge_refused refusal.File h = unanswered refusal.File h
-  judge_refused (refusal.Source fault) h = unanswered (refusal.Source fault) h
-  judge_refused (refusal.Check fault) h = unanswered (refusal.Check fault) h
-  judge_refused (refusal.Condition fault) h = unanswered (refusal.Condition fault) h
-  judge_refused (refusal.Schedule fault) h = unanswered (refusal.Schedule fault) h
-  judge_refused (refusal.Library fault) h = unanswered (refusal.Library fault) h
+  judge_refused (refusal.Source f) h = unanswered (refusal.Source f) h
+  judge_refused (refusal.Check f) h = unanswered (refusal.Check f) h
+  judge_refused (refusal.Condition f) h = unanswered (refusal.Condition f) h
+  judge_refused (refusal.Schedule f) h = unanswered (refusal.Schedule f) h
+  judge_refused (refusal.Library f) h = unanswered (refusal.Library f) h
   judge_refused refusal.NoSuchProgram h = unanswered refusal.NoSuchProgram h
-  judge_refused (refusal.Run fault) h = unanswered (refusal.Run fault) h
+  judge_refused (refusal.Run f) h = unanswered (refusal.Run f) h
   judge_refused refusal.NoMemory h = unanswered refusal.NoMemory h
   judge_refused refusal.NodeNoMemory h =
-      absurd (not_in_turn kinds.Schedule (λ p s k events r. IsNotRun p s k events list.now r) source files (files schedule.now) refusal.NodeNoMemory last_nodes (λ p s k events none. none) h)
+      absurd (not_in_turn kinds.Schedule (λ p s k events r. IsNotRun p s k events list.now r) source
+      files (files schedule.now) refusal.NodeNoMemory last_nodes (λ p s k events none. none) h)

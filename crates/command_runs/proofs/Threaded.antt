@@ -15,21 +15,29 @@ use Rattle.slot_plans.specs.declared.kind.PlanKind.{PlanKind}
 use Rattle.step_machine.specs.declared.event.Event.{Event}
 
 -- a run by threads of a setup that was read is one of its file
-pub reports_threads : (source : Source) (files : Files) (p : ProgramTree) (t : ThreadSetup) (run : ThreadRun) (file : Option (List ℕ))
-    → IsProgramOf source files t.setup.nodes t.setup.faults p → IfSome file (λ text. IsThreadSetup text t.setup t.plan t.pace t.stops.items) → IsRunOf (start_of t.plan t.setup.nodes) p t run
+pub reports_threads : (source : Source) (files : Files) (p : ProgramTree) (t : ThreadSetup)
+    (run : ThreadRun) (file : Option (List ℕ))
+    → IsProgramOf source files t.setup.nodes t.setup.faults p
+    → IfSome file (λ text. IsThreadSetup text t.setup t.plan t.pace t.stops.items)
+    → IsRunOf (start_of t.plan t.setup.nodes) p t run
     → IsTrue run.whole → ReportsThreads source files file (Some (string_bytes run.trace)) run.report
 reports_threads source files p t run None is read said whole = tt
 reports_threads source files p t run (Some text) is read said whole =
-    let made = said whole in (t.setup, t.plan, t.pace, t.stops.items, made.0, p, read, is, made.1, made.2)
+    let made =
+    said whole in (t.setup, t.plan, t.pace, t.stops.items, made.0, p, read, is, made.1, made.2)
 
 -- a trace that was written is in its file
-traced : (s : Setup) (k : PlanKind) (events : List Event) (made : List ℕ) (after : Option (List ℕ)) → IsWritten s k events made → IfSome after (λ held. held ≡ made)
+traced : (s : Setup) (k : PlanKind) (events : List Event) (made : List ℕ) (after : Option (List ℕ))
+    → IsWritten s k events made → IfSome after (λ held. held ≡ made)
     → IfSome after (λ held. IsWritten s k events held)
 traced s k events made None is same = tt
 traced s k events made (Some held) is same = subst (λ text. IsWritten s k events text) (sym same) is
 
-pub reports_traced : (source : Source) (files : Files) (file after : Option (List ℕ)) (made : List ℕ) (report : Report)
-    → ReportsThreads source files file (Some made) report → IfSome after (λ held. held ≡ made) → ReportsThreads source files file after report
+pub reports_traced : (source : Source) (files : Files) (file after : Option (List ℕ))
+    (made : List ℕ) (report : Report)
+    → ReportsThreads source files file (Some made) report → IfSome after (λ held. held ≡ made)
+    → ReportsThreads source files file after report
 reports_traced source files None after made report is same = tt
-reports_traced source files (Some text) after made report (s, k, pace, stops, events, p, read, of, ran, written) same =
+reports_traced source files (Some text) after made report
+    (s, k, pace, stops, events, p, read, of, ran, written) same =
     (s, k, pace, stops, events, p, read, of, ran, traced s k events made after written same)

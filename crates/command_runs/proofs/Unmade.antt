@@ -1,98 +1,186 @@
 -- From what the parts of a run in lockstep refuse to the causes of the command's refusal.
-use Rattle.std.proofs.Common.{◌≡◌, ◌⊎◌, inl, inr, ℕ, List, Option, Some, None}
-use Rattle.std.proofs.Common.{Result, Err, sym, ap, subst, Bor}
-use Rattle.std.specs.Prelude.{◌↔◌, IfSome}
-use Rattle.std.specs.Global.{Vec}
+use Rattle.std.proofs.Common.{◌≡◌, ◌<◌, ◌⊎◌, inl, inr, ℕ, List, Option, Some, None, arith}
+use Rattle.std.proofs.Common.{Bor, Err, Result, ap, subst, sym}
+use Rattle.std.specs.Prelude.{◌↔◌, All, IfSome}
 use Rattle.adversary.specs.declared.fault.RunFault.{RunFault}
 use Rattle.adversary.specs.declared.fault.RunFault.TheVariants as run
-use Rattle.command_runs.specs.InLockstep.{AreTerms, IsLockstepText}
-use Rattle.command_runs.specs.Refused.{IsNotMade, IsPlan, IsRefusedCommand, IsUnmade, of_run}
-use Rattle.command_runs.specs.Served.{IsHeader, IsProgramOf, MakesLockstep, start_of}
+use Rattle.command_runs.specs.InChanges.{AreFitChanges, Terms}
+use Rattle.command_runs.specs.InLockstep.{AreTerms, LockstepCause}
+use Rattle.command_runs.specs.Refused.{HasNoLines, HasNoOmissions, IsNotMade, IsPlan}
+use Rattle.command_runs.specs.Refused.{IsRefusedCommand, IsUnmade, fault_in, of_run}
+use Rattle.command_runs.specs.Refused.{omission_fault}
+use Rattle.command_runs.specs.Served.{IsOmissionText, MakesLockstep, SaysLines, file_name}
+use Rattle.command_runs.specs.Served.{start_of, terms_by}
 use Rattle.command_runs.specs.Stages.{IsNotMadeAs, IsRefusedLockstep}
 use Rattle.command_runs.specs.Texts.{Files}
 use Rattle.command_runs.specs.declared.refusal.Refusal.{Refusal}
 use Rattle.command_runs.specs.declared.refusal.Refusal.TheVariants as refusal
-use Rattle.command_runs.proofs.Telling.{last_nodes, not_in_turn}
+use Rattle.command_runs.proofs.Telling.{IsLast, last_nodes, last_write}
+use Rattle.command_words.specs.declared.changes.Changes.{Changes}
 use Rattle.command_words.specs.declared.values.Source.{Source}
+use Rattle.command_words.specs.declared.values.Source.TheVariants as source
 use Rattle.command_words.specs.declared.words.Words.TheVariants as words
-use Rattle.policies.specs.declared.bounded.Bounded.{Bounded}
+use Rattle.omission_texts.specs.declared.line.OmissionLine.{OmissionLine}
 use Rattle.round_lang.specs.Syntax.{ProgramTree}
+use Rattle.round_meaning.specs.Setups.{max_nodes}
 use Rattle.round_meaning.specs.declared.setup.Setup.{Setup}
 use Rattle.schedule_text.specs.declared.kind.Kind.TheVariants as kinds
 use Rattle.slot_plans.specs.Plan.{IsDelta, IsNodeCount}
 use Rattle.slot_plans.specs.declared.kind.PlanKind.{PlanKind}
 use Rattle.slot_plans.specs.declared.kind.PlanKind.TheVariants.{Growing, Known}
+use Rattle.std.specs.Global.{Vec}
+
+-- a node of the list isn't one of the run
+pub no_listed : (start : ℕ → ℕ) (p : ProgramTree) (s : Setup) (ls : List OmissionLine) (t : Terms)
+    → (All (λ n. (n < s.nodes) × (n < max_nodes)) t.correct → ⊥)
+    → ¬ (AreTerms p s t × AreFitChanges start s ls t)
+no_listed start p s ls t none h =
+    none (λ k d l. let few = h.0.setup.sized.few_nodes in let below = h.0.listed k d l in
+    (below, omega (arith, few, below)))
+
+-- why a run isn't made, which is where its terms or its changes don't fit
+pub no_run : (A : Type 0) (Fits : Type 0) (start : ℕ → ℕ) (p : ProgramTree) (s : Setup)
+    (ls : List OmissionLine) (t : Terms) (f : RunFault)
+    → ((◌≡◌ {A = Result A RunFault} (Err f) (Err run.BadSetup)) ↔ (Fits → ⊥))
+    → (f ≡ run.NoMemory) ⊎ (f ≡ run.BadSetup)
+    → ((Fits → ⊥) → ¬ (AreTerms p s t × AreFitChanges start s ls t))
+    → LockstepCause start p s ls t f
+no_run A Fits start p s ls t f bad (inl memory) unfit =
+    subst (LockstepCause start p s ls t) (sym memory) tt
+no_run A Fits start p s ls t f bad (inr setup) unfit =
+    subst (LockstepCause start p s ls t) (sym setup) (unfit (bad.0 (ap (λ g. Err g) setup)))
 
 -- what making a run in lockstep refuses
-pub no_pacing : (A : Type 0) (p : ProgramTree) (s : Setup) (list : List ℕ) (b : Bounded) (f : RunFault)
-    → ((◌≡◌ {A = Result A RunFault} (Err f) (Err run.BadSetup)) ↔ (AreTerms p s list b → ⊥)) → (f ≡ run.NoMemory) ⊎ (f ≡ run.BadSetup)
-    → IsNotMadeAs p s list b (of_run f)
-no_pacing A p s list b f bad (inl memory) = subst (λ g. IsNotMadeAs p s list b (of_run g)) (sym memory) tt
-no_pacing A p s list b f bad (inr setup) =
-    subst (λ g. IsNotMadeAs p s list b (of_run g)) (sym setup) (bad.0 (ap (λ g. Err g) setup))
+pub no_pacing : (start : ℕ → ℕ) (p : ProgramTree) (s : Setup) (ls : List OmissionLine) (t : Terms)
+    (f : RunFault) → LockstepCause start p s ls t f → IsNotMadeAs start p s ls t (of_run f)
+no_pacing start p s ls t run.BadSetup cause = cause
+no_pacing start p s ls t (run.UnknownNode n) cause = absurd cause
+no_pacing start p s ls t (run.UnknownMessage n) cause = cause
+no_pacing start p s ls t run.NoMemory cause = tt
+no_pacing start p s ls t run.NoThread cause = absurd cause
+no_pacing start p s ls t run.Unmatched cause = absurd cause
 
 -- under a plan within its limits
-pub not_made : (p : ProgramTree) (s : Setup) (k : PlanKind) (list : List ℕ) (b : Bounded) (r : Refusal) → IsNotMadeAs p s list b r → IsNotMade p s k list b r
-not_made p s k list b (refusal.Run run.BadSetup) none = λ both. none both.0
-not_made p s k list b (refusal.Run (run.UnknownNode n)) none = absurd none
-not_made p s k list b (refusal.Run (run.UnknownMessage n)) none = absurd none
-not_made p s k list b (refusal.Run run.NoMemory) none = absurd none
-not_made p s k list b (refusal.Run run.NoThread) none = absurd none
-not_made p s k list b (refusal.Run run.Unmatched) none = absurd none
-not_made p s k list b refusal.NoMemory none = tt
-not_made p s k list b (refusal.Words fault) none = absurd none
-not_made p s k list b refusal.File none = absurd none
-not_made p s k list b (refusal.Source fault) none = absurd none
-not_made p s k list b (refusal.Check fault) none = absurd none
-not_made p s k list b (refusal.Condition fault) none = absurd none
-not_made p s k list b (refusal.Schedule fault) none = absurd none
-not_made p s k list b (refusal.Library fault) none = absurd none
-not_made p s k list b refusal.NoSuchProgram none = absurd none
-not_made p s k list b refusal.Write none = absurd none
-not_made p s k list b refusal.NodeNoMemory none = absurd none
+pub not_made : (start : ℕ → ℕ) (p : ProgramTree) (s : Setup) (k : PlanKind)
+    (ls : List OmissionLine) (t : Terms) (r : Refusal) → start ≡ start_of k s.nodes → IsPlan k
+    → IsNotMadeAs start p s ls t r → IsNotMade p s k ls t r
+not_made start p s k ls t (refusal.Run run.BadSetup) same plan none = λ all.
+    none (all.0, subst (λ f. AreFitChanges f s ls t) (sym same) all.1)
+not_made start p s k ls t (refusal.Run (run.UnknownNode n)) same plan none = absurd none
+not_made start p s k ls t (refusal.Run (run.UnknownMessage n)) same plan none =
+    (none.0, none.1, plan, none.2)
+not_made start p s k ls t (refusal.Run run.NoMemory) same plan none = absurd none
+not_made start p s k ls t (refusal.Run run.NoThread) same plan none = absurd none
+not_made start p s k ls t (refusal.Run run.Unmatched) same plan none = absurd none
+not_made start p s k ls t refusal.NoMemory same plan none = tt
+not_made start p s k ls t (refusal.Words f) same plan none = absurd none
+not_made start p s k ls t refusal.File same plan none = absurd none
+not_made start p s k ls t (refusal.Source f) same plan none = absurd none
+not_made start p s k ls t (refusal.Check f) same plan none = absurd none
+not_made start p s k ls t (refusal.Condition f) same plan none = absurd none
+not_made start p s k ls t (refusal.Schedule f) same plan none = absurd none
+not_made start p s k ls t (refusal.Library f) same plan none = absurd none
+not_made start p s k ls t refusal.NoSuchProgram same plan none = absurd none
+not_made start p s k ls t refusal.Write same plan none = absurd none
+not_made start p s k ls t refusal.NodeNoMemory same plan none = absurd none
 
 -- where there is no plan, a number is past its limits
-pub no_known_pacing : (p : ProgramTree) (s : Setup) (delta : ℕ) (list : List ℕ) (b : Bounded) → ¬ (IsNodeCount s.nodes × IsDelta delta) → ¬ (AreTerms p s list b × IsPlan (Known delta))
-no_known_pacing p s delta list b none is = none ((is.0.setup.sized.some_node, is.0.setup.sized.few_nodes), is.1)
+pub no_known_pacing : (p : ProgramTree) (s : Setup) (delta : ℕ) (ls : List OmissionLine) (t : Terms)
+    → ¬ (IsNodeCount s.nodes × IsDelta delta) → ¬ (AreTerms p s t
+    × AreFitChanges (start_of (Known delta) s.nodes) s ls t × IsPlan (Known delta))
+no_known_pacing p s delta ls t none is =
+    none ((is.0.setup.sized.some_node, is.0.setup.sized.few_nodes), is.2)
 
-pub no_growing_pacing : (p : ProgramTree) (s : Setup) (list : List ℕ) (b : Bounded) → ¬ (IsNodeCount s.nodes) → ¬ (AreTerms p s list b × IsPlan Growing)
-no_growing_pacing p s list b none is = none (is.0.setup.sized.some_node, is.0.setup.sized.few_nodes)
+pub no_growing_pacing : (p : ProgramTree) (s : Setup) (ls : List OmissionLine) (t : Terms)
+    → ¬ (IsNodeCount s.nodes)
+    → ¬ (AreTerms p s t × AreFitChanges (start_of Growing s.nodes) s ls t × IsPlan Growing)
+no_growing_pacing p s ls t none is =
+    none (is.0.setup.sized.some_node, is.0.setup.sized.few_nodes)
 
--- the schedule of a run in lockstep, of a header that was read, is one of its file
-pub makes_lockstep : (source : Source) (files : Files) (p : ProgramTree) (s : Setup) (k : PlanKind) (list : List ℕ) (b : Bounded) (asked : Option ℕ) (file : Option (List ℕ)) (made : List ℕ)
-    → IsProgramOf source files s.nodes s.faults p → IfSome file (λ text. IsHeader text s k) → IsLockstepText (start_of k s.nodes) p s k list b asked made
-    → MakesLockstep source files file list b asked made
-makes_lockstep source files p s k list b asked None made is read said = tt
-makes_lockstep source files p s k list b asked (Some text) made is read said = (s, k, p, read, is, said)
+-- what isn't told of a file, of the library or of a text doesn't refuse it, unless the run does
+not_last : (s : Source) (files : Files) (header : Option (List ℕ))
+    (omissions : Option (Bor (List ℕ))) (t : Terms) (r : Refusal) → IsLast r
+    → ((p : ProgramTree) (u : Setup) (k : PlanKind) (ls : List OmissionLine)
+    → IsNotMade p u k ls t r → ⊥)
+    → IsUnmade s files header omissions t r → ⊥
+not_last (source.File name) files header omissions t r last never (inl (inl h)) =
+    last.program (files (file_name name.now)) h
+not_last (source.Library name values) files header omissions t r last never (inl (inl h)) = h
+not_last s files header omissions t r last never (inl (inr (inl h))) =
+    last.text (fault_in kinds.Header) header h.1
+not_last s files header None t r last never (inl (inr (inr (inl h)))) = h.2
+not_last s files header (Some name) t r last never (inl (inr (inr (inl h)))) =
+    last.text omission_fault (files name.now) h.2
+not_last (source.File name) files header omissions t r last never
+    (inl (inr (inr (inr (opened, (u, k, ls, read, says, none)))))) = none
+not_last (source.Library name values) files header omissions t r last never
+    (inl (inr (inr (inr (opened, (u, k, ls, read, says, none)))))) =
+    last.offer name.now values u.nodes u.faults none
+not_last s files header omissions t r last never (inr (u, k, ls, p, paced, none)) =
+    never p u k ls none
+
+-- what refuses the schedule refuses the command
+pub unmade_told : (s : Source) (files : Files) (header : Option (List ℕ))
+    (omissions : Option (Bor (List ℕ))) (t : Terms) (r : Refusal)
+    → IsUnmade s files header omissions t r → IsRefusedLockstep s files header omissions t r
+unmade_told s files header omissions t refusal.Write h = absurd
+    (not_last s files header omissions t refusal.Write last_write (λ p u k ls none. none) h)
+unmade_told s files header omissions t (refusal.Words f) h = h
+unmade_told s files header omissions t refusal.File h = h
+unmade_told s files header omissions t (refusal.Source f) h = h
+unmade_told s files header omissions t (refusal.Check f) h = h
+unmade_told s files header omissions t (refusal.Condition f) h = h
+unmade_told s files header omissions t (refusal.Schedule f) h = h
+unmade_told s files header omissions t (refusal.Library f) h = h
+unmade_told s files header omissions t refusal.NoSuchProgram h = h
+unmade_told s files header omissions t (refusal.Run f) h = h
+unmade_told s files header omissions t refusal.NoMemory h = h
+unmade_told s files header omissions t refusal.NodeNoMemory h = h
+
+-- the files are the same ones
+pub says_as : (old new : Files) (o : Option (Bor (List ℕ))) (ls : List OmissionLine)
+    → ((name : List ℕ) → new name ≡ old name) → SaysLines new o ls → SaysLines old o ls
+says_as old new None ls same h = h
+says_as old new (Some name) ls same h =
+    subst (λ file. IfSome file (λ text. IsOmissionText text ls)) (same name.now) h
+
+pub no_lines_as : (old new : Files) (o : Option (Bor (List ℕ))) (r : Refusal)
+    → ((name : List ℕ) → new name ≡ old name) → HasNoLines new o r → HasNoLines old o r
+no_lines_as old new None r same h = h
+no_lines_as old new (Some name) r same h = subst (λ file. HasNoOmissions file r) (same name.now) h
 
 -- why the command is refused
-module _ (source : Source) (files : Files) (header : Bor (List ℕ)) (correct : Vec ℕ) (delta gst : ℕ) (delays orders : Vec ℕ) (ticks : Option ℕ)
-    (list : List ℕ) (b : Bounded) (same : list ≡ correct.items)
-    (terms : b ≡ record { delta = delta; gst = gst; delays = delays.items; orders = orders.items }) where
-  unmade : (r : Refusal) → IsUnmade source files (files header.now) list b r
-      → IsUnmade source files (files header.now) correct.items (record { delta = delta; gst = gst; delays = delays.items; orders = orders.items }) r
+module _ (from : Source) (files : Files) (header : Bor (List ℕ)) (correct : Vec ℕ) (delta gst : ℕ)
+    (delays orders : Vec ℕ) (ticks : Option ℕ) (changes : Changes) (t : Terms)
+    (same : t ≡ terms_by correct delta gst delays orders ticks changes) where
+  unmade : (r : Refusal)
+      → IsUnmade from files (files header.now) changes.omissions t r
+      → IsUnmade from files (files header.now) changes.omissions
+      (terms_by correct delta gst delays orders ticks changes) r
   unmade r h =
-      subst (λ (x : Bounded). IsUnmade source files (files header.now) correct.items x r) terms
-      (subst (λ ns. IsUnmade source files (files header.now) ns b r) same h)
+      subst (λ (x : Terms). IsUnmade from files (files header.now) changes.omissions x r) same h
 
-  made_as : (made : List ℕ) → MakesLockstep source files (files header.now) list b ticks made
-      → MakesLockstep source files (files header.now) correct.items (record { delta = delta; gst = gst; delays = delays.items; orders = orders.items }) ticks made
-  made_as made h =
-      subst (λ (x : Bounded). MakesLockstep source files (files header.now) correct.items x ticks made) terms
-      (subst (λ ns. MakesLockstep source files (files header.now) ns b ticks made) same h)
-
-  pub lockstep_refused : (r : Refusal) → IsRefusedLockstep source files (files header.now) list b ticks r
-      → IsRefusedCommand (words.Lockstep source header correct delta gst delays orders ticks) files r
-  lockstep_refused refusal.Write (made, h) = (files, made, made_as made h)
-  lockstep_refused refusal.NodeNoMemory h =
-      absurd (not_in_turn kinds.Header (λ p s k t r. IsNotMade p s k list b r) source files (files header.now) refusal.NodeNoMemory last_nodes (λ p s k t none. none) h)
-  lockstep_refused (refusal.Words fault) h = unmade (refusal.Words fault) h
+  pub lockstep_refused : (r : Refusal)
+      → IsRefusedLockstep from files (files header.now) changes.omissions t r
+      → IsRefusedCommand
+      (words.Lockstep from header correct delta gst delays orders ticks changes) files r
+  lockstep_refused refusal.Write (made, h) = (
+    files,
+    made,
+    subst
+        (λ (x : Terms). MakesLockstep from files (files header.now) changes.omissions x made)
+        same h,
+  )
+  lockstep_refused refusal.NodeNoMemory h = absurd
+      (not_last from files (files header.now) changes.omissions t refusal.NodeNoMemory last_nodes
+      (λ p u k ls none. none) h)
+  lockstep_refused (refusal.Words f) h = unmade (refusal.Words f) h
   lockstep_refused refusal.File h = unmade refusal.File h
-  lockstep_refused (refusal.Source fault) h = unmade (refusal.Source fault) h
-  lockstep_refused (refusal.Check fault) h = unmade (refusal.Check fault) h
-  lockstep_refused (refusal.Condition fault) h = unmade (refusal.Condition fault) h
-  lockstep_refused (refusal.Schedule fault) h = unmade (refusal.Schedule fault) h
-  lockstep_refused (refusal.Library fault) h = unmade (refusal.Library fault) h
+  lockstep_refused (refusal.Source f) h = unmade (refusal.Source f) h
+  lockstep_refused (refusal.Check f) h = unmade (refusal.Check f) h
+  lockstep_refused (refusal.Condition f) h = unmade (refusal.Condition f) h
+  lockstep_refused (refusal.Schedule f) h = unmade (refusal.Schedule f) h
+  lockstep_refused (refusal.Library f) h = unmade (refusal.Library f) h
   lockstep_refused refusal.NoSuchProgram h = unmade refusal.NoSuchProgram h
-  lockstep_refused (refusal.Run fault) h = unmade (refusal.Run fault) h
+  lockstep_refused (refusal.Run f) h = unmade (refusal.Run f) h
   lockstep_refused refusal.NoMemory h = unmade refusal.NoMemory h

@@ -1,6 +1,6 @@
 -- What a desk tells of the files that it wrote.
 use Rattle.std.specs.Borrow.{Bor}
-use Rattle.std.specs.Prelude.{◌≡◌, ◌++◌, ◌∷◌, [], ◌⊎◌, ℕ, List, None, Option, Some}
+use Rattle.std.specs.Prelude.{◌≡◌, ◌++◌, ◌∷◌, [], ◌⊎◌, ℕ, List, None, Option, Some, codes}
 use Rattle.command_runs.specs.declared.outcome.Outcome.{Outcome}
 use Rattle.command_runs.specs.declared.outcome.Outcome.TheVariants.{No}
 use Rattle.command_words.specs.Given.{Means}
@@ -40,3 +40,7 @@ WroteFor words old new = (new ≡ old) ⊎ ((w : Words) × Means words w × MayW
 -- the words mean a command that writes what was written if it ends so
 abbrev pub WroteAll : List (List ℕ) → Outcome → (old new : List (List ℕ)) → Type 0
 WroteAll words o old new = (w : Words) × Means words w × Writes w o old new
+
+-- a file has another name than one that is read; to read `-` is to read standard input
+abbrev pub Spares : (name read : List ℕ) → Type 0
+Spares name read = name ≡ read → read ≡ codes "-"

@@ -8,7 +8,8 @@ use Rattle.round_explorer.specs.OpenQuestions.{IsOpen, IsSetupOf}
 use Rattle.round_explorer.specs.Properties.{is_true}
 use Rattle.round_explorer.specs.declared.property.Property.{Property}
 use Rattle.round_explorer.specs.declared.property.Property.TheVariants.{Agreement, Always, Final}
-use Rattle.round_explorer.specs.declared.property.Property.TheVariants.{Termination, Validity}
+use Rattle.round_explorer.specs.declared.property.Property.TheVariants.{Safety, Termination}
+use Rattle.round_explorer.specs.declared.property.Property.TheVariants.{Validity}
 use Rattle.round_explorer.specs.declared.question.AskedInputs.{AskedInputs}
 use Rattle.round_explorer.specs.declared.question.Question.{Question}
 use Rattle.round_lang.specs.Syntax.{ProgramTree}
@@ -29,6 +30,7 @@ abbrev pub HoldsOfRows : Property → ProgramTree → Setup → List ClosedRound
 HoldsOfRows Agreement p s rows = AreAgreed rows
 HoldsOfRows Validity p s rows = AreInputs s rows
 HoldsOfRows Final p s rows = AreFinal rows
+HoldsOfRows Safety p s rows = AreAgreed rows × AreInputs s rows × AreFinal rows
 HoldsOfRows Termination p s rows = ⊤
 HoldsOfRows (Always f) p s rows =
     All (λ (row : ClosedRound).

@@ -1,8 +1,10 @@
 pub mod Explained
 pub mod EveryReport
+pub mod InChanges
 pub mod InLockstep
 pub mod InOmissions
 pub mod InRounds
+pub mod Apart
 pub mod ByThreads
 pub mod Library
 pub mod Texts
@@ -12,3 +14,4 @@ pub mod Refused
 pub mod Stages
 pub mod Desks
 pub mod Limits
+pub mod IdleTexts

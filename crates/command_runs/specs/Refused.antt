@@ -1,6 +1,7 @@
 -- Why a command is refused: the cause of each refusal, and the order in which they are told.
 use Rattle.std.specs.Prelude.{◌≡◌, ◌<◌, ◌≤◌, ◌⊎◌, ⊤, ℕ, All, Err, List, [], Option, IfSome, Some}
-use Rattle.std.specs.Prelude.{codes}
+use Rattle.std.specs.Prelude.{IsSome, None, codes}
+use Rattle.std.specs.Borrow.{Bor}
 use Rattle.std.specs.Io.KnownBytes.{Keeps}
 use Rattle.adversary.specs.Driving.{IsUnknownAt}
 use Rattle.adversary.specs.declared.fault.ReadFault.{ReadFault}
@@ -10,11 +11,12 @@ use Rattle.adversary.specs.declared.fault.RunFault.TheVariants as run
 use Rattle.algorithm_library.specs.Refusals.{IsCount, IsTooFew, IsWithin}
 use Rattle.algorithm_library.specs.declared.fault.LibraryFault.{LibraryFault}
 use Rattle.algorithm_library.specs.declared.fault.LibraryFault.TheVariants as library
+use Rattle.command_runs.specs.InChanges.{AreFitChanges, Terms}
 use Rattle.command_runs.specs.InLockstep.{AreTerms}
 use Rattle.command_runs.specs.Lines.{status_of}
 use Rattle.command_runs.specs.Served.{AsksForHelp, IsCheckedSource, IsHeader, IsOfKind}
 use Rattle.command_runs.specs.Served.{IsOmissionText, IsProgramOf, IsThreadSetup, Prints}
-use Rattle.command_runs.specs.Served.{file_name}
+use Rattle.command_runs.specs.Served.{IsPaced, SaysLines, file_name, start_of, terms_by}
 use Rattle.command_runs.specs.Texts.{Files}
 use Rattle.schedule_text.specs.Bytes.{IsLongText, IsNoText, IsText}
 use Rattle.schedule_text.specs.declared.source.TextFault.{TextFault}
@@ -30,7 +32,7 @@ use Rattle.command_words.specs.declared.words.Words.{Words}
 use Rattle.command_words.specs.declared.words.Words.TheVariants.{Check, Explore, Judge, Lockstep}
 use Rattle.command_words.specs.declared.words.Words.TheVariants.{Realise, Rounds, Run, Threads}
 use Rattle.command_words.specs.declared.exploring.Exploring.{Exploring}
-use Rattle.exploration_texts.specs.Conditions.{IsFaultFor}
+use Rattle.exploration_texts.specs.Conditions.{IsConditionFor, IsFaultFor}
 use Rattle.exploration_texts.specs.declared.condition.ConditionFault.{ConditionFault}
 use Rattle.exploration_texts.specs.declared.condition.ConditionFault.TheVariants as condition
 use Rattle.node_threads.specs.Ends.{IsFitForThreads}
@@ -42,6 +44,7 @@ use Rattle.round_check.specs.declared.fault.CheckFault.TheVariants as check
 use Rattle.round_lang.specs.Limits.{max_text}
 use Rattle.round_lang.specs.Source.{IsSource}
 use Rattle.round_lang.specs.Syntax.{ProgramTree}
+use Rattle.round_lang.specs.Tree.{Tree}
 use Rattle.round_lang.specs.declared.fault.LangFault.{LangFault}
 use Rattle.round_lang.specs.declared.fault.LangFault.TheVariants as lang
 use Rattle.round_meaning.specs.Setups.{IsLawful}
@@ -49,7 +52,6 @@ use Rattle.round_meaning.specs.declared.setup.Setup.{Setup}
 use Rattle.omission_texts.specs.Meaning.{IsFirstUnknown}
 use Rattle.omission_texts.specs.Readings.{IsReading as IsOmissionReading}
 use Rattle.omission_texts.specs.declared.line.OmissionLine.{OmissionLine}
-use Rattle.policies.specs.declared.bounded.Bounded.{Bounded}
 use Rattle.schedule_text.specs.Readings.{IsReadingOf}
 use Rattle.schedule_text.specs.Texts.{Tail, max_text as max_schedule}
 use Rattle.schedule_text.specs.declared.kind.Kind.{Kind}
@@ -206,11 +208,17 @@ IsNotRun p s k events correct (refusal.Run fault) =
 IsNotRun p s k events correct refusal.NoMemory = ⊤
 IsNotRun p s k events correct _ = ⊥
 
--- why there is no run by threads: a number is past its limits, or else a thread couldn't be started
--- or was told what isn't recorded, of which nothing more is said
+-- a number of a run by threads is past its limits
 abbrev pub IsBadForThreads : ProgramTree → Setup → PlanKind → List Stop → Type 0
 IsBadForThreads p s k stops = ¬ (IsFitForThreads p.values s stops × IsPlan k)
 
+-- why no run by threads begins: that is the one cause
+abbrev pub IsUnfitForThreads : ProgramTree → Setup → PlanKind → List Stop → Refusal → Type 0
+IsUnfitForThreads p s k stops (refusal.Run run.BadSetup) = IsBadForThreads p s k stops
+IsUnfitForThreads p s k stops _ = ⊥
+
+-- why there is no run by threads: none begins, or a thread couldn't be started or was told what
+-- isn't recorded, of which nothing more is said
 abbrev pub IsNotThreaded : ProgramTree → Setup → PlanKind → List Stop → Refusal → Type 0
 IsNotThreaded p s k stops (refusal.Run run.BadSetup) = IsBadForThreads p s k stops
 IsNotThreaded p s k stops (refusal.Run run.NoThread) = ¬ (IsBadForThreads p s k stops)
@@ -218,11 +226,15 @@ IsNotThreaded p s k stops (refusal.Run run.Unmatched) = ¬ (IsBadForThreads p s 
 IsNotThreaded p s k stops refusal.NoMemory = ⊤
 IsNotThreaded p s k stops _ = ⊥
 
--- why there is no run in lockstep: a number or a table is past its limits
-abbrev pub IsNotMade : ProgramTree → Setup → PlanKind → List ℕ → Bounded → Refusal → Type 0
-IsNotMade p s k list b (refusal.Run run.BadSetup) = ¬ (AreTerms p s list b × IsPlan k)
-IsNotMade p s k list b refusal.NoMemory = ⊤
-IsNotMade p s k list b _ = ⊥
+-- why there is no run in lockstep: a number or a table is past its limits, or a stop or a delay
+-- isn't one that the run may have; or else this is the first line that names no message of the run
+abbrev pub IsNotMade : ProgramTree → Setup → PlanKind → List OmissionLine → Terms → Refusal → Type 0
+IsNotMade p s k ls t (refusal.Run run.BadSetup) =
+    ¬ (AreTerms p s t × AreFitChanges (start_of k s.nodes) s ls t × IsPlan k)
+IsNotMade p s k ls t (refusal.Run (run.UnknownMessage n)) =
+    IsLawful p.values s × All (λ i. i < s.nodes) t.correct × IsPlan k × IsFirstUnknown s ls (Some n)
+IsNotMade p s k ls t refusal.NoMemory = ⊤
+IsNotMade p s k ls t _ = ⊥
 
 -- why nothing is made of omissions: a number is past its limits, or else this is the first line
 -- that names no message of the run
@@ -245,6 +257,13 @@ IsNotExplored p s k e (refusal.Condition fault) =
     IsExplorable p s e × IsPlan k × IsFaultFor p e.always fault
 IsNotExplored p s k e refusal.NoMemory = ⊤
 IsNotExplored p s k e _ = ⊥
+
+-- all runs are gone through: the numbers are within their limits, and EXPR is a condition
+pub record IsExplored (p : ProgramTree) (s : Setup) (k : PlanKind) (e : Exploring) : Type 0 where
+  pub explorable : IsExplorable p s e
+  pub plan : IsPlan k
+  pub condition : Option Tree
+  pub is_condition : IsConditionFor p e.always condition
 
 -- why a program isn't run under a text of a kind
 abbrev pub Later : Kind → Type 1
@@ -279,15 +298,15 @@ IsUnanswered source files file correct r =
     IsRefusedInTurn kinds.Schedule (λ p s k events r. IsNotRun p s k events correct r)
     source files file r
 
--- why no schedule of a run in lockstep is made under the header in a file
-abbrev pub IsUnmade : Source → Files → Option (List ℕ) → List ℕ → Bounded → Refusal → Type 0
-IsUnmade source files file list b r =
-    IsRefusedInTurn kinds.Header (λ p s k _ r. IsNotMade p s k list b r) source files file r
-
 -- why a source isn't run by threads under the setup in a file
 abbrev pub IsUnthreaded : Source → Files → Option (List ℕ) → Refusal → Type 0
 IsUnthreaded source files file r =
     IsRefusedInTurn kinds.Threads (λ p s k t r. IsNotThreaded p s k t.1 r) source files file r
+
+-- why a source isn't fit to be run by threads under the setup in a file
+abbrev pub IsUnfit : Source → Files → Option (List ℕ) → Refusal → Type 0
+IsUnfit source files file r =
+    IsRefusedInTurn kinds.Threads (λ p s k t r. IsUnfitForThreads p s k t.1 r) source files file r
 
 -- why not all runs are gone through under the header in a file
 abbrev pub IsUnexplored : Source → Files → Option (List ℕ) → Exploring → Refusal → Type 0
@@ -325,12 +344,49 @@ IsUnrealised source files header omissions r =
     ⊎ ((IsOpened source files × HasHeader header × HasNoOmissions omissions r)
     ⊎ (IsOpened source files × IsRefusedOmitting source files header omissions r)))
 
+-- why the file of this name says no omissions; without a name there is nothing to refuse
+abbrev pub HasNoLines : Files → Option (Bor (List ℕ)) → Refusal → Type 0
+HasNoLines files None r = ⊥
+HasNoLines files (Some name) r = HasNoOmissions (files name.now) r
+
+-- a header and omissions are there, and there is no program for them
+abbrev pub IsUnofferedPaced : Source → Files → (header : Option (List ℕ))
+    → (omissions : Option (Bor (List ℕ))) → Refusal → Type 0
+IsUnofferedPaced source files header omissions r =
+    (s : Setup) × (k : PlanKind) × (ls : List OmissionLine)
+    × IfSome header (λ held. IsHeader held s k) × SaysLines files omissions ls
+    × IsNotOffered source s.nodes s.faults r
+
+-- why a source, a header and omissions aren't all there: first the source's file, then the header's
+-- text, then that of the omissions, then the library
+abbrev pub IsUnasked : Source → Files → (header : Option (List ℕ))
+    → (omissions : Option (Bor (List ℕ))) → Refusal → Type 0
+IsUnasked source files header omissions r =
+    IsNotOpened source files r
+    ⊎ ((IsOpened source files × IsMissing kinds.Header header r)
+    ⊎ ((IsOpened source files × HasHeader header × HasNoLines files omissions r)
+    ⊎ (IsOpened source files × IsUnofferedPaced source files header omissions r)))
+
+-- why no schedule of a run in lockstep is made: for that, or else for the run
+abbrev pub IsUnmade : Source → Files → (header : Option (List ℕ))
+    → (omissions : Option (Bor (List ℕ))) → Terms → Refusal → Type 0
+IsUnmade source files header omissions t r =
+    IsUnasked source files header omissions r
+    ⊎ ((s : Setup) × (k : PlanKind) × (ls : List OmissionLine) × (p : ProgramTree)
+    × IsPaced source files header omissions p s k ls × IsNotMade p s k ls t r)
+
 -- a source is run by threads under the setup in a file
 abbrev pub StartsThreads : Source → Files → Option (List ℕ) → Type 0
 StartsThreads source files file =
     IsOpened source files × ((s : Setup) × (k : PlanKind) × (pace : Pace) × (stops : List Stop)
     × (p : ProgramTree) × IfSome file (λ held. IsThreadSetup held s k pace stops)
     × IsProgramOf source files s.nodes s.faults p × (¬ (IsBadForThreads p s k stops)))
+
+-- all runs of a source are gone through under the header in a file
+abbrev pub StartsSearch : Source → Files → Option (List ℕ) → Exploring → Type 0
+StartsSearch source files file e =
+    (s : Setup) × (k : PlanKind) × (p : ProgramTree) × IfSome file (λ held. IsHeader held s k)
+    × IsProgramOf source files s.nodes s.faults p × IsExplored p s k e
 
 -- why a source isn't checked
 abbrev pub IsUnchecked : Source → Files → Refusal → Type 0
@@ -344,9 +400,9 @@ IsUnserved (Threads source setup trace told) files r =
     IsUnthreaded source files (files setup.now) r
 IsUnserved (Judge source schedule correct delta gst) files r =
     IsUnanswered source files (files schedule.now) correct.items r
-IsUnserved (Lockstep source header correct delta gst delays orders ticks) files r =
-    IsUnmade source files (files header.now) correct.items
-    (record { delta = delta; gst = gst; delays = delays.items; orders = orders.items }) r
+IsUnserved (Lockstep source header correct delta gst delays orders ticks changes) files r =
+    IsUnmade source files (files header.now) changes.omissions
+    (terms_by correct delta gst delays orders ticks changes) r
 IsUnserved (Realise source header omissions) files r =
     IsUnrealised source files (files header.now) (files omissions.now) r
 IsUnserved (Rounds source header omissions told) files r =
@@ -359,9 +415,19 @@ abbrev pub IsThreaded : Words → Files → Type 0
 IsThreaded (Threads source setup trace told) files = StartsThreads source files (files setup.now)
 IsThreaded _ files = ⊥
 
--- `out` doesn't take what the command prints, or the desk not the trace of `threads`
+-- The desk doesn't take the trace of a search, or that is a file that the command reads. So much is
+-- found out before the search begins, where there is one to begin.
+abbrev pub IsUntraced : Source → Files → Option (List ℕ) → Exploring → Type 0
+IsUntraced source files file e = IsSome e.trace × StartsSearch source files file e
+
+-- `out` doesn't take what the command prints, or the desk not its trace. Where the trace is a file
+-- that can't be opened or that the command reads, threads and a search don't begin.
 abbrev pub IsUnwritten : Words → Files → Type 0
 IsUnwritten (Threads source setup trace told) files = StartsThreads source files (files setup.now)
+IsUnwritten (Explore source header exploring) files =
+    IsUntraced source files (files header.now) exploring
+    ⊎ ((after : Files) × (text : List ℕ)
+    × Prints (Explore source header exploring) files after text)
 IsUnwritten w files = (after : Files) × (text : List ℕ) × Prints w files after text
 
 -- and last, that something isn't written, or that the thread of a node had no memory

@@ -1,14 +1,14 @@
 -- What the program writes, as a relation of its words to the files on the desk.
 use Rattle.std.specs.Borrow.{Bor}
 use Rattle.std.specs.Prelude.{◌≡◌, ◌++◌, ◌⊎◌, ⊤, ℕ, Bool, List, None, Option, Some, IfSome}
-use Rattle.std.specs.Prelude.{codes, length, true}
+use Rattle.std.specs.Prelude.{[], codes, length, true}
+use Rattle.std.specs.Global.{Vec}
 use Rattle.std.specs.Prelude.{if◌then◌else◌}
 use Rattle.std.specs.Fmt.{decimal}
 use Rattle.std.specs.Io.KnownBytes.{Appends}
 use Rattle.std.specs.Str.{bytes_eq}
 use Rattle.omission_texts.specs.Texts.{Says as SaysOmissions}
 use Rattle.omission_texts.specs.declared.line.OmissionLine.{OmissionLine}
-use Rattle.policies.specs.declared.bounded.Bounded.{Bounded}
 use Rattle.schedule_text.specs.Texts.{SaysOf, Tail, max_text as max_schedule}
 use Rattle.schedule_text.specs.declared.kind.Kind.{Kind}
 use Rattle.schedule_text.specs.declared.kind.Kind.TheVariants as kinds
@@ -25,6 +25,7 @@ use Rattle.command_runs.specs.declared.sources.Opened.{Opened}
 use Rattle.command_runs.specs.declared.sources.Opened.TheVariants as opened
 use Rattle.command_runs.specs.ByThreads.{IsThreadRun}
 use Rattle.command_runs.specs.Explained.{IsReportOf, IsVerdictOf}
+use Rattle.command_runs.specs.InChanges.{Terms}
 use Rattle.command_runs.specs.InLockstep.{IsLockstepText, IsWritten}
 use Rattle.command_runs.specs.InOmissions.{ShowsOmitting, realised_by}
 use Rattle.command_runs.specs.InRounds.{IsFound, ShowsFailure, outcome_of}
@@ -35,6 +36,7 @@ use Rattle.clap.specs.Words.{IsAmong, fault_of}
 use Rattle.clap.specs.declared.error.ErrorKind.TheVariants as kind
 use Rattle.command_words.specs.Commands.{roundc_app}
 use Rattle.command_words.specs.Given.{Means}
+use Rattle.command_words.specs.declared.changes.Changes.{Changes}
 use Rattle.command_words.specs.declared.exploring.Exploring.{Exploring}
 use Rattle.command_words.specs.declared.values.Source.{Source}
 use Rattle.command_words.specs.declared.values.Source.TheVariants.{File, Library}
@@ -141,13 +143,27 @@ JudgesRun source files file correct delta gst verdict =
     × IsSchedule text s k events × IsProgramOf source files s.nodes s.faults p
     × IsVerdictOf (start_of k s.nodes) (receives_of k) p s events correct delta gst verdict)
 
--- the text is the schedule of a run in lockstep, of the source's program under the header in a file
-abbrev pub MakesLockstep : Source → Files → Option (List ℕ) → List ℕ → Bounded → Option ℕ → List ℕ
-    → Type 0
-MakesLockstep source files file list b asked made =
-    IfSome file (λ text. (s : Setup) × (k : PlanKind) × (p : ProgramTree) × IsHeader text s k
-    × IsProgramOf source files s.nodes s.faults p
-    × IsLockstepText (start_of k s.nodes) p s k list b asked made)
+-- the lines of the file of this name; without a name there are none
+abbrev pub SaysLines : Files → Option (Bor (List ℕ)) → List OmissionLine → Type 0
+SaysLines files None ls = ls ≡ []
+SaysLines files (Some name) ls = IfSome (files name.now) (λ text. IsOmissionText text ls)
+
+-- the source's program, the header in a file, and the omissions in another, if that has a name
+pub record IsPaced (source : Source) (files : Files) (header_file : Option (List ℕ))
+    (omission_name : Option (Bor (List ℕ))) (p : ProgramTree) (s : Setup) (k : PlanKind)
+    (ls : List OmissionLine) : Type 0 where
+  pub header : IfSome header_file (λ text. IsHeader text s k)
+  pub omissions : SaysLines files omission_name ls
+  pub program : IsProgramOf source files s.nodes s.faults p
+
+-- the text is the schedule of a run in lockstep, of the source's program under the header in a
+-- file, with the omissions in another, if that has a name
+abbrev pub MakesLockstep : Source → Files → (header : Option (List ℕ))
+    → (omissions : Option (Bor (List ℕ))) → Terms → List ℕ → Type 0
+MakesLockstep source files header omissions t made =
+    (s : Setup) × (k : PlanKind) × (ls : List OmissionLine) × (p : ProgramTree)
+    × IsPaced source files header omissions p s k ls
+    × IsLockstepText (start_of k s.nodes) p s k ls t made
 
 -- the source's program, the header in one file, and the omissions in another
 pub record IsAsked (source : Source) (files : Files) (header_file omission_file : Option (List ℕ))
@@ -229,6 +245,17 @@ abbrev pub answer_text : Answer → List ℕ
 answer_text (answer.Report report told) = told_text report told
 answer_text (answer.Verdict verdict) = verdict_text verdict ++ codes "\n"
 
+-- the terms of a run in lockstep by its words
+abbrev pub terms_by : (correct : Vec ℕ) → (delta gst : ℕ) → (delays orders : Vec ℕ) → Option ℕ
+    → Changes → Terms
+terms_by correct delta gst delays orders ticks changes = record {
+  correct = correct.items;
+  bounded = record { delta = delta; gst = gst; delays = delays.items; orders = orders.items };
+  ticks = ticks;
+  stops = changes.stops.items;
+  delays = changes.delays.items;
+}
+
 -- what a command prints, where these are the files before it and after it; a program is checked as
 -- for one node without faults
 abbrev pub Prints : Words → (files after : Files) → List ℕ → Type 0
@@ -245,9 +272,9 @@ Prints (Judge source schedule correct delta gst) files after text =
     (verdict : Verdict)
     × JudgesRun source files (files schedule.now) correct.items delta gst verdict
     × (text ≡ verdict_text verdict ++ codes "\n")
-Prints (Lockstep source header correct delta gst delays orders ticks) files after text =
-    MakesLockstep source files (files header.now) correct.items
-    (record { delta = delta; gst = gst; delays = delays.items; orders = orders.items }) ticks text
+Prints (Lockstep source header correct delta gst delays orders ticks changes) files after text =
+    MakesLockstep source files (files header.now) changes.omissions
+    (terms_by correct delta gst delays orders ticks changes) text
 Prints (Realise source header omissions) files after text =
     RealisesOmissions source files (files header.now) (files omissions.now) text
 Prints (Rounds source header omissions told) files after text =

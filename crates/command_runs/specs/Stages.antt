@@ -8,13 +8,15 @@ use Rattle.std.specs.Str.{IsUtf8}
 use Rattle.adversary.specs.Driving.{IsUnknownAt}
 use Rattle.adversary.specs.Reading.{IsReadAs}
 use Rattle.adversary.specs.declared.fault.RunFault.TheVariants as run
-use Rattle.command_runs.specs.InLockstep.{AreTerms}
+use Rattle.command_runs.specs.InChanges.{Terms}
+use Rattle.command_runs.specs.InLockstep.{LockstepCause}
 use Rattle.command_runs.specs.InOmissions.{OmissionCause}
-use Rattle.command_runs.specs.Refused.{Fault, IsExplorable, IsNoOffer, IsUnanswered, IsUnmade}
-use Rattle.command_runs.specs.Refused.{IsUnthreaded}
+use Rattle.command_runs.specs.Refused.{Fault, IsBadForThreads, IsExplorable, IsExplored, IsNoOffer}
+use Rattle.command_runs.specs.Refused.{IsOpened as IsOpenedSource, IsUnanswered, IsUnexplored}
+use Rattle.command_runs.specs.Refused.{IsUnmade, IsUnthreaded, IsUntraced}
 use Rattle.command_runs.specs.Refused.{StartsThreads, fault_in, of_text, omission_fault}
-use Rattle.command_runs.specs.Served.{Answered, AnswersRun, MakesLockstep, ReportsThreads}
-use Rattle.command_runs.specs.Served.{answer_text, told_text}
+use Rattle.command_runs.specs.Served.{Answered, AnswersRun, IsHeader, IsProgramOf, IsThreadSetup}
+use Rattle.command_runs.specs.Served.{MakesLockstep, ReportsThreads, answer_text, told_text}
 use Rattle.command_runs.specs.Texts.{Files}
 use Rattle.schedule_text.specs.Bytes.{BeginsUtf8}
 use Rattle.command_runs.specs.declared.asking.Answer.{Answer as RunAnswer}
@@ -33,7 +35,6 @@ use Rattle.exploration_texts.specs.declared.condition.ConditionFault.TheVariants
 use Rattle.node_threads.specs.Ends.{IsFitForThreads}
 use Rattle.omission_texts.specs.Texts.{Says as SaysOmissions}
 use Rattle.omission_texts.specs.declared.line.OmissionLine.{OmissionLine}
-use Rattle.policies.specs.declared.bounded.Bounded.{Bounded}
 use Rattle.omission_explainer.specs.declared.report.Report.{Report}
 use Rattle.round_check.specs.Causes.{fault_of, is_typed}
 use Rattle.round_lang.specs.Limits.{max_text}
@@ -170,23 +171,26 @@ TellsAnswer source files file q old new =
     (a : RunAnswer) × AnswersRun source files file q a × Appends old new (answer_text a)
 
 -- `out` gained the schedule of a run in lockstep
-abbrev pub TellsLockstep : Source → Files → Option (List ℕ) → List ℕ → Bounded → Option ℕ
-    → Option (List ℕ) → Option (List ℕ) → Type 0
-TellsLockstep source files file list b asked old new =
-    (made : List ℕ) × MakesLockstep source files file list b asked made × Appends old new made
+abbrev pub TellsLockstep : Source → Files → (header : Option (List ℕ))
+    → (omissions : Option (Bor (List ℕ))) → Terms → (old new : Option (List ℕ)) → Type 0
+TellsLockstep source files header omissions t old new =
+    (made : List ℕ) × MakesLockstep source files header omissions t made × Appends old new made
 
 -- why it isn't told
-abbrev pub IsRefusedLockstep : Source → Files → Option (List ℕ) → List ℕ → Bounded → Option ℕ
-    → Refusal → Type 0
-IsRefusedLockstep source files file list b asked refusal.Write =
-    (made : List ℕ) × MakesLockstep source files file list b asked made
-IsRefusedLockstep source files file list b asked r = IsUnmade source files file list b r
+abbrev pub IsRefusedLockstep : Source → Files → (header : Option (List ℕ))
+    → (omissions : Option (Bor (List ℕ))) → Terms → Refusal → Type 0
+IsRefusedLockstep source files header omissions t refusal.Write =
+    (made : List ℕ) × MakesLockstep source files header omissions t made
+IsRefusedLockstep source files header omissions t r =
+    IsUnmade source files header omissions t r
 
 -- why there is no run in lockstep under a plan
-abbrev pub IsNotMadeAs : ProgramTree → Setup → List ℕ → Bounded → Refusal → Type 0
-IsNotMadeAs p s list b (refusal.Run run.BadSetup) = ¬ (AreTerms p s list b)
-IsNotMadeAs p s list b refusal.NoMemory = ⊤
-IsNotMadeAs p s list b _ = ⊥
+abbrev pub IsNotMadeAs : (start : ℕ → ℕ) → ProgramTree → Setup → List OmissionLine → Terms
+    → Refusal → Type 0
+IsNotMadeAs start p s ls t (refusal.Run run.NoMemory) = ⊥
+IsNotMadeAs start p s ls t (refusal.Run fault) = LockstepCause start p s ls t fault
+IsNotMadeAs start p s ls t refusal.NoMemory = ⊤
+IsNotMadeAs start p s ls t _ = ⊥
 
 -- why not all runs are gone through under a plan
 abbrev pub IsNotExploredAs : ProgramTree → Setup → Exploring → Refusal → Type 0
@@ -217,6 +221,33 @@ IsNotThreadedAs p s stops (refusal.Run run.Unmatched) = ¬ ¬ (IsFitForThreads p
 IsNotThreadedAs p s stops refusal.NoMemory = ⊤
 IsNotThreadedAs p s stops _ = ⊥
 
+-- the program and the setup of a run by threads, which fit each other
+pub record AreReady (source : Source) (files : Files) (file : Option (List ℕ)) (p : ProgramTree)
+    (t : ThreadSetup) : Type 0 where
+  pub opened : IsOpenedSource source files
+  pub read : IfSome file (λ text. IsThreadSetup text t.setup t.plan t.pace t.stops.items)
+  pub program : IsProgramOf source files t.setup.nodes t.setup.faults p
+  pub fit : ¬ (IsBadForThreads p t.setup t.plan t.stops.items)
+
+-- the refusals of a run whose threads were to start
+abbrev pub IsAfterStart : Refusal → Type 0
+IsAfterStart (refusal.Run run.NoThread) = ⊤
+IsAfterStart (refusal.Run run.Unmatched) = ⊤
+IsAfterStart _ = ⊥
+
+-- the program and the header of a search that begins
+pub record AreSearchable (source : Source) (files : Files) (file : Option (List ℕ)) (e : Exploring)
+    (p : ProgramTree) (s : Setup) (k : PlanKind) : Type 0 where
+  pub opened : IsOpenedSource source files
+  pub read : IfSome file (λ text. IsHeader text s k)
+  pub program : IsProgramOf source files s.nodes s.faults p
+  pub explored : IsExplored p s k e
+
+-- why what is found in all runs isn't told
+abbrev pub IsRefusedSearch : Source → Files → Option (List ℕ) → Exploring → Refusal → Type 0
+IsRefusedSearch source files file e refusal.Write = IsUntraced source files file e
+IsRefusedSearch source files file e r = IsUnexplored source files file e r
+
 -- `out` gained the report of a run by threads, and the other file has its trace
 abbrev pub TellsThreads : Source → Files → (file after : Option (List ℕ)) → Bool
     → (old new : Option (List ℕ)) → Type 0
@@ -224,7 +255,7 @@ TellsThreads source files file after told old new =
     (report : Report) × ReportsThreads source files file after report
     × Appends old new (told_text report told)
 
--- why it isn't told
+-- why the report of a run by threads isn't told
 abbrev pub IsRefusedThreads : Source → Files → Option (List ℕ) → Refusal → Type 0
 IsRefusedThreads source files file refusal.Write = StartsThreads source files file
 IsRefusedThreads source files file refusal.NodeNoMemory = StartsThreads source files file

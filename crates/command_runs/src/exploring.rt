@@ -1,22 +1,29 @@
 //! What is found by going through all runs in rounds.
-ghost use Rattle.std.specs.Prelude.{◌≡◌, ◌↔◌, All, IfErr, IfOk, IsTrue, option_map, string_bytes};
+ghost use Rattle.std.specs.Prelude.{◌≡◌, ◌↔◌, All, IfErr, IfOk, IsTrue, OnOk, option_map};
+ghost use Rattle.std.specs.Prelude.{string_bytes};
+ghost use Rattle.command_runs.specs.Apart.{IsApartIfNamed};
 ghost use Rattle.command_runs.specs.InRounds.{IsFound, IsMade, IsShown, IsTrace, ShowsFirst};
 ghost use Rattle.command_runs.specs.InRounds.{trace_of};
-ghost use Rattle.command_runs.specs.Refused.{IsExplorable, IsNotExplored, IsUnexplored};
+ghost use Rattle.command_runs.specs.Refused.{IsExplorable, IsExplored, IsNotExplored, IsUnexplored};
 ghost use Rattle.command_runs.specs.Served.{FindsIn, receives_of, start_of};
-ghost use Rattle.command_runs.specs.Stages.{IsNotExploredAs};
+ghost use Rattle.command_runs.specs.Stages.{AreSearchable, IsNotExploredAs, IsRefusedSearch};
 ghost use Rattle.exploration_texts.specs.Stops.{IsShowable, IsToldToShow};
 ghost use Rattle.round_meaning.specs.Setups.{IsSetup};
 
 use crate::desk::Desk;
+use crate::limits::is_plan;
 use crate::lockstep::header_in;
 use crate::refusal::Refusal;
 use crate::sources::Opened;
+use crate::traces::try_trace_if_named;
 use adversary::RunFault;
 use command_words::{Exploring, Source};
-use exploration_texts::{Failed, Told, answer_all, commented, first_failure, stops_of};
+use exploration_texts::{
+    Failed, Told, answer_all, commented, first_failure, read_condition, stops_of,
+};
 use omission_schedules::schedule_with_stops;
 use round_check::Checked;
+use round_explorer::Watch;
 use round_lang::NoMemory;
 use round_meaning::Setup;
 use schedule_text::write_stored_schedule;
@@ -40,12 +47,33 @@ pub struct Found {
 }
 
 impl<'a> Exploration<'a> {
-    /// Goes through all runs.
+    /// Goes through all runs, once the file of the trace was tried.
     pub fn find<D: Desk>(&self, alloc: Global, desk: &mut D) -> Result<Found, Refusal>
         ensures found { IfOk result (FindsIn self.now.source (D.files desk.old)
             (D.files desk.old self.now.header.now) self.now.exploring) }
         ensures made { IfOk result (λ found.
             IsMade self.now.exploring.trace found.told.items (trace_of found)) }
+        ensures apart { OnOk result (IsApartIfNamed self.now.exploring.trace self.now.source
+            self.now.header.now) }
+        ensures refused { IfErr result (IsRefusedSearch self.now.source (D.files desk.old)
+            (D.files desk.old self.now.header.now) self.now.exploring) }
+        ensures written { D.written desk.new ≡ D.written desk.old }
+    {
+        let (program, setup, plan) = self.read(alloc, desk)?;
+        try_trace_if_named(self.exploring.trace, self.source, self.header, desk)?;
+        let watch = desk.watch();
+        found_by(alloc, &program, &setup, plan, &self.exploring, &watch)
+    }
+
+    /// The program, the setup and the plan, whose numbers are within their limits; and EXPR is a
+    /// condition.
+    fn read<D: Desk>(
+        &self,
+        alloc: Global,
+        desk: &mut D,
+    ) -> Result<(Checked, Setup, PlanKind), Refusal>
+        ensures searchable { IfOk result (λ o. AreSearchable self.now.source (D.files desk.old)
+            (D.files desk.old self.now.header.now) self.now.exploring o.0 o.1 o.2) }
         ensures refused { IfErr result (IsUnexplored self.now.source (D.files desk.old)
             (D.files desk.old self.now.header.now) self.now.exploring) }
         ensures written { D.written desk.new ≡ D.written desk.old }
@@ -53,18 +81,44 @@ impl<'a> Exploration<'a> {
         let opened = Opened::open(alloc, self.source, desk)?;
         let (setup, plan) = header_in(alloc, self.header, desk)?;
         let program = opened.program(alloc, setup.nodes, setup.faults)?;
-        found_by(alloc, &program, &setup, plan, &self.exploring)
+        check_asked(alloc, &program, &setup, plan, &self.exploring)?;
+        Ok((program, setup, plan))
     }
 }
 
-/// What is found under a plan of this name.
-fn found_by(
+/// Refuses numbers that are past their limits, and then an EXPR that is no condition.
+fn check_asked(
     alloc: Global,
     program: &Checked,
     setup: &Setup,
     kind: PlanKind,
     exploring: &Exploring<'_>,
+) -> Result<(), Refusal>
+    ensures explored { OnOk result (IsExplored program.now setup.now kind exploring.now) }
+    ensures refused { IfErr result (IsNotExplored program.now setup.now kind exploring.now) }
+{
+    if !is_explorable(program, setup, exploring) || !is_plan(kind) {
+        return Err(Refusal::Run(RunFault::BadSetup));
+    }
+    match exploring.always {
+        Some(text) => {
+            read_condition(alloc, program, text)?;
+            Ok(())
+        }
+        None => Ok(()),
+    }
+}
+
+/// What is found under a plan of this name.
+fn found_by<W: Watch>(
+    alloc: Global,
+    program: &Checked,
+    setup: &Setup,
+    kind: PlanKind,
+    exploring: &Exploring<'_>,
+    watch: &W,
 ) -> Result<Found, Refusal>
+    requires { IsExplorable program.now setup.now exploring.now }
     ensures found { IfOk result (IsFound (receives_of kind) (start_of kind setup.now.nodes)
         program.now setup.now kind exploring.now) }
     ensures made { IfOk result (λ found.
@@ -73,35 +127,34 @@ fn found_by(
 {
     match kind {
         PlanKind::Known(delta) => match Known::new(setup.nodes, delta) {
-            Some(plan) => found_under(alloc, program, setup, kind, plan, exploring),
+            Some(plan) => found_under(alloc, program, setup, kind, plan, exploring, watch),
             None => Err(Refusal::Run(RunFault::BadSetup)),
         },
         PlanKind::Growing => match Growing::new(setup.nodes) {
-            Some(plan) => found_under(alloc, program, setup, kind, plan, exploring),
+            Some(plan) => found_under(alloc, program, setup, kind, plan, exploring, watch),
             None => Err(Refusal::Run(RunFault::BadSetup)),
         },
     }
 }
 
-fn found_under<P: Plan>(
+fn found_under<P: Plan, W: Watch>(
     alloc: Global,
     program: &Checked,
     setup: &Setup,
     kind: PlanKind,
     plan: P,
     exploring: &Exploring<'_>,
+    watch: &W,
 ) -> Result<Found, Refusal>
-    requires { P.nodes plan ≡ setup.now.nodes }
+    requires nodes { P.nodes plan ≡ setup.now.nodes }
+    requires explorable { IsExplorable program.now setup.now exploring.now }
     ensures found { IfOk result (IsFound (P.receives plan) (P.start plan) program.now setup.now kind
         exploring.now) }
     ensures made { IfOk result (λ found.
         IsMade exploring.now.trace found.told.items (trace_of found)) }
     ensures refused { IfErr result (IsNotExploredAs program.now setup.now exploring.now) }
 {
-    if !is_explorable(program, setup, exploring) {
-        return Err(Refusal::Run(RunFault::BadSetup));
-    }
-    let told = answer_all(alloc, program, setup, exploring)?;
+    let told = answer_all(alloc, program, setup, exploring, watch)?;
     let trace = trace_for(alloc, setup, kind, plan, exploring.trace, &told)?;
     Ok(Found { told, trace })
 }

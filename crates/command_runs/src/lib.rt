@@ -2,9 +2,11 @@
 #![tactic(auto)]
 
 mod asking;
+mod changes;
 mod desk;
 mod explained;
 mod exploring;
+mod idle;
 mod laws;
 mod limits;
 mod lockstep;
@@ -16,17 +18,21 @@ mod run;
 mod sources;
 mod texts;
 mod threads;
+mod traces;
 mod written;
 
 pub use desk::{Desk, DeskFault};
 pub use explained::{Terms, explained_run, judged_run};
+pub use idle::{IdleTicks, PacedSchedule};
 pub use laws::{one_report, runs_report_rounds, yes_is_of_every_report};
 pub use limits::limits_agree;
-pub use lockstep::{Pacing, lockstep_text};
+pub use lockstep::{Pacing, lockstep_schedule};
 pub use memory_desk::{MemoryDesk, MemoryFile};
 pub use omitting::{realised_schedule, rounds_omitting};
+pub use outcome::Outcome;
 pub use refusal::Refusal;
-pub use run::run_words;
+pub use round_explorer::{Progress, Unwatched, Watch};
+pub use run::{run_words, serve};
 pub use schedule_text::{SourceFault, TextSource};
 pub use threads::{ThreadRun, explained_threads};
 pub use written::Written;

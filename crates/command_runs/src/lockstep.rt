@@ -1,21 +1,27 @@
 //! The schedule of a run in lockstep.
-ghost use Rattle.std.specs.Prelude.{◌≡◌, ◌≤◌, ◌⊎◌, ◌↔◌, ℕ, Err, IfErr, IfOk, IfSome, List};
-ghost use Rattle.std.specs.Prelude.{string_bytes};
-ghost use Rattle.command_runs.specs.InLockstep.{AreTerms, IsLockstepText, ticks_of};
-ghost use Rattle.command_runs.specs.Refused.{IsMissing, IsNotMade, IsUnmade};
-ghost use Rattle.command_runs.specs.Served.{IsHeader, MakesLockstep, start_of};
+ghost use Rattle.std.specs.Prelude.{◌≡◌, ◌≤◌, ℕ, All, IfErr, IfOk, IfSome, List};
+ghost use Rattle.command_runs.specs.IdleTexts.{IsReady, schedule_text};
+ghost use Rattle.command_runs.specs.InChanges.{AreFitChanges, terms_of};
+ghost use Rattle.command_runs.specs.InLockstep.{AreTerms, IsLockstepText, LockstepCause, ticks_of};
+ghost use Rattle.command_runs.specs.Refused.{IsMissing, IsNotMade, IsUnasked, IsUnmade};
+ghost use Rattle.command_runs.specs.Served.{IsHeader, IsPaced, MakesLockstep, start_of};
 ghost use Rattle.command_runs.specs.Stages.{IsHeaderIn, IsNoReadIn, IsNotMadeAs};
+ghost use Rattle.omission_texts.specs.Meaning.{IsKnown};
 ghost use Rattle.round_meaning.specs.Setups.{max_rounds};
 ghost use Rattle.schedule_text.specs.declared.kind.Kind.TheVariants as kinds;
 
+use crate::changes::changes_of;
 use crate::desk::Desk;
 use crate::explained::nodes_in;
+use crate::idle::{IdleTicks, PacedSchedule};
+use crate::omitting::{Asked, lines_in};
 use crate::refusal::Refusal;
 use crate::sources::Opened;
 use crate::texts::Text;
 use adversary::{MAX_TEXT, RunFault, ScheduleFault, read_header};
-use command_words::Source;
-use lockstep_runs::run_lockstep;
+use command_words::{NodeStop, OwnDelay, Source};
+use lockstep_runs::{Course, run_until_idle};
+use omission_texts::Omissions;
 use policies::Bounded;
 use round_check::Checked;
 use round_meaning::Setup;
@@ -25,41 +31,64 @@ use slot_plans::{Growing, Known, Plan, PlanKind};
 use std::alloc::Global;
 
 /// What a run in lockstep is made by: the correct nodes, the delays of the messages and the orders
-/// of the steps, and the number of ticks; `None` stands for as many as all rounds have steps.
+/// of the steps, the number of ticks, the stops of other nodes and the delays of single messages.
+/// `None` stands for as many ticks as all rounds have steps.
 #[derive(Clone, Copy)]
 pub struct Pacing<'a> {
     pub correct: &'a [u32],
     pub bounded: &'a Bounded,
     pub ticks: Option<u32>,
+    pub stops: &'a [NodeStop],
+    pub delays: &'a [OwnDelay],
 }
 
-/// A source and the file of a header.
+/// A source, the file of a header, and that of omissions if there are any.
 #[derive(Clone, Copy)]
 pub struct Paced<'a> {
     pub source: Source<'a>,
     pub header: &'a str,
+    pub omissions: Option<&'a str>,
 }
 
 impl<'a> Paced<'a> {
-    /// The text of the schedule.
-    pub fn schedule<D: Desk>(
+    /// The schedule.
+    pub fn schedule<'p, D: Desk>(
         &self,
         alloc: Global,
-        pacing: Pacing<'_>,
+        pacing: Pacing<'p>,
         desk: &mut D,
-    ) -> Result<String, Refusal>
-        ensures made { IfOk result (λ text. MakesLockstep self.now.source (D.files desk.old)
-            (D.files desk.old self.now.header.now) pacing.entry.correct.now
-            pacing.entry.bounded.now pacing.entry.ticks (string_bytes text)) }
+    ) -> Result<PacedSchedule<'p>, Refusal>
+        ensures made { IfOk result (λ made. MakesLockstep self.now.source (D.files desk.old)
+            (D.files desk.old self.now.header.now) self.now.omissions (terms_of pacing.entry)
+            (schedule_text made)) }
+        ensures ready { IfOk result (λ made. IsReady made.idle) }
         ensures refused { IfErr result (IsUnmade self.now.source (D.files desk.old)
-            (D.files desk.old self.now.header.now) pacing.entry.correct.now
-            pacing.entry.bounded.now) }
+            (D.files desk.old self.now.header.now) self.now.omissions (terms_of pacing.entry)) }
+        ensures written { D.written desk.new ≡ D.written desk.old }
+    {
+        let asked = self.ask(alloc, desk)?;
+        schedule_by(alloc, &asked, pacing)
+    }
+
+    /// Reads what the files say.
+    fn ask<D: Desk>(&self, alloc: Global, desk: &mut D) -> Result<Asked, Refusal>
+        ensures asked { IfOk result (λ a. IsPaced self.now.source (D.files desk.old)
+            (D.files desk.old self.now.header.now) self.now.omissions
+            a.program a.setup a.plan a.omissions) }
+        ensures refused { IfErr result (IsUnasked self.now.source (D.files desk.old)
+            (D.files desk.old self.now.header.now) self.now.omissions) }
         ensures written { D.written desk.new ≡ D.written desk.old }
     {
         let opened = Opened::open(alloc, self.source, desk)?;
         let (setup, plan) = header_in(alloc, self.header, desk)?;
+        let omissions = lines_in(alloc, self.omissions, desk)?;
         let program = opened.program(alloc, setup.nodes, setup.faults)?;
-        text_by(alloc, &program, &setup, plan, pacing)
+        Ok(Asked {
+            program,
+            setup,
+            plan,
+            omissions,
+        })
     }
 }
 
@@ -96,71 +125,82 @@ fn header_of(alloc: Global, text: Text) -> Result<(Setup, PlanKind), Refusal>
     }
 }
 
-/// The text of the schedule under its plan.
-fn text_by(
+/// The schedule under its plan.
+fn schedule_by<'p>(
     alloc: Global,
-    program: &Checked,
-    setup: &Setup,
-    kind: PlanKind,
-    pacing: Pacing<'_>,
-) -> Result<String, Refusal>
-    ensures made { IfOk result (λ text. IsLockstepText (start_of kind setup.now.nodes) program.now
-        setup.now kind pacing.entry.correct.now pacing.entry.bounded.now pacing.entry.ticks
-        (string_bytes text)) }
-    ensures refused { IfErr result (IsNotMade program.now setup.now kind pacing.entry.correct.now
-        pacing.entry.bounded.now) }
+    asked: &Asked,
+    pacing: Pacing<'p>,
+) -> Result<PacedSchedule<'p>, Refusal>
+    ensures made { let s = asked.now.setup in let k = asked.now.plan in
+        IfOk result (λ made. IsLockstepText (start_of k s.nodes) asked.now.program s k
+        asked.now.omissions (terms_of pacing.entry) (schedule_text made)) }
+    ensures ready { IfOk result (λ made. IsReady made.idle) }
+    ensures refused { IfErr result (IsNotMade asked.now.program asked.now.setup asked.now.plan
+        asked.now.omissions (terms_of pacing.entry)) }
 {
-    match kind {
-        PlanKind::Known(delta) => match Known::new(setup.nodes, delta) {
-            Some(plan) => text_of(alloc, program, setup, kind, plan, pacing),
+    match asked.plan {
+        PlanKind::Known(delta) => match Known::new(asked.setup.nodes, delta) {
+            Some(plan) => schedule_under(alloc, asked, plan, pacing),
             None => Err(Refusal::Run(RunFault::BadSetup)),
         },
-        PlanKind::Growing => match Growing::new(setup.nodes) {
-            Some(plan) => text_of(alloc, program, setup, kind, plan, pacing),
+        PlanKind::Growing => match Growing::new(asked.setup.nodes) {
+            Some(plan) => schedule_under(alloc, asked, plan, pacing),
             None => Err(Refusal::Run(RunFault::BadSetup)),
         },
     }
 }
 
-fn text_of<P: Plan>(
+fn schedule_under<'p, P: Plan>(
     alloc: Global,
-    program: &Checked,
-    setup: &Setup,
-    kind: PlanKind,
+    asked: &Asked,
     plan: P,
-    pacing: Pacing<'_>,
-) -> Result<String, Refusal>
-    requires { P.nodes plan ≡ setup.now.nodes }
-    ensures made { IfOk result (λ text. IsLockstepText (P.start plan) program.now setup.now kind
-        pacing.entry.correct.now pacing.entry.bounded.now pacing.entry.ticks
-        (string_bytes text)) }
-    ensures refused { IfErr result (IsNotMadeAs program.now setup.now pacing.entry.correct.now
-        pacing.entry.bounded.now) }
+    pacing: Pacing<'p>,
+) -> Result<PacedSchedule<'p>, Refusal>
+    requires { P.nodes plan ≡ asked.now.setup.nodes }
+    ensures made { IfOk result (λ made. IsLockstepText (P.start plan) asked.now.program
+        asked.now.setup asked.now.plan asked.now.omissions (terms_of pacing.entry)
+        (schedule_text made)) }
+    ensures ready { IfOk result (λ made. IsReady made.idle) }
+    ensures refused { IfErr result (IsNotMadeAs (P.start plan) asked.now.program
+        asked.now.setup asked.now.omissions (terms_of pacing.entry)) }
 {
-    Ok(lockstep_text(alloc, program, setup, kind, plan, pacing)?)
+    let Asked {
+        program,
+        setup,
+        plan: kind,
+        omissions,
+    } = asked;
+    Ok(lockstep_schedule(alloc, program, setup, *kind, plan, omissions, pacing)?)
 }
 
-/// The text of the schedule of a run in which the listed nodes step in lockstep and the others take
-/// no step.
+/// The schedule of a run in which the listed nodes step in lockstep. A node with a stop steps with
+/// them until then, and any other takes no step. The messages that the lines omit are never
+/// released, and a message with a delay of its own is due by that one.
+///
+/// It takes no more memory for ticks in which nothing happens but idle steps.
 ///
 /// `BadSetup` is an unlawful setup, a node in the list that the setup hasn't, a bound outside its
-/// limits, or a table that is too long.
-pub fn lockstep_text<P: Plan>(
+/// limits, a table that is too long, a stop of a node in the list or of one that the setup hasn't,
+/// and a delay of a message that the run hasn't. `UnknownMessage` is a line that names no message
+/// of the run; it is told before all but the first two.
+pub fn lockstep_schedule<'p, P: Plan>(
     alloc: Global,
     program: &Checked,
     setup: &Setup,
     kind: PlanKind,
     plan: P,
-    pacing: Pacing<'_>,
-) -> Result<String, RunFault>
+    omissions: &Omissions,
+    pacing: Pacing<'p>,
+) -> Result<PacedSchedule<'p>, RunFault>
     requires { P.nodes plan ≡ setup.now.nodes }
-    ensures bad_setup { (result ≡ Err RunFault.BadSetup)
-        ↔ (AreTerms program.now setup.now pacing.entry.correct.now pacing.entry.bounded.now → ⊥) }
-    ensures cause { IfErr result (λ fault. (fault ≡ RunFault.NoMemory)
-        ⊎ (fault ≡ RunFault.BadSetup)) }
-    ensures made { IfOk result (λ text. IsLockstepText (P.start plan) program.now setup.now kind
-        pacing.entry.correct.now pacing.entry.bounded.now pacing.entry.ticks
-        (string_bytes text)) }
+    ensures fit { IfOk result (λ _made. ¬ ¬ (AreTerms program.now setup.now (terms_of pacing.entry)
+        × AreFitChanges (P.start plan) setup.now omissions.now (terms_of pacing.entry))) }
+    ensures known { IfOk result (λ _made. All (IsKnown setup.now) omissions.now) }
+    ensures cause { IfErr result (LockstepCause (P.start plan) program.now setup.now
+        omissions.now (terms_of pacing.entry)) }
+    ensures made { IfOk result (λ made. IsLockstepText (P.start plan) program.now setup.now kind
+        omissions.now (terms_of pacing.entry) (schedule_text made)) }
+    ensures ready { IfOk result (λ made. IsReady made.idle) }
 {
     if !setup.is_lawful(program) {
         return Err(RunFault::BadSetup);
@@ -168,11 +208,30 @@ pub fn lockstep_text<P: Plan>(
     let Some(correct) = nodes_in(pacing.correct, setup.nodes) else {
         return Err(RunFault::BadSetup);
     };
-    let ticks = ticks_of(plan, setup, pacing.ticks);
-    let journal = run_lockstep(alloc, program, setup, plan, correct, pacing.bounded, ticks)?;
-    journal.agrees();
+    if let Some(line) = omissions.unknown_line(setup) {
+        return Err(RunFault::UnknownMessage(line));
+    }
+    let changes = changes_of(alloc, setup, plan, omissions, pacing)?;
+    let bounded = pacing.bounded;
+    let course = Course {
+        correct,
+        bounded,
+        changes: &changes,
+    };
+    let after = ticks_of(plan, setup, pacing.ticks);
+    let (journal, first) = run_until_idle(alloc, program, setup, plan, &course, after)?;
     let text = write_stored_schedule(alloc, setup, kind, journal.book().trace())?;
-    Ok(text)
+    Ok(PacedSchedule {
+        text,
+        idle: IdleTicks {
+            correct,
+            bounded,
+            changes,
+            nodes: setup.nodes,
+            first,
+            after,
+        },
+    })
 }
 
 /// How many ticks there are.

@@ -3,9 +3,10 @@ ghost use Rattle.std.specs.Prelude.{◌≡◌, ℕ, List, All, IfErr, IfOk, IfSo
 ghost use Rattle.std.specs.List.{range_with_len};
 ghost use Rattle.command_runs.specs.InLockstep.{IsWritten};
 ghost use Rattle.command_runs.specs.InOmissions.{OmissionCause, ShowsOmitting, realised_by};
-ghost use Rattle.command_runs.specs.Refused.{HasNoOmissions, IsNotRealised, IsUnrealised};
+ghost use Rattle.command_runs.specs.Refused.{HasNoLines, HasNoOmissions, IsNotRealised};
+ghost use Rattle.command_runs.specs.Refused.{IsUnrealised};
 ghost use Rattle.command_runs.specs.Served.{IsAsked, IsOmissionText, RealisesOmissions};
-ghost use Rattle.command_runs.specs.Served.{ReportsRounds, receives_of, start_of};
+ghost use Rattle.command_runs.specs.Served.{ReportsRounds, SaysLines, receives_of, start_of};
 ghost use Rattle.command_runs.specs.Stages.{AreOmissionsIn, HasNoOmissionsIn, IsNotRealisedAs};
 ghost use Rattle.omission_texts.specs.Meaning.{IsKnown, IsTableOf};
 ghost use Rattle.omission_texts.specs.Stops.{steps_of};
@@ -90,6 +91,22 @@ impl<'a> Omitting<'a> {
             plan,
             omissions,
         })
+    }
+}
+
+/// The omissions in a file, or none if there is no such file.
+pub(crate) fn lines_in<D: Desk>(
+    alloc: Global,
+    name: Option<&str>,
+    desk: &mut D,
+) -> Result<Omissions, Refusal>
+    ensures said { IfOk result (SaysLines (D.files desk.old) name.entry) }
+    ensures refused { IfErr result (HasNoLines (D.files desk.old) name.entry) }
+    ensures written { D.written desk.new ≡ D.written desk.old }
+{
+    match name {
+        Some(name) => omissions_in(alloc, name, desk),
+        None => Ok(Omissions::new(Vec::new(alloc))),
     }
 }
 

@@ -33,7 +33,7 @@ pub enum Refusal {
     /// The library has no program of the name.
     NoSuchProgram,
     Run(RunFault),
-    /// Standard output takes no more, or the file of a trace can't be written.
+    /// Standard output takes no more, or a trace can't be written, or is a file that is read.
     Write,
     NoMemory,
     /// The thread of a node ended out of memory, so that its run isn't whole.

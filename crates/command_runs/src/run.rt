@@ -1,19 +1,20 @@
 //! Running a command.
-ghost use Rattle.std.specs.Prelude.{◌≡◌, ◌<◌, ◌≤◌, ◌⊎◌, ◌++◌, ◌∷◌, [], IfErr, IfOk, IfSome, IsOk};
-ghost use Rattle.std.specs.Prelude.{OnOk, map, option_map, string_bytes};
+ghost use Rattle.std.specs.Prelude.{◌≡◌, ◌<◌, ◌≤◌, ◌⊎◌, ◌++◌, ◌∷◌, [], IfErr, IfOk, IsOk};
+ghost use Rattle.std.specs.Prelude.{OnOk, map};
 ghost use Rattle.std.specs.Io.KnownBytes.{Appends, Keeps};
+ghost use Rattle.command_runs.specs.Apart.{IsApart, IsApartIfNamed, WritesApart, WroteApart};
 ghost use Rattle.command_runs.specs.Desks.{MayWrite, MayWriteTrace, Writes, WritesTrace, WroteAll};
 ghost use Rattle.command_runs.specs.Desks.{WroteAtMost, WroteFor};
 ghost use Rattle.command_runs.specs.InRounds.{code_of};
 ghost use Rattle.command_runs.specs.Refused.{IsCause, IsRefused, IsRefusedCommand, IsSilent};
 ghost use Rattle.command_runs.specs.Served.{AsksForHelp, Ends, IsEnded, Serves, answer_text};
 ghost use Rattle.command_runs.specs.Served.{summary_text};
-ghost use Rattle.command_runs.specs.Stages.{HoldsText, WritesText};
+ghost use Rattle.command_runs.specs.InChanges.{terms_of};
 ghost use Rattle.command_runs.specs.Stages.{IsRefusedAnswer, IsRefusedLockstep, IsRefusedThreads};
 ghost use Rattle.command_runs.specs.Stages.{TellsAnswer, TellsLockstep, TellsThreads};
 
 use crate::asking::{Answer, Question, Run};
-use crate::desk::{Desk, DeskFault};
+use crate::desk::Desk;
 use crate::explained::Terms;
 use crate::exploring::{Exploration, Found};
 use crate::lockstep::{Paced, Pacing};
@@ -22,6 +23,7 @@ use crate::outcome::Outcome;
 use crate::refusal::Refusal;
 use crate::sources::Opened;
 use crate::threads::{ThreadRun, Threaded};
+use crate::traces::{write_shown, write_trace};
 use command_words::{Source, Words, WordsFault, read_words};
 use exploration_texts::write_answers;
 use omission_explainer::{decided, write_report};
@@ -64,6 +66,9 @@ pub fn run_words<'a, R: Threads + Wait + Sync, D: Desk, O: Write, E: Write>(
     // No command writes a file, but for `threads` and `explore` that of a trace.
     ensures written { WroteFor (map (λ s. s.now) words.entry.now)
         (D.written desk.old) (D.written desk.new) }
+    // That has another name than the files that the command reads.
+    ensures apart { WroteApart (map (λ s. s.now) words.entry.now)
+        (D.written desk.old) (D.written desk.new) }
     // With status 0 or 5 `threads` wrote that file, once, and so did `explore` if it was asked to
     // and a property fails.
     ensures traced { (o : Outcome) → result ≡ code_of o
@@ -83,7 +88,8 @@ pub fn run_words<'a, R: Threads + Wait + Sync, D: Desk, O: Write, E: Write>(
     }
 }
 
-fn serve<'a, R: Threads + Wait + Sync, D: Desk, O: Write>(
+/// Carries out the command that the words name; `run_words` also tells why it's refused.
+pub fn serve<'a, R: Threads + Wait + Sync, D: Desk, O: Write>(
     rt: &R,
     alloc: Global,
     words: &'a [&'a str],
@@ -95,6 +101,8 @@ fn serve<'a, R: Threads + Wait + Sync, D: Desk, O: Write>(
     ensures refused { IfErr result (IsCause (map (λ s. s.now) words.entry.now) (D.files desk.old)) }
     ensures silent { IfErr result (IsSilent (O.contents out.old) (O.contents out.new)) }
     ensures written { WroteFor (map (λ s. s.now) words.entry.now)
+        (D.written desk.old) (D.written desk.new) }
+    ensures apart { WroteApart (map (λ s. s.now) words.entry.now)
         (D.written desk.old) (D.written desk.new) }
     ensures traced { IfOk result (λ o. WroteAll (map (λ s. s.now) words.entry.now) o
         (D.written desk.old) (D.written desk.new)
@@ -122,6 +130,7 @@ fn carry_out<'a, R: Threads + Wait + Sync, D: Desk, O: Write>(
     ensures refused { IfErr result (IsRefusedCommand command.entry (D.files desk.old)) }
     ensures silent { IfErr result (IsSilent (O.contents out.old) (O.contents out.new)) }
     ensures written { MayWrite command.entry (D.written desk.old) (D.written desk.new) }
+    ensures apart { WritesApart command.entry (D.written desk.old) (D.written desk.new) }
     ensures traced { IfOk result (λ o.
         Writes command.entry o (D.written desk.old) (D.written desk.new)) }
 {
@@ -172,6 +181,7 @@ fn carry_out<'a, R: Threads + Wait + Sync, D: Desk, O: Write>(
             delays,
             orders,
             ticks,
+            changes,
         } => {
             let bounded = Bounded {
                 delta,
@@ -183,8 +193,15 @@ fn carry_out<'a, R: Threads + Wait + Sync, D: Desk, O: Write>(
                 correct: &correct,
                 bounded: &bounded,
                 ticks,
+                stops: &changes.stops,
+                delays: &changes.delays,
             };
-            pace(alloc, Paced { source, header }, pacing, desk, out)
+            let paced = Paced {
+                source,
+                header,
+                omissions: changes.omissions,
+            };
+            pace(alloc, paced, pacing, desk, out)
         }
         Words::Realise {
             source,
@@ -288,6 +305,8 @@ fn thread<'a, R: Threads + Wait + Sync, D: Desk, O: Write>(
     ensures silent { IfErr result (IsSilent (O.contents out.old) (O.contents out.new)) }
     ensures written { WroteAtMost (D.written desk.old) (D.written desk.new)
         threaded.entry.trace.now }
+    ensures apart { (D.written desk.new ≡ D.written desk.old)
+        ⊎ IsApart threaded.entry.trace.now threaded.entry.source threaded.entry.setup.now }
     ensures traced { OnOk result
         (D.written desk.new ≡ D.written desk.old ++ threaded.entry.trace.now ∷ []) }
 {
@@ -306,20 +325,6 @@ fn thread<'a, R: Threads + Wait + Sync, D: Desk, O: Write>(
     }
 }
 
-/// Makes the text the whole file of the trace.
-fn write_trace<D: Desk>(name: &str, text: &str, desk: &mut D) -> Result<(), Refusal>
-    ensures held { OnOk result (IfSome (D.files desk.new name.now) (λ held. held ≡ text.now)) }
-    ensures refused { IfErr result (λ r. (r ≡ Refusal.Write) ⊎ (r ≡ Refusal.NoMemory)) }
-    ensures written { WroteAtMost (D.written desk.old) (D.written desk.new) name.now }
-    ensures traced { OnOk result (D.written desk.new ≡ D.written desk.old ++ name.now ∷ []) }
-{
-    match desk.write(name, text.as_bytes()) {
-        Ok(()) => Ok(()),
-        Err(DeskFault::Failed) => Err(Refusal::Write),
-        Err(DeskFault::NoMemory) => Err(Refusal::NoMemory),
-    }
-}
-
 /// Writes the schedule of a run in lockstep.
 #[tactic(auto, using(crate::proofs::Telling::silent_same))]
 fn pace<'a, D: Desk, O: Write>(
@@ -331,16 +336,16 @@ fn pace<'a, D: Desk, O: Write>(
 ) -> Result<Outcome, Refusal>
     ensures done { IfOk result (λ o. o ≡ Outcome.Done) }
     ensures served { OnOk result (TellsLockstep paced.entry.source (D.files desk.old)
-        (D.files desk.old paced.entry.header.now) pacing.entry.correct.now
-        pacing.entry.bounded.now pacing.entry.ticks (O.contents out.old) (O.contents out.new)) }
+        (D.files desk.old paced.entry.header.now) paced.entry.omissions
+        (terms_of pacing.entry) (O.contents out.old) (O.contents out.new)) }
     ensures refused { IfErr result (IsRefusedLockstep paced.entry.source (D.files desk.old)
-        (D.files desk.old paced.entry.header.now) pacing.entry.correct.now
-        pacing.entry.bounded.now pacing.entry.ticks) }
+        (D.files desk.old paced.entry.header.now) paced.entry.omissions
+        (terms_of pacing.entry)) }
     ensures silent { IfErr result (IsSilent (O.contents out.old) (O.contents out.new)) }
     ensures written { D.written desk.new ≡ D.written desk.old }
 {
-    let text = paced.schedule(alloc, pacing, desk)?;
-    written(out.write_all(text.as_bytes()), out)
+    let schedule = paced.schedule(alloc, pacing, desk)?;
+    written(schedule.write(out), out)
 }
 
 /// Writes the schedule that omits what a file says.
@@ -405,6 +410,9 @@ fn explore<'a, D: Desk, O: Write>(
     ensures silent { IfErr result (IsSilent (O.contents out.old) (O.contents out.new)) }
     ensures written { MayWriteTrace exploration.entry.exploring.trace
         (D.written desk.old) (D.written desk.new) }
+    ensures apart { (D.written desk.new ≡ D.written desk.old)
+        ⊎ IsApartIfNamed exploration.entry.exploring.trace exploration.entry.source
+        exploration.entry.header.now }
     ensures traced { IfOk result (λ o. WritesTrace exploration.entry.exploring.trace o
         (D.written desk.old) (D.written desk.new)) }
 {
@@ -412,26 +420,6 @@ fn explore<'a, D: Desk, O: Write>(
     write_shown(exploration.exploring.trace, &trace, desk)?;
     written(write_answers(&told, out), out)?;
     Ok(Outcome::of(&told))
-}
-
-/// Makes the text the whole file of the trace, where there are both.
-fn write_shown<D: Desk>(
-    name: Option<&str>,
-    text: &Option<String>,
-    desk: &mut D,
-) -> Result<(), Refusal>
-    ensures held { OnOk result (HoldsText (D.files desk.new) name.entry
-        (option_map (λ text. string_bytes text) text.now)) }
-    ensures refused { IfErr result (λ r. (r ≡ Refusal.Write) ⊎ (r ≡ Refusal.NoMemory)) }
-    ensures written { MayWriteTrace name.entry (D.written desk.old) (D.written desk.new) }
-    ensures traced { OnOk result (WritesText name.entry
-        (option_map (λ text. string_bytes text) text.now)
-        (D.written desk.old) (D.written desk.new)) }
-{
-    match (name, text) {
-        (Some(name), Some(text)) => write_trace(name, text.as_str(), desk),
-        _ => Ok(()),
-    }
 }
 
 /// What a program declares: the number of its values, its period and the number of its variables.

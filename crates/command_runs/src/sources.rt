@@ -92,7 +92,7 @@ fn checked(alloc: Global, text: &str) -> Result<Checked, Refusal>
 }
 
 /// A desk has standard input under `-`; a source file of that name is reached by its folder.
-fn file_name(name: &str) -> &str
+pub(crate) fn file_name(name: &str) -> &str
     ensures { result.now ≡ file_name name.now }
 {
     if name == "-" { "./-" } else { name }

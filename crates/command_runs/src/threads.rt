@@ -1,25 +1,30 @@
 //! Runs by threads.
 ghost use Rattle.std.specs.Prelude.{◌≡◌, ◌≢◌, ◌⊎◌, ◌↔◌, All, Err, IfErr, IfOk, IfSome, IsTrue};
-ghost use Rattle.std.specs.Prelude.{Some, string_bytes};
+ghost use Rattle.std.specs.Prelude.{OnOk, Some, string_bytes};
 ghost use Rattle.command_runs.specs.ByThreads.{IsRunOf};
-ghost use Rattle.command_runs.specs.Refused.{IsBadForThreads, IsMissing, IsNotThreaded};
-ghost use Rattle.command_runs.specs.Refused.{IsUnthreaded, StartsThreads};
+ghost use Rattle.command_runs.specs.Apart.{IsApart};
+ghost use Rattle.command_runs.specs.Refused.{IsBadForThreads, IsMissing, IsNotThreaded, IsPlan};
+ghost use Rattle.command_runs.specs.Refused.{IsUnfit, IsUnfitForThreads, StartsThreads};
 ghost use Rattle.command_runs.specs.Served.{IsThreadSetup, ReportsThreads, start_of};
-ghost use Rattle.command_runs.specs.Stages.{IsNoReadIn, IsNotThreadedAs, IsThreadSetupIn};
+ghost use Rattle.command_runs.specs.Stages.{AreReady, IsNoReadIn, IsNotThreadedAs, IsAfterStart};
+ghost use Rattle.command_runs.specs.Stages.{IsRefusedThreads, IsThreadSetupIn};
 ghost use Rattle.node_threads.specs.Ends.{IsFitForThreads};
+ghost use Rattle.node_threads.specs.Stops.{AreStops};
 ghost use Rattle.node_threads.specs.Faults.{IsOfThreads};
 ghost use Rattle.omission_explainer.specs.Decided.{AreAgreed, AreInputs};
 ghost use Rattle.round_meaning.specs.Agreement.{RunsAlgorithm1};
 ghost use Rattle.schedule_text.specs.declared.kind.Kind.TheVariants as kinds;
 
 use crate::desk::Desk;
+use crate::limits::is_plan;
 use crate::refusal::Refusal;
 use crate::sources::Opened;
 use crate::texts::Text;
+use crate::traces::try_trace;
 use adversary::{MAX_TEXT, RunFault, ScheduleFault, ThreadSetup, read_threads};
 use command_words::Source;
 use locked_buffers::OpenGate;
-use node_threads::{Ended, run_threads};
+use node_threads::{Ended, Stop, run_threads};
 use omission_explainer::{Report, explain};
 use policies::Prompt;
 use round_check::Checked;
@@ -52,7 +57,8 @@ pub struct ThreadRun {
 }
 
 impl<'a> Threaded<'a> {
-    /// Runs the source's program by threads, under the setup in its file.
+    /// Runs the source's program by threads, under the setup in its file. No thread starts before
+    /// the file of the trace was tried.
     pub fn run<R: Threads + Wait + Sync, D: Desk>(
         &self,
         rt: &R,
@@ -62,17 +68,60 @@ impl<'a> Threaded<'a> {
         ensures told { IfOk result (λ run. IsTrue run.whole → ReportsThreads self.now.source
             (D.files desk.old) (D.files desk.old self.now.setup.now) (Some (string_bytes run.trace))
             run.report) }
-        ensures starts { IfOk result (λ _run. StartsThreads self.now.source (D.files desk.old)
+        ensures starts { OnOk result (StartsThreads self.now.source (D.files desk.old)
             (D.files desk.old self.now.setup.now)) }
-        ensures refused { IfErr result (IsUnthreaded self.now.source (D.files desk.old)
+        ensures tried { OnOk result (D.can_write desk.new self.now.trace.now) }
+        ensures apart { OnOk result
+            (IsApart self.now.trace.now self.now.source self.now.setup.now) }
+        ensures refused { IfErr result (IsRefusedThreads self.now.source (D.files desk.old)
+            (D.files desk.old self.now.setup.now)) }
+        ensures first_tried { IfErr result
+            (λ r. IsAfterStart r → D.can_write desk.new self.now.trace.now) }
+        ensures written { D.written desk.new ≡ D.written desk.old }
+    {
+        let (program, setup) = self.read(alloc, desk)?;
+        try_trace(self.trace, self.source, self.setup, desk)?;
+        run_by(rt, alloc, &program, &setup)
+    }
+
+    /// The program and the setup, whose numbers are within their limits.
+    fn read<D: Desk>(&self, alloc: Global, desk: &mut D) -> Result<(Checked, ThreadSetup), Refusal>
+        ensures ready { IfOk result (λ o. AreReady self.now.source (D.files desk.old)
+            (D.files desk.old self.now.setup.now) o.0 o.1) }
+        ensures refused { IfErr result (IsUnfit self.now.source (D.files desk.old)
             (D.files desk.old self.now.setup.now)) }
         ensures written { D.written desk.new ≡ D.written desk.old }
     {
         let opened = Opened::open(alloc, self.source, desk)?;
         let setup = setup_in(alloc, self.setup, desk)?;
         let program = opened.program(alloc, setup.setup.nodes, setup.setup.faults)?;
-        run_by(rt, alloc, &program, &setup)
+        check_fit(&program, &setup)?;
+        Ok((program, setup))
     }
+}
+
+/// Refuses numbers that are past their limits.
+fn check_fit(program: &Checked, setup: &ThreadSetup) -> Result<(), Refusal>
+    ensures fit { let t = setup.now in
+        OnOk result (IsFitForThreads program.now.values t.setup t.stops.items × IsPlan t.plan) }
+    ensures refused { let t = setup.now in
+        IfErr result (IsUnfitForThreads program.now t.setup t.plan t.stops.items) }
+{
+    let header = &setup.setup;
+    if !header.is_lawful(program)
+        || !are_stops(header.nodes, setup.stops.as_slice())
+        || !is_plan(setup.plan)
+    {
+        return Err(Refusal::Run(RunFault::BadSetup));
+    }
+    Ok(())
+}
+
+/// Whether each stop is of one of so many nodes.
+fn are_stops(nodes: u32, stops: &[Stop]) -> bool
+    ensures { IsTrue result ↔ AreStops nodes stops.now }
+{
+    stops.iter().all(|stop| stop.node < nodes)
 }
 
 /// The thread setup in a file.

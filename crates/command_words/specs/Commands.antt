@@ -1,7 +1,7 @@
 -- The commands of the program, as `clap` reads them.
-use Rattle.std.specs.Prelude.{◌≡◌, Some, codes, true, false}
+use Rattle.std.specs.Prelude.{◌≡◌, ℕ, Some, codes, true, false}
 use Rattle.clap.specs.Words.{App, Rule, Text, app_of, new_app, new_rule, with_rule, with_subcommand}
-use Rattle.clap.specs.declared.builder.action.ArgAction.TheVariants.{SetTrue}
+use Rattle.clap.specs.declared.builder.action.ArgAction.TheVariants.{Append, SetTrue}
 use Rattle.clap.specs.declared.builder.command.Command.{Command}
 use Rattle.clap.specs.declared.builder.command.Command.TheViews.{out-Command}
 
@@ -53,11 +53,22 @@ required_lockstep_app =
     (text_rule (codes "header"))) (text_rule (codes "correct"))) (text_rule (codes "delta")))
     (text_rule (codes "gst"))
 
+-- `--NAME VALUE ..`, an option of n values, which may be left out or repeated
+abbrev pub repeated_rule : Text → ℕ → Rule
+repeated_rule name n =
+    record (new_rule name) { long = Some name; value_names = n; action = Some Append }
+
 -- the same with `[--delays LIST] [--orders LIST] [--ticks T]`
-abbrev pub lockstep_app : App
-lockstep_app =
+abbrev pub paced_lockstep_app : App
+paced_lockstep_app =
     with_rule (with_rule (with_rule required_lockstep_app (optional_rule (codes "delays")))
     (optional_rule (codes "orders"))) (optional_rule (codes "ticks"))
+
+-- the same with `[--stop I C].. [--omissions FILE] [--delay J I R W]..`
+abbrev pub lockstep_app : App
+lockstep_app =
+    with_rule (with_rule (with_rule paced_lockstep_app (repeated_rule (codes "stop") 2))
+    (optional_rule (codes "omissions"))) (repeated_rule (codes "delay") 4)
 
 -- `realise SOURCE --header FILE --omissions FILE`
 abbrev pub realise_app : App

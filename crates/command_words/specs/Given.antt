@@ -1,10 +1,12 @@
 -- What the words of a command line say, by `clap`'s own definition of a simple command's matches.
 use Rattle.std.specs.Prelude.{◌≡◌, ◌≢◌, ◌≤◌, ◌⊎◌, ◌↔◌, ◌∷◌, ◌&&◌, ◌||◌, ℕ, Bool, IsTrue, List, None}
-use Rattle.std.specs.Prelude.{Option, Some, codes, [], false, true, ⊤}
+use Rattle.std.specs.Prelude.{Option, Some, codes, [], false, take, true, ⊤}
+use Rattle.std.specs.List.{list_any}
 use Rattle.std.specs.Str.{bytes_eq}
 use Rattle.clap.specs.Words.{Row, Text, first_of, subcommand_of, fault_of, IsAmong, kind_of}
 use Rattle.clap.specs.declared.error.Error.{Error}
 use Rattle.clap.specs.declared.error.kind.ErrorKind.TheVariants.{OutOfMemory}
+use Rattle.command_words.specs.Changes.{FailsByChanges, GivesChanges}
 use Rattle.command_words.specs.Commands.{roundc_app}
 use Rattle.command_words.specs.Exploring.{FailsByExploring, GivesExploring}
 use Rattle.command_words.specs.Values.{IsNoList, ListText, NumberText, SourceText, is_negative}
@@ -66,11 +68,12 @@ Gives name rows (Threads source setup trace decided) = (name ≡ codes "threads"
 Gives name rows (Judge source schedule correct delta gst) = (name ≡ codes "judge")
     × GivesSource rows source × (first_of (codes "schedule") rows ≡ Some schedule.now)
     × GivesTerms rows correct.items delta gst
-Gives name rows (Lockstep source header correct delta gst delays orders ticks) =
+Gives name rows (Lockstep source header correct delta gst delays orders ticks changes) =
     (name ≡ codes "lockstep")
     × GivesSource rows source × (first_of (codes "header") rows ≡ Some header.now)
     × GivesTerms rows correct.items delta gst × GivesTable (codes "delays") rows delays.items
     × GivesTable (codes "orders") rows orders.items × GivesTicks rows ticks
+    × GivesChanges rows changes
 Gives name rows (Realise source header omissions) = (name ≡ codes "realise")
     × GivesSource rows source × (first_of (codes "header") rows ≡ Some header.now)
     × (first_of (codes "omissions") rows ≡ Some omissions.now)
@@ -160,7 +163,8 @@ FailsByLockstep rows fault =
     ⊎ (FailsByFile (codes "header") rows fault
     ⊎ (FailsByTerms rows fault
     ⊎ (FailsByTable (codes "delays") rows fault
-    ⊎ (FailsByTable (codes "orders") rows fault ⊎ FailsByTicks rows fault))))
+    ⊎ (FailsByTable (codes "orders") rows fault
+    ⊎ (FailsByTicks rows fault ⊎ FailsByChanges rows fault)))))
 
 -- the fault of a value of `realise` or `rounds`
 abbrev pub FailsByOmissions : List Row → WordsFault → Type 0
@@ -207,6 +211,18 @@ abbrev pub has_negative_list : List Text → Bool
 has_negative_list words = has_negative (codes "--correct") words
     || (has_negative (codes "--delays") words || has_negative (codes "--orders") words)
 
+-- a number below 0 is among the n words after the option
+abbrev pub has_negative_among : Text → ℕ → List Text → Bool
+has_negative_among option n [] = false
+has_negative_among option n (word ∷ rest) =
+    (bytes_eq word option && list_any is_negative (take n rest))
+    || has_negative_among option n rest
+
+-- a number below 0 is among the values of a stop or of a message's delay
+abbrev pub has_negative_change : List Text → Bool
+has_negative_change words = has_negative_among (codes "--stop") 2 words
+    || has_negative_among (codes "--delay") 4 words
+
 -- a value isn't of its form, or is a number below 0
 abbrev pub HasBadNumber : Text → List Text → WordsFault → Type 0
 HasBadNumber option words fault = HasBadValue words fault ⊎ (has_negative option words ≡ true)
@@ -221,6 +237,8 @@ Explains words fault.Gst = HasBadNumber (codes "--gst") words fault.Gst
 Explains words fault.Ticks = HasBadNumber (codes "--ticks") words fault.Ticks
 Explains words fault.Clear = HasBadNumber (codes "--clear") words fault.Clear
 Explains words fault.Hears = HasBadNumber (codes "--hears") words fault.Hears
+Explains words fault.Change =
+    HasBadValue words fault.Change ⊎ (has_negative_change words ≡ true)
 Explains words NoMemory = ⊤
 Explains words fault = HasBadValue words fault
 
@@ -233,5 +251,6 @@ IsMistake words error fault.Gst = has_negative (codes "--gst") words ≡ true
 IsMistake words error fault.Ticks = has_negative (codes "--ticks") words ≡ true
 IsMistake words error fault.Clear = has_negative (codes "--clear") words ≡ true
 IsMistake words error fault.Hears = has_negative (codes "--hears") words ≡ true
+IsMistake words error fault.Change = has_negative_change words ≡ true
 IsMistake words error NoMemory = kind_of error ≡ OutOfMemory
 IsMistake words error _ = ⊥

@@ -3,7 +3,8 @@ use Rattle.std.specs.Prelude.{ℕ, List, Option, Some, None, codes}
 use Rattle.command_words.specs.declared.words.WordsFault.{WordsFault}
 use Rattle.command_words.specs.declared.words.WordsFault.TheVariants.{Refused, Missing, Source}
 use Rattle.command_words.specs.declared.words.WordsFault.TheVariants.{List as BadList, Delta, Gst}
-use Rattle.command_words.specs.declared.words.WordsFault.TheVariants.{Ticks, Inputs, Faults, Clear}
+use Rattle.command_words.specs.declared.words.WordsFault.TheVariants.{Ticks, Change, Inputs}
+use Rattle.command_words.specs.declared.words.WordsFault.TheVariants.{Faults, Clear}
 use Rattle.command_words.specs.declared.words.WordsFault.TheVariants.{Hears, Checks, NoMemory}
 
 -- a mistake in the words; the text of one that `clap` finds is its own
@@ -16,6 +17,8 @@ words_line BadList =
 words_line Delta = Some (codes "error: D is a number of 1 to 1024\n")
 words_line Gst = Some (codes "error: G is a number of 0 to 4294967295\n")
 words_line Ticks = Some (codes "error: T is a number of 0 to 4294967295\n")
+words_line Change =
+    Some (codes "error: `--stop` and `--delay` have numbers of 0 to 4294967295\n")
 words_line Inputs = Some (codes "error: INPUTS is `header` or `any`\n")
 words_line Faults = Some (codes "error: FAULTS is `none`, `omission` or `crash`\n")
 words_line Clear = Some (codes "error: C is a number of 1 to 4294967295\n")

@@ -1,8 +1,9 @@
 //! The commands, made by `clap`'s builders: one function for each argument and each command.
-ghost use Rattle.std.specs.Prelude.{◌≡◌, IfOk, codes, false};
+ghost use Rattle.std.specs.Prelude.{◌≡◌, IfOk, codes, false, length};
 ghost use Rattle.clap.specs.Words.{rule_of};
 ghost use Rattle.command_words.specs.Commands.{IsCommandOf, bare_app, check_app, decided_rule};
 ghost use Rattle.command_words.specs.Commands.{explore_app, explore_by_header_app};
+ghost use Rattle.command_words.specs.Commands.{paced_lockstep_app, repeated_rule};
 ghost use Rattle.command_words.specs.Commands.{explore_some_runs_app};
 ghost use Rattle.command_words.specs.Commands.{judge_app, lockstep_app, optional_rule};
 ghost use Rattle.command_words.specs.Commands.{realise_app, required_lockstep_app, roundc_app};
@@ -43,6 +44,18 @@ fn optional_arg<'a>(alloc: Global, name: &'a str, value: &'a str, help: &'a str)
     Arg::new(alloc, name)
         .long(name)
         .value_name(value)
+        .help(help)
+}
+
+/// `--NAME VALUE ..`, an option of so many values as have names, which may be left out or repeated.
+fn repeated_arg<'a>(alloc: Global, name: &'a str, values: &'a [&'a str], help: &'a str) -> Arg<'a>
+    ensures rule { rule_of result ≡ repeated_rule name.entry.now (length values.entry.now) }
+    ensures local { result.global ≡ false }
+{
+    Arg::new(alloc, name)
+        .long(name)
+        .value_names(values)
+        .action(ArgAction::Append)
         .help(help)
 }
 
@@ -143,8 +156,8 @@ fn required_lockstep<'a>(alloc: Global) -> Result<Command<'a>, AllocError>
 }
 
 /// The same with the terms that may be left out.
-fn lockstep_command<'a>(alloc: Global) -> Result<Command<'a>, AllocError>
-    ensures { IfOk result (IsCommandOf lockstep_app) }
+fn paced_lockstep<'a>(alloc: Global) -> Result<Command<'a>, AllocError>
+    ensures { IfOk result (IsCommandOf paced_lockstep_app) }
 {
     required_lockstep(alloc)?
         .arg(optional_arg(
@@ -164,6 +177,31 @@ fn lockstep_command<'a>(alloc: Global) -> Result<Command<'a>, AllocError>
             "ticks",
             "T",
             "How many ticks; by default as many as the rounds need",
+        ))
+}
+
+/// The same with the changes.
+fn lockstep_command<'a>(alloc: Global) -> Result<Command<'a>, AllocError>
+    ensures { IfOk result (IsCommandOf lockstep_app) }
+{
+    paced_lockstep(alloc)?
+        .arg(repeated_arg(
+            alloc,
+            "stop",
+            &["I", "C"],
+            "Node I takes no step from tick C on; may be repeated",
+        ))?
+        .arg(optional_arg(
+            alloc,
+            "omissions",
+            "FILE",
+            "The file of messages that are never released, or - for standard input",
+        ))?
+        .arg(repeated_arg(
+            alloc,
+            "delay",
+            &["J", "I", "R", "W"],
+            "The message of round R from node J to I has the delay W; may be repeated",
         ))
 }
 
@@ -327,7 +365,10 @@ fn bare_command<'a>(alloc: Global) -> Result<Command<'a>, AllocError>
             .bin_name("roundc")?
             .version("0.2.0, proved with rattle-kit-13f")
             .propagate_version(true)
-            .about("Runs algorithms written in rounds, step by step")
+            .about(
+                "Runs algorithms written in rounds, step by step. roundc why COMMAND .. says why \
+                 COMMAND is refused, and where",
+            )
             .no_binary_name(true)
             .subcommand_required(true),
     )

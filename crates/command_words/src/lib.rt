@@ -6,7 +6,7 @@
 //! roundc threads SOURCE --setup FILE --trace FILE [--decided]
 //! roundc judge SOURCE --schedule FILE --correct LIST --delta D --gst G
 //! roundc lockstep SOURCE --header FILE --correct LIST --delta D --gst G [--delays LIST]
-//!     [--orders LIST] [--ticks T]
+//!     [--orders LIST] [--ticks T] [--stop I C].. [--omissions FILE] [--delay J I R W]..
 //! roundc realise SOURCE --header FILE --omissions FILE
 //! roundc rounds SOURCE --header FILE --omissions FILE [--decided]
 //! roundc explore SOURCE --header FILE [--inputs INPUTS] [--faults FAULTS] [--clear C]
@@ -16,15 +16,18 @@
 //! SOURCE is a file's name, or `@NAME:VALUES`, a program of the library. FILE is a file's name, or
 //! `-` for standard input: what `-` means is left to the caller, who opens the file. LIST is
 //! numbers with commas, or for `--check` names of properties. INPUTS are `header` or `any`, FAULTS
-//! `none`, `omission` or `crash`. D is a number of 1 to 1,024, and C, G, M and T are numbers of 32
-//! bits, C of 1 on. EXPR is any text.
+//! `none`, `omission` or `crash`. D is a number of 1 to 1,024, and all others are numbers of 32 bits,
+//! C of `--clear` of 1 on. EXPR is any text. What two dots follow may be there several times.
 #![tactic(auto)]
 
+mod changes;
 mod commands;
 mod exploring;
+mod negative;
 mod values;
 mod words;
 
+pub use changes::{Changes, NodeStop, OwnDelay};
 pub use exploring::{Checks, Exploring, FaultChoice, InputChoice};
 pub use values::Source;
 pub use words::{Words, WordsFault, read_words};

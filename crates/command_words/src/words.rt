@@ -16,8 +16,10 @@ ghost use Rattle.command_words.specs.Given.{begins_negative, has_negative, has_n
 ghost use Rattle.command_words.specs.Values.{is_negative};
 ghost use Rattle.command_words.specs.declared.words.WordsFault.TheVariants.{NoMemory};
 
+use crate::changes::{Changes, changes_of};
 use crate::commands::roundc_command;
 use crate::exploring::{Exploring, exploring_of};
+use crate::negative::{has_negative, has_negative_change, has_negative_list};
 use crate::values::{MAX_DELTA, Source, read_list, read_number, read_source};
 use clap::ArgMatches;
 use clap::error::ErrorKind;
@@ -56,7 +58,8 @@ pub enum Words<'a> {
         gst: u32,
     },
     /// `lockstep SOURCE --header FILE --correct LIST --delta D --gst G [--delays LIST]
-    /// [--orders LIST] [--ticks T]`; a LIST that is left out is empty.
+    /// [--orders LIST] [--ticks T] [--stop I C].. [--omissions FILE] [--delay J I R W]..`; a LIST
+    /// that is left out is empty.
     Lockstep {
         source: Source<'a>,
         header: &'a str,
@@ -66,6 +69,7 @@ pub enum Words<'a> {
         delays: Vec<u32>,
         orders: Vec<u32>,
         ticks: Option<u32>,
+        changes: Changes<'a>,
     },
     /// `realise SOURCE --header FILE --omissions FILE`; `header` and `omissions` are each FILE as
     /// it was written, `-` included.
@@ -112,6 +116,8 @@ pub enum WordsFault {
     Gst,
     /// A T that isn't a number of 32 bits, also one below 0.
     Ticks,
+    /// Values of `--stop` or `--delay` that aren't all numbers of 32 bits, also one below 0.
+    Change,
     /// INPUTS that aren't `header` or `any`.
     Inputs,
     /// FAULTS that aren't `none`, `omission` or `crash`.
@@ -148,6 +154,12 @@ impl fmt::Display for WordsFault {
             WordsFault::Delta => writeln!(f, "error: D is a number of 1 to 1024"),
             WordsFault::Gst => writeln!(f, "error: G is a number of 0 to 4294967295"),
             WordsFault::Ticks => writeln!(f, "error: T is a number of 0 to 4294967295"),
+            WordsFault::Change => {
+                writeln!(
+                    f,
+                    "error: `--stop` and `--delay` have numbers of 0 to 4294967295"
+                )
+            }
             WordsFault::Inputs => writeln!(f, "error: INPUTS is `header` or `any`"),
             WordsFault::Faults => { writeln!(f, "error: FAULTS is `none`, `omission` or `crash`") }
             WordsFault::Clear => writeln!(f, "error: C is a number of 1 to 4294967295"),
@@ -180,46 +192,6 @@ impl From<AllocError> for WordsFault {
     }
 }
 
-/// Whether a word is a number below 0: `-` and then a digit.
-fn is_negative(word: &str) -> bool
-    ensures { result ≡ is_negative word.now }
-{
-    match word.as_bytes() {
-        [b'-', digit, ..] => digit.is_ascii_digit(),
-        _ => false,
-    }
-}
-
-/// Whether a number below 0 follows the option.
-fn has_negative(option: &str, words: &[&str]) -> bool
-    ensures { result ≡ has_negative option.now (map (λ s. s.now) words.now) }
-{
-    match words {
-        [] => false,
-        [word, rest @ ..] => {
-            (*word == option && begins_negative(rest)) || has_negative(option, rest)
-        }
-    }
-}
-
-fn begins_negative(words: &[&str]) -> bool
-    ensures { result ≡ begins_negative (map (λ s. s.now) words.now) }
-{
-    match words {
-        [] => false,
-        [word, ..] => is_negative(word),
-    }
-}
-
-/// Whether a number below 0 follows an option that has a list.
-fn has_negative_list(words: &[&str]) -> bool
-    ensures { result ≡ has_negative_list (map (λ s. s.now) words.now) }
-{
-    has_negative("--correct", words)
-        || has_negative("--delays", words)
-        || has_negative("--orders", words)
-}
-
 /// The program's own word for an error of `clap`, which takes a number below 0 for an option.
 fn refusal(error: clap::Error, words: &[&str]) -> WordsFault
     ensures { IsMistake (map (λ s. s.now) words.now) error result }
@@ -233,6 +205,7 @@ fn refusal(error: clap::Error, words: &[&str]) -> WordsFault
         _ if has_negative("--ticks", words) => WordsFault::Ticks,
         _ if has_negative("--clear", words) => WordsFault::Clear,
         _ if has_negative("--hears", words) => WordsFault::Hears,
+        _ if has_negative_change(words) => WordsFault::Change,
         _ => WordsFault::Refused(error),
     }
 }
@@ -388,6 +361,7 @@ fn lockstep_of<'a>(alloc: Global, matches: &ArgMatches<'a>) -> Result<Words<'a>,
         delays: table_of(alloc, matches, "delays")?,
         orders: table_of(alloc, matches, "orders")?,
         ticks: ticks_of(matches)?,
+        changes: changes_of(alloc, matches)?,
     })
 }
 

@@ -9,29 +9,44 @@ use Rattle.command_runs.specs.declared.asking.Question.{Question}
 use Rattle.command_runs.specs.declared.refusal.Refusal.{Refusal}
 use Rattle.round_meaning.specs.Setups.{IsLawful}
 
-pub returns-in_err-report-in-Report-clause-refused : goal.returns-in_err-report-in-Report-clause-refused
+pub returns-in_err-report-in-Report-clause-refused :
+    goal.returns-in_err-report-in-Report-clause-refused
 returns-in_err-report-in-Report-clause-refused g c =
     let p = c.args.program.now in
     let s = c.args.schedule.setup in
     let r = c.args.schedule.reader in
     let fault = c.in_err-report-in-Report.field-0.0 in
-    let as_list = no_run (IsLawful p.values s) p s r [] fault (report_to p.values s) (report_from p.values s) c.in_err-report-in-Report.ensures.cause in
-    let asked = subst (λ (q : Question). StopsSchedule (λ events x. IsNotRunAs p s events (listed_by q) x) s r (of_read fault)) (sym c.in-Report.is) as_list in
-    err_then c.from_residual.result (λ x. x ≡ of_read fault) (StopsSchedule (λ events x. IsNotRunAs p s events (listed_by c.args.question) x) s r) c.from_residual.ensures.1
-    (λ x is. subst (λ (y : Refusal). StopsSchedule (λ events x. IsNotRunAs p s events (listed_by c.args.question) x) s r y) (sym is) asked)
+    let as_list = no_run (IsLawful p.values s) p s r [] fault (report_to p.values s)
+    (report_from p.values s) c.in_err-report-in-Report.ensures.cause in
+    let asked =
+    subst (λ (q : Question). StopsSchedule (λ events x. IsNotRunAs p s events (listed_by q) x) s
+    r (of_read fault)) (sym c.in-Report.is) as_list in
+    err_then c.from_residual.result (λ x. x ≡ of_read fault)
+    (StopsSchedule (λ events x. IsNotRunAs p s events (listed_by c.args.question) x) s r)
+    c.from_residual.ensures.1
+    (λ x is. subst
+    (λ (y : Refusal). StopsSchedule
+    (λ events x. IsNotRunAs p s events (listed_by c.args.question) x) s r y) (sym is) asked)
 
-pub returns-in_err-verdict-in-Verdict-clause-refused : goal.returns-in_err-verdict-in-Verdict-clause-refused
+pub returns-in_err-verdict-in-Verdict-clause-refused :
+    goal.returns-in_err-verdict-in-Verdict-clause-refused
 returns-in_err-verdict-in-Verdict-clause-refused g c =
     let p = c.args.program.now in
     let s = c.args.schedule.setup in
     let r = c.args.schedule.reader in
     let list = c.in-Verdict.terms.correct.now in
     let fault = c.in_err-verdict-in-Verdict.field-0.0 in
-    let as_list = no_run (IsLawful p.values s × All (λ n. n < s.nodes) list) p s r list fault (λ h. h) (λ h. h) c.in_err-verdict-in-Verdict.ensures.cause in
-    let asked = subst (λ (q : Question). StopsSchedule (λ events x. IsNotRunAs p s events (listed_by q) x) s r (of_read fault)) (sym c.in-Verdict.is) as_list in
-    err_then c.from_residual-in_err-verdict-in-Verdict.result (λ x. x ≡ of_read fault) (StopsSchedule (λ events x. IsNotRunAs p s events (listed_by c.args.question) x) s r)
+    let as_list = no_run (IsLawful p.values s × All (λ n. n < s.nodes) list) p s r list fault
+    (λ h. h) (λ h. h) c.in_err-verdict-in-Verdict.ensures.cause in
+    let asked =
+    subst (λ (q : Question). StopsSchedule (λ events x. IsNotRunAs p s events (listed_by q) x) s
+    r (of_read fault)) (sym c.in-Verdict.is) as_list in
+    err_then c.from_residual-in_err-verdict-in-Verdict.result (λ x. x ≡ of_read fault)
+    (StopsSchedule (λ events x. IsNotRunAs p s events (listed_by c.args.question) x) s r)
     c.from_residual-in_err-verdict-in-Verdict.ensures.1
-    (λ x is. subst (λ (y : Refusal). StopsSchedule (λ events x. IsNotRunAs p s events (listed_by c.args.question) x) s r y) (sym is) asked)
+    (λ x is. subst
+    (λ (y : Refusal). StopsSchedule
+    (λ events x. IsNotRunAs p s events (listed_by c.args.question) x) s r y) (sym is) asked)
 
 pub returns-in-Report-clause-answered : goal.returns-in-Report-clause-answered
 returns-in-Report-clause-answered g c =
@@ -39,8 +54,10 @@ returns-in-Report-clause-answered g c =
     let events = c.in_ok-report-in-Report.journal.log.trace in (
       events,
       said.read,
-      subst (λ (q : Question). Answered (g.P.Plan.start c.args.plan) (g.P.Plan.receives c.args.plan) c.args.program.now c.args.schedule.setup events q
-          (answer.Report c.in_ok-report-in-Report.report c.in-Report.decided)) (sym c.in-Report.is) (refl, said.explained),
+      subst (λ (q : Question). Answered (g.P.Plan.start c.args.plan) (g.P.Plan.receives c.args.plan)
+          c.args.program.now c.args.schedule.setup events q
+          (answer.Report c.in_ok-report-in-Report.report c.in-Report.decided)) (sym c.in-Report.is)
+          (refl, said.explained),
     )
 
 pub returns-clause-answered : goal.returns-clause-answered
@@ -49,6 +66,7 @@ returns-clause-answered g c =
     let events = c.in_ok-verdict-in-Verdict.journal.log.trace in (
       events,
       said.read,
-      subst (λ (q : Question). Answered (g.P.Plan.start c.args.plan) (g.P.Plan.receives c.args.plan) c.args.program.now c.args.schedule.setup events q
+      subst (λ (q : Question). Answered (g.P.Plan.start c.args.plan) (g.P.Plan.receives c.args.plan)
+          c.args.program.now c.args.schedule.setup events q
           (answer.Verdict c.in_ok-verdict-in-Verdict.verdict)) (sym c.in-Verdict.is) said.judged,
     )

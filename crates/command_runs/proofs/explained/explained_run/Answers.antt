@@ -18,19 +18,25 @@ returns-clause-explained g c =
     let ran = c.in_ok-journal.ensures in
     let said = c.in_ok-report.ensures in
     let rows = c.in_ok-report.report.rows in
-    let of_program = subst (λ p. All (IsOfRounds (algorithm_of p run.setup) (printed_omits rows)) rows) ran.program said.in_rounds in record {
+    let of_program =
+    subst (λ p. All (IsOfRounds (algorithm_of p run.setup) (printed_omits rows)) rows)
+    ran.program said.in_rounds in record {
       run = run;
       program = ran.program;
       setup = ran.setup;
       trace = refl;
-      agrees = subst (λ p. JournalAgrees (g.P.Plan.start p) run (mark_in (g.P.Plan.start p) run) (waiting_in (g.P.Plan.start p) run)) ran.plan c.agrees.ensures;
+      agrees = subst
+          (λ p. JournalAgrees (g.P.Plan.start p) run (mark_in (g.P.Plan.start p) run)
+          (waiting_in (g.P.Plan.start p) run)) ran.plan c.agrees.ensures;
       closed = subst (λ p. ClosedAreDue (g.P.Plan.start p) run) ran.plan ran.closed;
       values = said.values ∙ ap (λ (p : ProgramTree). p.values) ran.program;
       names = said.names ∙ ap declared_names ran.program;
       types = said.types ∙ ap declared_types ran.program;
       listed = said.listed;
       reported = subst (λ p. All (IsReported (g.P.Plan.start p) run) rows) ran.plan said.reported;
-      in_rounds = subst (λ s. All (IsOfRounds (algorithm_of c.args.program.now s) (printed_omits rows)) rows) ran.setup of_program;
+      in_rounds =
+          subst (λ s. All (IsOfRounds (algorithm_of c.args.program.now s) (printed_omits rows))
+          rows) ran.setup of_program;
       counted = said.counted;
     }
 
@@ -46,11 +52,13 @@ returns-clause-agreement g c =
     let ran = c.in_ok-journal.ensures in
     let report = c.in_ok-report.report in
     subst (λ s. Agrees report c.args.program.now s) ran.setup
-    (subst (λ p. Agrees report p c.in_ok-journal.journal.log.setup) ran.program c.in_ok-report.ensures.agreement)
+    (subst (λ p. Agrees report p c.in_ok-journal.journal.log.setup) ran.program
+    c.in_ok-report.ensures.agreement)
 
 pub returns-clause-validity : goal.returns-clause-validity
 returns-clause-validity g c =
     let ran = c.in_ok-journal.ensures in
     let report = c.in_ok-report.report in
     subst (λ s. Inputs report c.args.program.now s) ran.setup
-    (subst (λ p. Inputs report p c.in_ok-journal.journal.log.setup) ran.program c.in_ok-report.ensures.validity)
+    (subst (λ p. Inputs report p c.in_ok-journal.journal.log.setup) ran.program
+    c.in_ok-report.ensures.validity)

@@ -9,7 +9,7 @@ use Rattle.command_runs.specs.Served.{receives_of, start_of}
 use Rattle.command_runs.proofs.exploring.found_by.Goals as goal
 
 pub returns-in-Some-clause-found : goal.returns-in-Some-clause-found
-returns-in-Some-clause-found c =
+returns-in-Some-clause-found g c =
     let p = c.args.program.now in
     let s = c.args.setup.now in
     let e = c.args.exploring.now in
@@ -23,7 +23,7 @@ returns-in-Some-clause-found c =
     (ap₂ known_start made.0 made.1) h))) c.found_under.ensures.found
 
 pub returns-in-Some-new-clause-found : goal.returns-in-Some-new-clause-found
-returns-in-Some-new-clause-found c =
+returns-in-Some-new-clause-found g c =
     let p = c.args.program.now in
     let s = c.args.setup.now in
     let e = c.args.exploring.now in

@@ -1,4 +1,4 @@
-use Rattle.std.proofs.Common.{All, refl, subst, sym}
+use Rattle.std.proofs.Common.{All, subst, sym}
 use Rattle.exploration_texts.specs.Stops.{IsToldToShow}
 use Rattle.exploration_texts.proofs.Showing.{answers_shown}
 use Rattle.command_runs.proofs.Explored.{trace_made}
@@ -7,9 +7,9 @@ use Rattle.command_runs.proofs.exploring.found_under.Goals as goal
 pub trace_for-requires-clause-showable : goal.trace_for-requires-clause-showable
 trace_for-requires-clause-showable g c =
     let s = c.args.setup.now in
-    let can = c.if-not-is_explorable.ensures.0 refl in
     subst (All (IsToldToShow s)) (sym c.deref.ensures.value)
-    (answers_shown c.args.program.now s c.args.exploring.now c.in_ok-told.told.items can.0.sized
+    (answers_shown c.args.program.now s c.args.exploring.now c.in_ok-told.told.items
+    c.requires.explorable.0.sized
     c.in_ok-told.ensures.told)
 
 pub returns-clause-made : goal.returns-clause-made

@@ -1,9 +1,11 @@
-use Rattle.std.proofs.Common.{ap₂, subst, sym, ℕ, List}
+use Rattle.std.proofs.Common.{◌≡◌, List, Option, refl, subst, sym, ℕ}
 use Rattle.std.proofs.lemmas.Result.{IfErr-weaker}
 use Rattle.command_words.specs.declared.words.Words.{Words}
 use Rattle.command_runs.proofs.Telling.{judge_refused, run_refused}
 use Rattle.command_runs.proofs.Unmade.{lockstep_refused}
-use Rattle.policies.specs.declared.bounded.Bounded.{Bounded}
+use Rattle.command_runs.specs.InChanges.{Terms}
+use Rattle.command_words.specs.declared.changes.NodeStop.{NodeStop}
+use Rattle.command_words.specs.declared.changes.OwnDelay.{OwnDelay}
 use Rattle.command_runs.proofs.run.carry_out.Goals as goal
 use Rattle.command_runs.specs.Refused.{IsRefusedCommand}
 
@@ -11,7 +13,9 @@ pub returns-in-Run-clause-refused : goal.returns-in-Run-clause-refused
 returns-in-Run-clause-refused g c =
     let files = g.D.Desk.files c.args.desk.now in
     let w = c.in-Run in
-    IfErr-weaker c.answer.result _ _ (λ r h. subst (λ (w : Words). IsRefusedCommand w files r) (sym c.in-Run.is) (run_refused w.source files w.schedule w.decided r h))
+    IfErr-weaker c.answer.result _ _
+    (λ r h. subst (λ (w : Words). IsRefusedCommand w files r) (sym c.in-Run.is)
+    (run_refused w.source files w.schedule w.decided r h))
     c.answer.ensures.refused
 
 pub returns-in-Judge-clause-refused : goal.returns-in-Judge-clause-refused
@@ -19,11 +23,29 @@ returns-in-Judge-clause-refused g c =
     let files = g.D.Desk.files c.args.desk.now in
     let w = c.in-Judge in
     IfErr-weaker c.answer-in-Judge.result _ _
-    (λ r h. subst (λ (w : Words). IsRefusedCommand w files r) (sym c.in-Judge.is) (judge_refused w.source files w.schedule w.correct w.delta w.gst c.deref.result c.deref.ensures.value r h))
+    (λ r h. subst (λ (w : Words). IsRefusedCommand w files r) (sym c.in-Judge.is)
+    (judge_refused w.source files w.schedule w.correct w.delta w.gst c.deref.result
+    c.deref.ensures.value r h))
     c.answer-in-Judge.ensures.refused
 
-abbrev bounded_by : ℕ → ℕ → List ℕ → List ℕ → Bounded
-bounded_by delta gst delays orders = record { delta = delta; gst = gst; delays = delays; orders = orders }
+abbrev terms_of_words : List ℕ → (delta gst : ℕ) → (delays orders : List ℕ) → Option ℕ
+    → List NodeStop → List OwnDelay → Terms
+terms_of_words correct delta gst delays orders ticks stops own = record {
+  correct = correct;
+  bounded = record { delta = delta; gst = gst; delays = delays; orders = orders };
+  ticks = ticks;
+  stops = stops;
+  delays = own;
+}
+
+-- the terms that are handed on are those of the words
+same_terms : (correct correct' : List ℕ) (delta gst : ℕ) (delays delays' orders orders' : List ℕ)
+    (ticks : Option ℕ) (stops stops' : List NodeStop) (own own' : List OwnDelay)
+    → correct ≡ correct' → delays ≡ delays' → orders ≡ orders' → stops ≡ stops' → own ≡ own'
+    → terms_of_words correct delta gst delays orders ticks stops own
+    ≡ terms_of_words correct' delta gst delays' orders' ticks stops' own'
+same_terms correct correct' delta gst delays delays' orders orders' ticks stops stops' own own'
+    a b c d e = rw (a, b, c, d, e) refl
 
 pub returns-in-Lockstep-clause-refused : goal.returns-in-Lockstep-clause-refused
 returns-in-Lockstep-clause-refused g c =
@@ -31,6 +53,9 @@ returns-in-Lockstep-clause-refused g c =
     let w = c.in-Lockstep in
     IfErr-weaker c.pace.result _ _
     (λ r h. subst (λ (w : Words). IsRefusedCommand w files r) (sym c.in-Lockstep.is)
-    (lockstep_refused w.source files w.header w.correct w.delta w.gst w.delays w.orders w.ticks _ _ c.deref-in-Lockstep.ensures.value
-    (ap₂ (bounded_by w.delta w.gst) c.new.ensures c.new-in-Lockstep.ensures) r h))
+    (lockstep_refused w.source files w.header w.correct w.delta w.gst w.delays w.orders w.ticks
+    w.changes _
+    (same_terms _ _ w.delta w.gst _ _ _ _ w.ticks _ _ _ _ c.deref-in-Lockstep.ensures.value
+    c.new.ensures c.new-in-Lockstep.ensures c.deref-in-Lockstep-2.ensures.value
+    c.deref-in-Lockstep-3.ensures.value) r h))
     c.pace.ensures.refused

@@ -11,14 +11,18 @@ pub returns-clause-served : goal.returns-clause-served
 returns-clause-served g c =
     let p = c.in_ok-program.program in
     let files = g.D.Desk.files c.args.desk.now in
-    let is = program_of c.args.source files c.in_ok-opened.opened 1 0 p c.in_ok-opened.ensures.opened c.in_ok-program.ensures.program in
-    printed c.written.result c.write_summary.result _ _ _ (summary_text p) c.written.ensures.done c.write_summary.ensures c.written.ensures.kept
+    let is = program_of c.args.source files c.in_ok-opened.opened 1 0 p
+    c.in_ok-opened.ensures.opened c.in_ok-program.ensures.program in
+    printed c.written.result c.write_summary.result _ _ _ (summary_text p) c.written.ensures.done
+    c.write_summary.ensures c.written.ensures.kept
     (λ wrote. (summary_text p, (p, is, refl), wrote))
 
 pub returns-clause-refused : goal.returns-clause-refused
 returns-clause-refused g c =
     let p = c.in_ok-program.program in
     let files = g.D.Desk.files c.args.desk.now in
-    let is = program_of c.args.source files c.in_ok-opened.opened 1 0 p c.in_ok-opened.ensures.opened c.in_ok-program.ensures.program in
+    let is = program_of c.args.source files c.in_ok-opened.opened 1 0 p
+    c.in_ok-opened.ensures.opened c.in_ok-program.ensures.program in
     IfErr-weaker c.written.result (λ r. r ≡ Write) (IsRefusedCommand (Check c.args.source) files)
-    (λ r e. subst (IsRefusedCommand (Check c.args.source) files) (sym e) (files, summary_text p, (p, is, refl))) c.written.ensures.refused
+    (λ r e. subst (IsRefusedCommand (Check c.args.source) files) (sym e)
+    (files, summary_text p, (p, is, refl))) c.written.ensures.refused

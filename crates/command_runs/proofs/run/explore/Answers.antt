@@ -8,7 +8,18 @@ use Rattle.exploration_texts.specs.Lines.{answers_text}
 use Rattle.command_runs.proofs.Explored.{explore_unwritten, tells_of_all, trace_written}
 use Rattle.command_runs.proofs.Refusing.{err_then}
 use Rattle.command_runs.proofs.Serving.{written_whole}
+use Rattle.command_runs.proofs.Tried.{explore_refused}
 use Rattle.command_runs.proofs.run.explore.Goals as goal
+
+pub returns-in_err-told-clause-refused : goal.returns-in_err-told-clause-refused
+returns-in_err-told-clause-refused g c =
+    let x = c.args.exploration in
+    let files = g.D.Desk.files c.args.desk.now in
+    let cause = IsRefusedCommand (Explore x.source x.header x.exploring) files in
+    let fault = c.in_err-told.field-0.0 in
+    err_then c.from_residual.result (λ r. r ≡ fault) cause c.from_residual.ensures.1
+    (λ r is. subst cause (sym is)
+    (explore_refused x.source files x.header x.exploring fault c.in_err-told.ensures.refused))
 
 pub returns-in_err-write_shown-clause-refused : goal.returns-in_err-write_shown-clause-refused
 returns-in_err-write_shown-clause-refused g c =

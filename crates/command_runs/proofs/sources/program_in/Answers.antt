@@ -9,4 +9,5 @@ returns-clause-refused g c =
     let file = g.D.Desk.files c.args.desk.now c.args.name.now in
     let text = c.in_ok-text.text in
     IfErr-weaker c.program_of.result (IsNoProgramIn text) (IsNoProgram file)
-    (λ r none. no_file_program file text r c.in_ok-text.ensures.held none) c.program_of.ensures.refused
+    (λ r none. no_file_program file text r c.in_ok-text.ensures.held none)
+    c.program_of.ensures.refused

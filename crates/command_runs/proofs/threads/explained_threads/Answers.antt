@@ -1,4 +1,5 @@
-use Rattle.std.proofs.Common.{◌≡◌, ◌≢◌, ◌∙◌, All, List, ap, subst, inl, inr, ℕ, ◌<◌, length, arith, refl}
+use Rattle.std.proofs.Common.{◌≡◌, ◌≢◌, ◌∙◌, All, List, ap, subst, inl, inr, ℕ, ◌<◌, length, arith}
+use Rattle.std.proofs.Common.{refl}
 use Rattle.std.specs.Prelude.{string_bytes}
 use Rattle.std.proofs.lemmas.Bool.{cases_lt}
 use Rattle.node_threads.specs.Ends.{HaveEnded, IsFitForThreads}
@@ -27,7 +28,8 @@ some n h =
     ]
 
 -- a lawful setup has an input
-has_input : (values : ℕ) (s : Setup) (stops : List Stop) → IsFitForThreads values s stops → 0 < length s.inputs
+has_input : (values : ℕ) (s : Setup) (stops : List Stop) → IsFitForThreads values s stops
+    → 0 < length s.inputs
 has_input values s stops fit =
     let nodes : 0 < s.nodes = fit.lawful.sized.some_node in
     let inputs : length s.inputs ≡ s.nodes = fit.lawful.sized.inputs in omega (nodes, inputs, arith)
@@ -42,11 +44,16 @@ returns-clause-explained g c = λ whole.
     let rows = c.in_ok-report.report.rows in
     let text = string_bytes c.in_ok-trace.trace in
     let stops = c.as_slice-stops.ensures.value in
-    let had = subst (λ es. All (λ e. e ≢ NoMemory) es) c.deref.ensures.value (c.had_memory.ensures.0 whole) in
-    let of_program = subst (λ p. All (IsOfRounds (algorithm_of p run.setup) (printed_omits rows)) rows) ran.program said.in_rounds in
+    let had = subst (λ es. All (λ e. e ≢ NoMemory) es) c.deref.ensures.value
+    (c.had_memory.ensures.0 whole) in
+    let of_program =
+    subst (λ p. All (IsOfRounds (algorithm_of p run.setup) (printed_omits rows)) rows)
+    ran.program said.in_rounds in
     let same = c.trace.ensures ∙ ap (λ (x : Recorded _). x.log.trace) c.book.ensures in
-    let fit : ¬ ¬ (IsFitForThreads c.args.program.now.values t.setup c.as_slice-stops.result.now) = λ none. cc (ran.bad_setup.1 none) in
-    let inputs : 0 < length t.setup.inputs = some (length t.setup.inputs) (λ none. fit (λ is. none (has_input _ _ _ is))) in (
+    let fit : ¬ ¬ (IsFitForThreads c.args.program.now.values t.setup c.as_slice-stops.result.now) =
+    λ none. cc (ran.bad_setup.1 none) in
+    let inputs : 0 < length t.setup.inputs =
+    some (length t.setup.inputs) (λ none. fit (λ is. none (has_input _ _ _ is))) in (
       run.trace,
       record {
         told = record {
@@ -54,23 +61,29 @@ returns-clause-explained g c = λ whole.
           program = ran.program;
           setup = ran.setup;
           trace = refl;
-          agrees = subst (λ p. JournalAgrees (start p) run (mark_in (start p) run) (waiting_in (start p) run)) ran.plan c.agrees.ensures;
+          agrees = subst
+              (λ p. JournalAgrees (start p) run (mark_in (start p) run) (waiting_in (start p) run))
+              ran.plan c.agrees.ensures;
           closed = ran.closed had;
           values = said.values ∙ ap (λ (p : ProgramTree). p.values) ran.program;
           names = said.names ∙ ap declared_names ran.program;
           types = said.types ∙ ap declared_types ran.program;
           listed = said.listed;
           reported = subst (λ p. All (IsReported (start p) run) rows) ran.plan said.reported;
-          in_rounds = subst (λ s. All (IsOfRounds (algorithm_of c.args.program.now s) (printed_omits rows)) rows) ran.setup of_program;
+          in_rounds =
+              subst (λ s. All (IsOfRounds (algorithm_of c.args.program.now s) (printed_omits rows))
+              rows) ran.setup of_program;
           counted = said.counted;
         };
         ends = c.in_ok-journal.ends.items;
-        ended = subst (λ ss. HaveEnded (start c.args.plan) run ss c.in_ok-journal.ends.items) stops ran.ends;
+        ended = subst (λ ss. HaveEnded (start c.args.plan) run ss c.in_ok-journal.ends.items) stops
+            ran.ends;
         memory = had;
       },
       record {
         spelled = c.in_ok-trace.ensures.spelled ∙ ap (text_of t.setup t.plan) same;
-        read_back = λ short. subst (λ es. Says text t.setup t.plan es) same (c.in_ok-trace.ensures.read_back inputs short);
+        read_back = λ short. subst (λ es. Says text t.setup t.plan es) same
+            (c.in_ok-trace.ensures.read_back inputs short);
       },
     )
 
@@ -86,11 +99,13 @@ returns-clause-agreement g c =
     let ran = c.in_ok-journal.ensures in
     let report = c.in_ok-report.report in
     subst (λ s. Agrees report c.args.program.now s) ran.setup
-    (subst (λ p. Agrees report p c.in_ok-journal.journal.log.setup) ran.program c.in_ok-report.ensures.agreement)
+    (subst (λ p. Agrees report p c.in_ok-journal.journal.log.setup) ran.program
+    c.in_ok-report.ensures.agreement)
 
 pub returns-clause-validity : goal.returns-clause-validity
 returns-clause-validity g c =
     let ran = c.in_ok-journal.ensures in
     let report = c.in_ok-report.report in
     subst (λ s. Inputs report c.args.program.now s) ran.setup
-    (subst (λ p. Inputs report p c.in_ok-journal.journal.log.setup) ran.program c.in_ok-report.ensures.validity)
+    (subst (λ p. Inputs report p c.in_ok-journal.journal.log.setup) ran.program
+    c.in_ok-report.ensures.validity)

@@ -10,4 +10,5 @@ returns-clause-refused g c =
     let file = g.D.Desk.files c.args.desk.now c.args.name.now in
     let text = c.in_ok-text.text in
     IfErr-weaker c.setup_of.result (IsNoReadIn Threads text) (IsMissing Threads file)
-    (λ r none. no_text (fault_in Threads) file text r c.in_ok-text.ensures.held none) c.setup_of.ensures.refused
+    (λ r none. no_text (fault_in Threads) file text r c.in_ok-text.ensures.held none)
+    c.setup_of.ensures.refused

@@ -7,5 +7,8 @@ use Rattle.command_words.proofs.commands.explore_by_header.Goals as goal
 
 pub returns : goal.returns
 returns c =
-    let first = arg_added _ _ _ (new_app (codes "explore")) source_rule c.in_ok-arg.ensures (search rules) c.source_arg.ensures.rule c.source_arg.ensures.local in
-    IfOk-weaker c.arg-2.result _ _ (λ r h. arg_added _ _ _ _ _ h first c.header_arg.ensures.rule c.header_arg.ensures.local) c.arg-2.ensures
+    let first = arg_added _ _ _ (new_app (codes "explore")) source_rule c.in_ok-arg.ensures
+    (search rules) c.source_arg.ensures.rule c.source_arg.ensures.local in
+    IfOk-weaker c.arg-2.result _ _
+    (λ r h. arg_added _ _ _ _ _ h first c.header_arg.ensures.rule c.header_arg.ensures.local)
+    c.arg-2.ensures

@@ -4,6 +4,10 @@ use Rattle.command_words.proofs.commands.explore_command.Goals as goal
 
 pub returns : goal.returns
 returns c =
-    let first = arg_added _ _ _ _ _ c.in_ok-arg.ensures c.in_ok-explore_some_runs.ensures c.optional_arg.ensures.rule c.optional_arg.ensures.local in
-    let second = arg_added _ _ _ _ _ c.in_ok-arg-2.ensures first c.optional_arg-2.ensures.rule c.optional_arg-2.ensures.local in
-    IfOk-weaker c.arg-3.result _ _ (λ r h. arg_added _ _ _ _ _ h second c.optional_arg-3.ensures.rule c.optional_arg-3.ensures.local) c.arg-3.ensures
+    let first = arg_added _ _ _ _ _ c.in_ok-arg.ensures c.in_ok-explore_some_runs.ensures
+    c.optional_arg.ensures.rule c.optional_arg.ensures.local in
+    let second = arg_added _ _ _ _ _ c.in_ok-arg-2.ensures first c.optional_arg-2.ensures.rule
+    c.optional_arg-2.ensures.local in
+    IfOk-weaker c.arg-3.result _ _
+    (λ r h. arg_added _ _ _ _ _ h second c.optional_arg-3.ensures.rule
+    c.optional_arg-3.ensures.local) c.arg-3.ensures

@@ -7,8 +7,14 @@ use Rattle.command_words.proofs.commands.required_lockstep.Goals as goal
 
 pub returns : goal.returns
 returns c =
-    let first = arg_added _ _ _ (new_app (codes "lockstep")) source_rule c.in_ok-arg.ensures (search rules) c.source_arg.ensures.rule c.source_arg.ensures.local in
-    let second = arg_added _ _ _ _ _ c.in_ok-arg-2.ensures first c.header_arg.ensures.rule c.header_arg.ensures.local in
-    let third = arg_added _ _ _ _ _ c.in_ok-arg-3.ensures second c.correct_arg.ensures.rule c.correct_arg.ensures.local in
-    let fourth = arg_added _ _ _ _ _ c.in_ok-arg-4.ensures third c.delta_arg.ensures.rule c.delta_arg.ensures.local in
-    IfOk-weaker c.arg-5.result _ _ (λ r h. arg_added _ _ _ _ _ h fourth c.gst_arg.ensures.rule c.gst_arg.ensures.local) c.arg-5.ensures
+    let first = arg_added _ _ _ (new_app (codes "lockstep")) source_rule c.in_ok-arg.ensures
+    (search rules) c.source_arg.ensures.rule c.source_arg.ensures.local in
+    let second = arg_added _ _ _ _ _ c.in_ok-arg-2.ensures first c.header_arg.ensures.rule
+    c.header_arg.ensures.local in
+    let third = arg_added _ _ _ _ _ c.in_ok-arg-3.ensures second c.correct_arg.ensures.rule
+    c.correct_arg.ensures.local in
+    let fourth = arg_added _ _ _ _ _ c.in_ok-arg-4.ensures third c.delta_arg.ensures.rule
+    c.delta_arg.ensures.local in
+    IfOk-weaker c.arg-5.result _ _
+    (λ r h. arg_added _ _ _ _ _ h fourth c.gst_arg.ensures.rule c.gst_arg.ensures.local)
+    c.arg-5.ensures

@@ -7,6 +7,10 @@ use Rattle.command_words.proofs.commands.run_command.Goals as goal
 
 pub returns : goal.returns
 returns c =
-    let first = arg_added _ _ _ (new_app (codes "run")) source_rule c.in_ok-arg.ensures (search rules) c.source_arg.ensures.rule c.source_arg.ensures.local in
-    let second = arg_added _ _ _ _ _ c.in_ok-arg-2.ensures first c.schedule_arg.ensures.rule c.schedule_arg.ensures.local in
-    IfOk-weaker c.arg-3.result _ _ (λ r h. arg_added _ _ _ _ _ h second c.decided_arg.ensures.rule c.decided_arg.ensures.local) c.arg-3.ensures
+    let first = arg_added _ _ _ (new_app (codes "run")) source_rule c.in_ok-arg.ensures
+    (search rules) c.source_arg.ensures.rule c.source_arg.ensures.local in
+    let second = arg_added _ _ _ _ _ c.in_ok-arg-2.ensures first c.schedule_arg.ensures.rule
+    c.schedule_arg.ensures.local in
+    IfOk-weaker c.arg-3.result _ _
+    (λ r h. arg_added _ _ _ _ _ h second c.decided_arg.ensures.rule c.decided_arg.ensures.local)
+    c.arg-3.ensures

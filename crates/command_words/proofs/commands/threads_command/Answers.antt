@@ -7,7 +7,12 @@ use Rattle.command_words.proofs.commands.threads_command.Goals as goal
 
 pub returns : goal.returns
 returns c =
-    let first = arg_added _ _ _ (new_app (codes "threads")) source_rule c.in_ok-arg.ensures (search rules) c.source_arg.ensures.rule c.source_arg.ensures.local in
-    let second = arg_added _ _ _ _ _ c.in_ok-arg-2.ensures first c.setup_arg.ensures.rule c.setup_arg.ensures.local in
-    let third = arg_added _ _ _ _ _ c.in_ok-arg-3.ensures second c.trace_arg.ensures.rule c.trace_arg.ensures.local in
-    IfOk-weaker c.arg-4.result _ _ (λ r h. arg_added _ _ _ _ _ h third c.decided_arg.ensures.rule c.decided_arg.ensures.local) c.arg-4.ensures
+    let first = arg_added _ _ _ (new_app (codes "threads")) source_rule c.in_ok-arg.ensures
+    (search rules) c.source_arg.ensures.rule c.source_arg.ensures.local in
+    let second = arg_added _ _ _ _ _ c.in_ok-arg-2.ensures first c.setup_arg.ensures.rule
+    c.setup_arg.ensures.local in
+    let third = arg_added _ _ _ _ _ c.in_ok-arg-3.ensures second c.trace_arg.ensures.rule
+    c.trace_arg.ensures.local in
+    IfOk-weaker c.arg-4.result _ _
+    (λ r h. arg_added _ _ _ _ _ h third c.decided_arg.ensures.rule c.decided_arg.ensures.local)
+    c.arg-4.ensures

@@ -12,7 +12,8 @@ returns-in_err-checks-clause-none c =
     let t = YieldsList-turn (YieldsList-from_str_split 44 c.args.text.now (lit< tt) (cc) (cc) (cc))
     c.loop-name.yielded _ c.loop-name.yielded_by _ _ c.in-Some.name c.in-Some.is
     c.next.ensures.steps in
-    rw c.from_residual.ensures (mark_none (slice_split is_comma c.args.text.now) _ c.in-Some.name.now
+    rw c.from_residual.ensures
+    (mark_none (slice_split is_comma c.args.text.now) _ c.in-Some.name.now
     t.0 t.1 c.loop-name.checks c.loop-name.invariant c.in_err-checks.ensures.none)
 
 pub loop-name-preserved : goal.loop-name-preserved

@@ -14,8 +14,10 @@ returns-then-not-is_identifier-clause-none c = λ s h.
     let parts = library_parts c.args.text.now s h in
     elim c.then-not-is_identifier.branch [
       | then-not-is_identifier-via-then-not-is_identifier w ↦
-          let bad : false ≡ true = sym w.if-not-is_identifier.true ∙ c.is_identifier.ensures ∙ ap is_name c.in_ok-name.ensures.before ∙ parts.0 in absurd (cc bad)
+          let bad : false ≡ true = sym w.if-not-is_identifier.true ∙ c.is_identifier.ensures
+          ∙ ap is_name c.in_ok-name.ensures.before ∙ parts.0 in absurd (cc bad)
       | then-not-is_identifier-via-else-not-is_identifier+then-not-is_numeral w ↦
           let numeral = rw (← c.in_ok-name.ensures.after) at parts.1 in
-          let bad : false ≡ true = sym w.if-not-is_numeral.true ∙ w.is_numeral.ensures.1 numeral in absurd (cc bad)
+          let bad : false ≡ true =
+          sym w.if-not-is_numeral.true ∙ w.is_numeral.ensures.1 numeral in absurd (cc bad)
     ]

@@ -12,15 +12,22 @@ loop-part-init c = rw c.new-list.ensures.items (read_nothing (slice_split is_com
 
 pub returns-in_default-clause-err : goal.returns-in_default-clause-err
 returns-in_default-clause-err c =
-    let t = YieldsList-turn (YieldsList-from_str_split 44 c.args.text.now (lit< tt) (cc) (cc) (cc)) c.loop-part.yielded _ c.loop-part.yielded_by _ _ c.in-Some.part c.in-Some.is c.next.ensures.steps in
+    let t = YieldsList-turn (YieldsList-from_str_split 44 c.args.text.now (lit< tt) (cc) (cc) (cc))
+    c.loop-part.yielded _ c.loop-part.yielded_by _ _ c.in-Some.part c.in-Some.is
+    c.next.ensures.steps in
     read_none _ _ _ c.loop-part.invariant c.in-Some.part.now t.0 t.1 c.in_default.ensures.none
 
 pub loop-part-preserved : goal.loop-part-preserved
 loop-part-preserved c =
-    let t = YieldsList-turn (YieldsList-from_str_split 44 c.args.text.now (lit< tt) (cc) (cc) (cc)) c.loop-part.yielded _ c.loop-part.yielded_by _ _ c.in-Some.part c.in-Some.is c.next.ensures.steps in
-    rw (length_push, c.in_ok-push.ensures.items) (read_one _ _ _ c.loop-part.invariant c.in-Some.part.now _ t.0 t.1 c.in-Some-read_number.ensures.some)
+    let t = YieldsList-turn (YieldsList-from_str_split 44 c.args.text.now (lit< tt) (cc) (cc) (cc))
+    c.loop-part.yielded _ c.loop-part.yielded_by _ _ c.in-Some.part c.in-Some.is
+    c.next.ensures.steps in
+    rw (length_push, c.in_ok-push.ensures.items)
+    (read_one _ _ _ c.loop-part.invariant c.in-Some.part.now _ t.0 t.1
+    c.in-Some-read_number.ensures.some)
 
 pub returns-clause-ok : goal.returns-clause-ok
 returns-clause-ok c =
-    let t = YieldsList-end (YieldsList-from_str_split 44 c.args.text.now (lit< tt) (cc) (cc) (cc)) c.loop-part.yielded _ c.loop-part.yielded_by _ _ c.in-None.is c.next.ensures.steps in
+    let t = YieldsList-end (YieldsList-from_str_split 44 c.args.text.now (lit< tt) (cc) (cc) (cc))
+    c.loop-part.yielded _ c.loop-part.yielded_by _ _ c.in-None.is c.next.ensures.steps in
     read_all _ _ _ c.loop-part.invariant (omega (arith, t.1))

@@ -1,46 +1,59 @@
-use Rattle.std.proofs.Common.{inr, subst}
-use Rattle.std.specs.Prelude.{IfSome}
+use Rattle.std.proofs.Common.{◌≡◌, sym, subst}
 use Rattle.std.proofs.lemmas.Result.{IfErr-weaker, IfOk-weaker}
-use Rattle.command_runs.specs.Served.{IsHeader}
+use Rattle.command_runs.specs.Stages.{IsRefusedSearch}
 use Rattle.command_runs.proofs.Explored.{finds_in}
-use Rattle.command_runs.proofs.Serving.{program_of}
-use Rattle.command_runs.proofs.Telling.{opened_is}
+use Rattle.command_runs.proofs.Refusing.{err_then}
+use Rattle.command_runs.proofs.Tried.{on_ok_always, search_refused, unsearched, untried_search}
 use Rattle.command_runs.proofs.exploring.Exploration.find.Goals as goal
+
+pub found_by-requires : goal.found_by-requires
+found_by-requires g c = c.in_ok-program.ensures.searchable.explored.explorable
 
 pub returns-clause-found : goal.returns-clause-found
 returns-clause-found g c =
     let asked = c.args.self.now in
     let files = g.D.Desk.files c.args.desk.now in
-    let s = c.in_ok-setup.setup in
-    let k = c.in_ok-setup.plan in
+    let s = c.in_ok-program.setup in
+    let k = c.in_ok-program.plan in
     let p = c.in_ok-program.program in
-    let read = subst (λ file. IfSome file (λ text. IsHeader text s k))
-    (c.open.ensures.files asked.header.now) c.in_ok-setup.ensures.header in
-    let is = program_of asked.source files c.in_ok-opened.opened s.nodes s.faults p
-    c.in_ok-opened.ensures.opened c.in_ok-program.ensures.program in
+    let ready = c.in_ok-program.ensures.searchable in
     IfOk-weaker c.found_by.result _ _ (λ found h. finds_in asked.source files p s k
-    asked.exploring found (files asked.header.now) is read h) c.found_by.ensures.found
+    asked.exploring found (files asked.header.now) ready.program ready.read h)
+    c.found_by.ensures.found
+
+pub returns-clause-apart : goal.returns-clause-apart
+returns-clause-apart g c =
+    on_ok_always c.found_by.result c.in_ok-try_trace_if_named.ensures.apart
 
 pub returns-clause-refused : goal.returns-clause-refused
 returns-clause-refused g c =
     let asked = c.args.self.now in
     let files = g.D.Desk.files c.args.desk.now in
-    let s = c.in_ok-setup.setup in
-    let k = c.in_ok-setup.plan in
-    let p = c.in_ok-program.program in
-    let read = subst (λ file. IfSome file (λ text. IsHeader text s k))
-    (c.open.ensures.files asked.header.now) c.in_ok-setup.ensures.header in
-    let is = program_of asked.source files c.in_ok-opened.opened s.nodes s.faults p
-    c.in_ok-opened.ensures.opened c.in_ok-program.ensures.program in
-    let opened = opened_is asked.source files c.in_ok-opened.opened
-    c.in_ok-opened.ensures.opened in
-    IfErr-weaker c.found_by.result _ _ (λ r none. inr (inr (
-      opened,
-      (
-        s,
-        k,
-        tt,
-        read,
-        inr (p, is, none),
-      ),
-    ))) c.found_by.ensures.refused
+    IfErr-weaker c.found_by.result _ _ (λ r none. unsearched asked.source files
+    (files asked.header.now) asked.exploring c.in_ok-program.program c.in_ok-program.setup
+    c.in_ok-program.plan c.in_ok-program.ensures.searchable r none) c.found_by.ensures.refused
+
+pub returns-in_err-program-clause-refused : goal.returns-in_err-program-clause-refused
+returns-in_err-program-clause-refused g c =
+    let asked = c.args.self.now in
+    let files = g.D.Desk.files c.args.desk.now in
+    let file = files asked.header.now in
+    let fault = c.in_err-program.field-0.0 in
+    let cause = IsRefusedSearch asked.source files file asked.exploring in
+    err_then c.from_residual.result (λ r. r ≡ fault) cause c.from_residual.ensures.1
+    (λ r is. subst cause (sym is) (search_refused asked.source files file asked.exploring fault
+    c.in_err-program.ensures.refused))
+
+pub returns-in_err-try_trace_if_named-clause-refused :
+    goal.returns-in_err-try_trace_if_named-clause-refused
+returns-in_err-try_trace_if_named-clause-refused g c =
+    let asked = c.args.self.now in
+    let files = g.D.Desk.files c.args.desk.now in
+    let file = files asked.header.now in
+    let fault = c.in_err-try_trace_if_named.field-0.0 in
+    let cause = IsRefusedSearch asked.source files file asked.exploring in
+    err_then c.from_residual-in_err-try_trace_if_named.result (λ r. r ≡ fault) cause
+    c.from_residual-in_err-try_trace_if_named.ensures.1 (λ r is. subst cause (sym is)
+    (untried_search asked.source files file asked.exploring c.in_ok-program.program
+    c.in_ok-program.setup c.in_ok-program.plan c.in_ok-program.ensures.searchable fault
+    c.in_err-try_trace_if_named.ensures.named c.in_err-try_trace_if_named.ensures.refused))

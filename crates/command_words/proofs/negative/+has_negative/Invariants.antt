@@ -1,5 +1,5 @@
 use Rattle.std.proofs.Common.{length}
-use Rattle.command_words.proofs.words.+has_negative.Given as goal
+use Rattle.command_words.proofs.negative.+has_negative.Given as goal
 
 abbrev pub decreases-has_negative : goal.decreases-has_negative
 decreases-has_negative l = length l.words.now

@@ -1,0 +1,23 @@
+use Rattle.std.proofs.Common.{codes, subst, sym}
+use Rattle.std.proofs.lemmas.Result.{IfErr-weaker, IfOk-weaker}
+use Rattle.clap.specs.Words.{found_of, rows_of}
+use Rattle.command_words.specs.Changes.{values_of}
+use Rattle.command_words.specs.Values.{AreNumbers}
+use Rattle.command_words.proofs.ChangeLemmas.{delays_given, no_delays_read}
+use Rattle.command_words.proofs.changes.given_delays.Goals as goal
+
+pub returns-clause-ok : goal.returns-clause-ok
+returns-clause-ok c =
+    let rows = rows_of (found_of c.args.matches.now) in
+    let read = subst (AreNumbers (values_of (codes "delay") rows)) (sym c.deref.ensures.value)
+    c.in_ok-numbers.ensures.ok in
+    IfOk-weaker c.delays_of.result _ _ (λ delays is. delays_given rows _ delays.items read is)
+    c.delays_of.ensures.ok
+
+pub returns-clause-err : goal.returns-clause-err
+returns-clause-err c =
+    let rows = rows_of (found_of c.args.matches.now) in
+    let read = subst (AreNumbers (values_of (codes "delay") rows)) (sym c.deref.ensures.value)
+    c.in_ok-numbers.ensures.ok in
+    IfErr-weaker c.delays_of.result _ _ (λ e none. no_delays_read rows _ e read none)
+    c.delays_of.ensures.err
