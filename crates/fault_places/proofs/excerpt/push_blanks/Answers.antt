@@ -1,0 +1,9 @@
+-- One character more.
+use Rattle.std.proofs.Common.{arith}
+use Rattle.std.proofs.lemmas.Grind.{common_steps}
+use Rattle.std.proofs.lemmas.List.{map-append}
+use Rattle.std.proofs.lemmas.Str.{encodes-append}
+use Rattle.fault_places.proofs.excerpt.push_blanks.Goals as goal
+
+pub loop-character-preserved : goal.loop-character-preserved
+loop-character-preserved c = grind (arith, common_steps, encodes-append, map-append)

@@ -1,0 +1,12 @@
+-- How near one name is to another.
+use Rattle.std.specs.Prelude.{ℕ, ◌+◌, ◌/◌, List, length, nat_eq}
+use Rattle.std.specs.Str.{chars}
+use Rattle.strsim.specs.Edits.{levenshtein_row}
+
+-- how many characters have to be changed, put in or left out to make one name of another
+unfoldable pub edits : (name other : List ℕ) → ℕ
+edits name other = levenshtein_row nat_eq (chars name) (chars other) (length (chars other))
+
+-- how many edits a name may be away from one that was meant: one for three letters
+abbrev pub most_edits : (name : List ℕ) → ℕ
+most_edits name = (length name + 1) / 3

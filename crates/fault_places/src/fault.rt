@@ -1,0 +1,271 @@
+//! Where a program is at fault.
+
+use crate::doubles::note_doubles;
+use crate::earliest::Earliest;
+use crate::layout::{Layout, NameAt};
+use crate::nearest::nearest_name;
+use crate::parts::span_of;
+use crate::rules::{NotAllowed, Rule};
+use crate::scope::{Placed, is_input};
+use crate::sites::Sites;
+use crate::wants::Wants;
+use round_check::CheckFault;
+use round_lang::{NoMemory, Program, Span, Token, TokenFault, Ty, tokens};
+use std::alloc::Global;
+
+/// What is declared or bound twice.
+#[derive(Clone, Copy, PartialEq, Eq, Debug)]
+pub enum Double {
+    Variable,
+    Field,
+    /// A field with the name of a variable.
+    FieldAsVariable,
+    /// The v of `{v : ..}` or `[v : ..]`, with a name that is in use.
+    Bound,
+    /// A second `input`.
+    Input,
+    /// A second `decide`.
+    Decide,
+}
+
+/// Where a program is at fault, and what is wrong there.
+#[derive(Clone, Copy, PartialEq, Eq, Debug)]
+pub enum FaultPlace<'a> {
+    /// A name that isn't declared, and the nearest one that is, if one is near.
+    UnknownName {
+        name: NameAt<'a>,
+        nearest: Option<NameAt<'a>>,
+    },
+    /// A name whose second meaning stands in the text behind another.
+    DoubleName {
+        name: NameAt<'a>,
+        other: NameAt<'a>,
+        double: Double,
+    },
+    /// An expression or a name of another type than is wanted.
+    WrongType {
+        part: Span,
+        wanted: Ty,
+        found: Ty,
+        wants: Wants<'a>,
+    },
+    /// A message with so many fields of which so many values are sent; `sent` is where.
+    FieldCount {
+        message: Span,
+        fields: usize,
+        sent: Span,
+        values: usize,
+    },
+    /// A word or a name that may not stand where it does.
+    NotAllowedHere {
+        word: Span,
+        why: NotAllowed<'a>,
+    },
+    /// The end of the declarations, of which none is the input.
+    NoInput {
+        end: Span,
+    },
+    /// The end of the declarations, of which none says what is decided.
+    NoDecision {
+        end: Span,
+    },
+    /// The number of a block that should be that of another round, or of none; or the end of the
+    /// text, if a block lacks there.
+    MissingRound {
+        number: Span,
+        round: Option<u32>,
+    },
+}
+
+/// The first block whose number isn't the round's, or the end of the text, if a block lacks there.
+fn missing_round<'a>(placed: &Placed<'_, '_, '_>, end: usize) -> Option<FaultPlace<'a>> {
+    let mut rounds = 0u32;
+    let period = placed.program.period();
+    let blocks = placed.program.blocks().iter().zip(&placed.layout.blocks);
+    for (block, place) in blocks {
+        let number = place.number;
+        if rounds == period {
+            return Some(FaultPlace::MissingRound {
+                number,
+                round: None,
+            });
+        }
+        rounds = rounds.saturating_add(1);
+        if block.number() != rounds {
+            return Some(FaultPlace::MissingRound {
+                number,
+                round: Some(rounds),
+            });
+        }
+    }
+    if rounds == period {
+        return None;
+    }
+    Some(FaultPlace::MissingRound {
+        number: Span {
+            first: end,
+            after: end,
+        },
+        round: Some(rounds.saturating_add(1)),
+    })
+}
+
+/// The end of the declarations, if none of them is the input.
+fn no_input<'a>(placed: &Placed<'_, '_, '_>) -> Option<FaultPlace<'a>> {
+    let end = placed.layout.declarations_end;
+    if placed
+        .program
+        .variables()
+        .iter()
+        .any(|variable| is_input(variable))
+    {
+        return None;
+    }
+    Some(FaultPlace::NoInput { end })
+}
+
+/// The end of the declarations, if none of them says what is decided.
+fn no_decision<'a>(placed: &Placed<'_, '_, '_>) -> Option<FaultPlace<'a>> {
+    let end = placed.layout.declarations_end;
+    if placed.program.decides().is_empty() {
+        return Some(FaultPlace::NoDecision { end });
+    }
+    None
+}
+
+impl<'a> Earliest<'a> {
+    /// Notes the first message that is sent with more or fewer values than it has fields.
+    fn note_field_counts(&mut self, placed: &Placed<'_, '_, 'a>) {
+        let blocks = placed.program.blocks().iter().zip(&placed.layout.blocks);
+        for (block, place) in blocks {
+            let fields = block.fields().len();
+            let values = block.sent().len();
+            if fields != values {
+                let sent = span_of(place.sent_at).unwrap_or(place.message);
+                let message = place.message;
+                self.note(
+                    sent.first,
+                    FaultPlace::FieldCount {
+                        message,
+                        fields,
+                        sent,
+                        values,
+                    },
+                );
+            }
+        }
+    }
+}
+
+/// Notes where a rule on names is broken.
+fn note_rule<'p, 't, 'a>(
+    placed: &'p Placed<'p, 't, 'a>,
+    sites: &Sites<'p, 't, 'a>,
+    rule: Rule,
+    earliest: &mut Earliest<'a>,
+) {
+    for target in &sites.targets {
+        earliest.note_target(rule, placed, target);
+    }
+    for site in &sites.expressions {
+        earliest.note_names(rule, placed, site);
+    }
+}
+
+/// Notes where a type is wrong.
+fn note_types<'p, 't, 'a>(
+    placed: &'p Placed<'p, 't, 'a>,
+    sites: &Sites<'p, 't, 'a>,
+    earliest: &mut Earliest<'a>,
+) {
+    for site in &sites.expressions {
+        earliest.note_types(placed, site);
+    }
+    for (name, place) in placed.program.decides().iter().zip(&placed.layout.decides) {
+        earliest.note_decide(placed, name, *place);
+    }
+}
+
+/// The fault with the nearest name, if it's a name that isn't declared.
+fn with_nearest<'a>(
+    alloc: Global,
+    placed: &Placed<'_, '_, 'a>,
+    fault: FaultPlace<'a>,
+) -> Result<FaultPlace<'a>, NoMemory> {
+    match fault {
+        FaultPlace::UnknownName { name, nearest: _ } => Ok(FaultPlace::UnknownName {
+            name,
+            nearest: nearest_name(alloc, placed, name.text)?,
+        }),
+        fault => Ok(fault),
+    }
+}
+
+/// The first place at which the program is at fault for the cause.
+fn place_in<'p, 't, 'a>(
+    alloc: Global,
+    placed: &'p Placed<'p, 't, 'a>,
+    end: usize,
+    fault: CheckFault,
+) -> Result<Option<FaultPlace<'a>>, NoMemory> {
+    let mut earliest = Earliest::new();
+    match fault {
+        CheckFault::DoubleName => {
+            note_doubles(placed, &mut earliest);
+            note_rule(
+                placed,
+                &Sites::new(alloc, placed)?,
+                Rule::Fresh,
+                &mut earliest,
+            );
+        }
+        CheckFault::UnknownName => {
+            note_rule(
+                placed,
+                &Sites::new(alloc, placed)?,
+                Rule::Known,
+                &mut earliest,
+            );
+        }
+        CheckFault::NotAllowedHere => {
+            note_rule(
+                placed,
+                &Sites::new(alloc, placed)?,
+                Rule::Allowed,
+                &mut earliest,
+            );
+        }
+        CheckFault::WrongType => note_types(placed, &Sites::new(alloc, placed)?, &mut earliest),
+        CheckFault::FieldCount => earliest.note_field_counts(placed),
+        CheckFault::NoInput => return Ok(no_input(placed)),
+        CheckFault::NoDecision => return Ok(no_decision(placed)),
+        CheckFault::MissingRound => return Ok(missing_round(placed, end)),
+        CheckFault::NoMemory => return Err(NoMemory),
+    }
+    match earliest.fault {
+        Some(fault) => Ok(Some(with_nearest(alloc, placed, fault)?)),
+        None => Ok(None),
+    }
+}
+
+/// Where the program that a text is has the fault that its check answered: the first place in the
+/// text at fault for that cause. None is answered if the text isn't the program's, or the program
+/// has no such fault.
+pub fn fault_place<'a>(
+    alloc: Global,
+    text: &'a str,
+    program: &Program,
+    fault: CheckFault,
+) -> Result<Option<FaultPlace<'a>>, NoMemory> {
+    let found: Vec<Token<'a>> = match tokens(alloc, text.as_bytes()) {
+        Ok(found) => found,
+        Err(TokenFault::NoMemory) => return Err(NoMemory),
+        Err(TokenFault::BadToken(_)) => return Ok(None),
+    };
+    let layout = Layout::new(alloc, &found, text.len())?;
+    let placed = Placed {
+        program,
+        layout: &layout,
+    };
+    place_in(alloc, &placed, text.len(), fault)
+}
