@@ -1,0 +1,12 @@
+pub mod Listed
+pub mod Firsts
+pub mod Seeking
+pub mod Lists
+pub mod Indexed
+pub mod Times
+pub mod Receiving
+pub mod Departing
+pub mod Marking
+pub mod Omitted
+pub mod Telling
+pub mod Idling
