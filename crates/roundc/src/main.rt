@@ -2,8 +2,10 @@
 #![tactic(auto)]
 
 mod host_desk;
+mod terminal;
 mod unread;
 
+use command_reasons::explain_words;
 use command_runs::run_words;
 use host_desk::HostDesk;
 use std::alloc::{AllocError, Global};
@@ -26,7 +28,8 @@ fn texts<'a>(alloc: Global, words: &'a [String]) -> Result<Vec<&'a str>, AllocEr
         .try_collect(alloc)
 }
 
-/// Runs the command that the words name, and answers the exit status.
+/// Runs the command that the words name, or behind `why` says why it's refused, and answers the
+/// exit status.
 fn run<R: Threads + Wait + Sync>(
     rt: &HostRuntime,
     starter: &R,
@@ -34,11 +37,15 @@ fn run<R: Threads + Wait + Sync>(
 ) -> Result<u8, Unread> {
     let words = env::args(rt)?.collect::<Vec<String>>(alloc)?;
     let words = texts(alloc, words.as_slice())?;
-    let mut desk = HostDesk::new(rt, alloc);
-    let mut out = BufWriter::with_capacity(alloc, PRINTED_AT_ONCE, rt.stdout())?;
     let mut err = rt.stderr();
-    let words = words.as_slice();
-    let status = run_words(starter, alloc, words, &mut desk, &mut out, &mut err);
+    let mut desk = HostDesk::new(rt, err, alloc);
+    let mut out = BufWriter::with_capacity(alloc, PRINTED_AT_ONCE, rt.stdout())?;
+    let status = match words.as_slice() {
+        ["why", command @ ..] => {
+            explain_words(starter, alloc, command, &mut desk, &mut out, &mut err)
+        }
+        command => run_words(starter, alloc, command, &mut desk, &mut out, &mut err),
+    };
     Ok(status)
 }
 
