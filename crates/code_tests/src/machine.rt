@@ -6,11 +6,11 @@ ghost use Rattle.round_meaning.specs.declared.setup.Setup.{Setup as OneSetup};
 ghost use Rattle.step_code.specs.Layout.{room_of};
 ghost use Rattle.step_code.specs.Turns.{InTurn, IsOfRound};
 
-use crate::fault::Fault;
 use round_lang::{Message, Vars};
 use round_meaning::{Received, Setup};
 use std::alloc::Global;
 use step_code::{Room, StepProgram};
+use test_kit::Fault;
 
 /// The initial state of a node.
 pub fn started(alloc: Global, code: &StepProgram, setup: &Setup, me: u32) -> Result<Vars, Fault> {

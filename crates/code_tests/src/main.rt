@@ -17,20 +17,19 @@
 #![tactic(auto)]
 
 mod both;
-mod fault;
 mod machine;
 mod node;
 mod reading;
 mod showing;
 
-use fault::Fault;
 use node::Node;
-use reading::{checked_of, number, setup_of};
+use reading::{checked_of, setup_of};
 use std::alloc::Global;
 use std::io::Write;
 use std::process::ExitCode;
 use std::{env, fs, io};
 use step_code::compile;
+use test_kit::{Fault, number};
 
 /// A line for each act of a node.
 fn answer_all(

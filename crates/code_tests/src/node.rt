@@ -1,13 +1,13 @@
 //! One node, act by act.
 use crate::both::Both;
-use crate::fault::Fault;
 use crate::machine::{ended, sent, started};
-use crate::reading::{cut, inbox, number, vars};
+use crate::reading::{inbox, vars};
 use crate::showing::show_both;
 use round_lang::Vars;
 use round_meaning::{Heard, Received, Setup, end_of, initial_of, is_inbox, send_of};
 use std::alloc::Global;
 use step_code::StepProgram;
+use test_kit::{Fault, cut, number};
 
 /// A node of a program.
 #[derive(Clone, Copy)]

@@ -1,27 +1,9 @@
 //! Texts of numbers, values, setups and programs.
-use crate::fault::Fault;
 use round_check::{Checked, check};
 use round_lang::{Row, Shape, Value, ValueSet, Vars, VarsBuilder, parse};
 use round_meaning::{Inputs, Received, Setup};
 use std::alloc::Global;
-
-/// The texts before and behind a blank, or the whole and an empty one.
-pub fn cut(text: &str) -> (&str, &str) {
-    text.split_once(' ').unwrap_or((text, ""))
-}
-
-pub fn number(text: &str) -> Result<u32, Fault> {
-    text.parse().map_err(|_| Fault::Unreadable)
-}
-
-/// Numbers with single blanks between them.
-fn numbers(alloc: Global, text: &str) -> Result<Vec<u32>, Fault> {
-    let mut numbers = Vec::new(alloc);
-    for word in text.split(' ') {
-        numbers.push(number(word)?)?;
-    }
-    Ok(numbers)
-}
+use test_kit::{Fault, cut, number, numbers};
 
 fn set(text: &str) -> Result<ValueSet, Fault> {
     match text.parse() {
@@ -37,7 +19,7 @@ fn value(alloc: Global, text: &str) -> Result<Value, Fault> {
         "num" => Ok(Value::Num(number(rest)?)),
         "flag" => Ok(Value::Flag(rest == "true")),
         "set" => Ok(Value::Set(set(rest)?)),
-        "row" => Ok(Value::Row(Row::new(numbers(alloc, rest)?))),
+        "row" => Ok(Value::Row(Row::new(numbers(alloc, rest.split(' '))?))),
         _ => Err(Fault::Unreadable),
     }
 }
@@ -72,14 +54,10 @@ pub fn setup_of(alloc: Global, words: &[String]) -> Result<Setup, Fault> {
     let [nodes, faults, rounds, inputs @ ..] = words else {
         return Err(Fault::Unreadable);
     };
-    let mut values = Vec::new(alloc);
-    for input in inputs {
-        values.push(number(input.as_str())?)?;
-    }
     Ok(Setup {
         nodes: number(nodes.as_str())?,
         faults: number(faults.as_str())?,
-        inputs: Inputs::new(values),
+        inputs: Inputs::new(numbers(alloc, inputs.iter().map(String::as_str))?),
         rounds: number(rounds.as_str())?,
     })
 }

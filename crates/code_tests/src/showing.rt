@@ -1,8 +1,8 @@
 //! Answers as texts.
 use crate::both::Both;
-use crate::fault::Fault;
 use round_lang::{Message, Value, Vars};
 use std::alloc::AllocError;
+use test_kit::Fault;
 
 fn show_value(out: &mut String, value: &Value) -> Result<(), AllocError> {
     match value {

@@ -13,26 +13,23 @@
 //! is one.
 #![tactic(auto)]
 
-mod fault;
 mod writers;
 
-use command_runs::{Desk, MemoryDesk, run_words};
-use fault::Fault;
+use command_runs::{Desk, DeskFault, MemoryDesk, run_words};
 use std::alloc::Global;
 use std::env;
 use std::io::{Read, Write};
 use std::process::ExitCode;
 use std::sync::Wait;
 use std::thread::Threads;
+use test_kit::{Fault, texts};
 use writers::{Full, Once, Stuck};
 
-/// The words after the program's own name.
-fn texts<'a>(alloc: Global, words: &'a [String]) -> Result<Vec<&'a str>, Fault> {
-    let mut texts = Vec::new(alloc);
-    for word in words.iter().skip(1) {
-        texts.push(word.as_str())?;
+fn desk_fault(fault: DeskFault) -> Fault {
+    match fault {
+        DeskFault::NoMemory => Fault::NoMemory,
+        DeskFault::Failed => Fault::Unreadable,
     }
-    Ok(texts)
 }
 
 /// The desk whose file `s` is standard input.
@@ -40,7 +37,7 @@ fn desk(rt: &HostRuntime, alloc: Global) -> Result<MemoryDesk, Fault> {
     let mut bytes = Vec::new(alloc);
     rt.reader().read_to_end(&mut bytes)?;
     let mut desk = MemoryDesk::new(alloc);
-    desk.write("s", bytes.as_slice())?;
+    desk.write("s", bytes.as_slice()).map_err(desk_fault)?;
     Ok(desk)
 }
 

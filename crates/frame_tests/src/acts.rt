@@ -1,11 +1,12 @@
 //! Acts and their answers.
 use crate::counts::{count_beginnings, count_changes};
-use crate::fault::Fault;
 use crate::inbox::show_inbox;
 use crate::showing::{show_bytes, show_read};
 use crate::writing::show_written;
 use frame_format::Layout;
+use hex::FromHexError;
 use std::alloc::Global;
+use test_kit::{Fault, cut, number};
 
 /// The frames of a program.
 #[derive(Drop)]
@@ -13,13 +14,11 @@ pub struct Frames {
     pub layout: Layout,
 }
 
-/// The texts before and behind a blank, or the whole and an empty one.
-pub fn cut(text: &str) -> (&str, &str) {
-    text.split_once(' ').unwrap_or((text, ""))
-}
-
-pub fn number(text: &str) -> Result<u32, Fault> {
-    text.parse().map_err(|_| Fault::Unreadable)
+fn hex_fault(error: FromHexError) -> Fault {
+    match error {
+        FromHexError::OutOfMemory => Fault::NoMemory,
+        _ => Fault::Unreadable,
+    }
 }
 
 /// Bytes in hexadecimal digits, which may have blanks between them.
@@ -28,7 +27,7 @@ pub fn bytes_of(alloc: Global, text: &str) -> Result<Vec<u8>, Fault> {
     for part in text.split(' ') {
         digits.push_str(part)?;
     }
-    Ok(hex::decode(alloc, digits.as_str())?)
+    hex::decode(alloc, digits.as_str()).map_err(hex_fault)
 }
 
 impl Frames {

@@ -1,9 +1,9 @@
 //! How many of many texts are frames.
-use crate::fault::Fault;
 use crate::showing::show_read;
 use frame_format::{FrameFault, Layout};
 use frame_views::FrameView;
 use std::alloc::Global;
+use test_kit::Fault;
 
 /// How many texts are frames, how many have the fault of each number, and on how many `decode` and
 /// the view differ.

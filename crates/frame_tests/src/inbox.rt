@@ -3,12 +3,12 @@ ghost use Rattle.std.specs.Prelude.{◌≤◌, [], ◌∷◌, length, IfOk};
 ghost use Rattle.frame_views.specs.Inboxes.{AreFrames};
 
 use crate::acts::bytes_of;
-use crate::fault::Fault;
 use crate::showing::show_view;
 use bytes::Bytes;
 use frame_format::{Layout, first_fault};
 use frame_views::InboxView;
 use std::alloc::Global;
+use test_kit::Fault;
 
 /// The frames of a text, with commas between them and `-` for none, of senders 0 and up.
 fn held_in(alloc: Global, layout: &Layout, text: &str) -> Result<Vec<Option<Bytes>>, Fault>

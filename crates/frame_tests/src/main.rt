@@ -18,14 +18,12 @@
 
 mod acts;
 mod counts;
-mod fault;
 mod inbox;
 mod placing;
 mod showing;
 mod writing;
 
 use acts::Frames;
-use fault::Fault;
 use frame_format::Layout;
 use round_check::{Checked, check};
 use round_lang::parse;
@@ -33,6 +31,7 @@ use std::alloc::Global;
 use std::io::Write;
 use std::process::ExitCode;
 use std::{env, fs, io};
+use test_kit::Fault;
 
 /// The checked program that a text is.
 fn checked_of(alloc: Global, text: &str) -> Result<Checked, Fault> {

@@ -1,11 +1,11 @@
 //! Frames as texts.
 ghost use Rattle.std.specs.Prelude.{◌≤◌};
 
-use crate::fault::Fault;
 use frame_format::{Frame, FrameFault, Layout, decode};
 use frame_views::{FrameView, RowView};
 use round_lang::{Kind, Message, Value};
 use std::alloc::Global;
+use test_kit::Fault;
 
 pub fn show_bytes(alloc: Global, bytes: &[u8], out: &mut String) -> Result<(), Fault> {
     Ok(out.push_str(hex::encode(alloc, bytes)?.as_str())?)

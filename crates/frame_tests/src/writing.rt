@@ -2,11 +2,11 @@
 ghost use Rattle.std.specs.Prelude.{ℕ, List, ◌≤◌};
 ghost use Rattle.frame_format.specs.Spelling.{Spells};
 
-use crate::fault::Fault;
 use crate::placing::place_frame;
 use frame_format::{Frame, FrameFault, Layout, decode, encode};
 use frame_views::write_frame;
 use std::alloc::Global;
+use test_kit::Fault;
 
 /// The bytes of a frame's message as a copy of it, or none where the ways of writing differ.
 fn written(alloc: Global, layout: &Layout, frame: &Frame, copy: u32) -> Result<Vec<u8>, Fault>

@@ -1,6 +1,6 @@
 //! Acts and their answers, line by line.
-use crate::fault::Fault;
 use std::alloc::Global;
+use test_kit::Fault;
 
 /// What answers an act.
 pub trait Answers {

@@ -1,10 +1,10 @@
 //! Values as words, act by act.
 use crate::acts::Answers;
-use crate::fault::Fault;
-use crate::reading::{cut, number, value, vars};
+use crate::reading::{value, vars};
 use crate::showing::{show_value, show_vars, show_yes};
 use round_lang::{Kind, Shape, Ty, Value, Vars};
 use std::alloc::Global;
+use test_kit::{Fault, cut, number};
 
 /// How many entries a row has in the shapes of lists.
 const ENTRIES: u32 = 3;

@@ -18,7 +18,6 @@
 
 mod acts;
 mod equality;
-mod fault;
 mod list;
 mod nests;
 mod node;
@@ -32,26 +31,17 @@ mod topics;
 mod trees;
 
 use acts::answer_all;
-use fault::Fault;
 use list::List;
 use node::Node;
 use pairs::Changes;
-use reading::{checked_of, number, offered, setup_of};
+use reading::{checked_of, offered, setup_of};
 use rounds::Run;
 use std::alloc::Global;
 use std::io::Write;
 use std::process::ExitCode;
 use std::{env, fs, io};
+use test_kit::{Fault, number, texts};
 use topics::Topic;
-
-/// The words after the program's own name.
-fn texts<'a>(alloc: Global, words: &'a [String]) -> Result<Vec<&'a str>, Fault> {
-    let mut texts = Vec::new(alloc);
-    for word in words.iter().skip(1) {
-        texts.push(word.as_str())?;
-    }
-    Ok(texts)
-}
 
 /// Acts on one node.
 fn act_on_node(

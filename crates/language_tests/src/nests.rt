@@ -1,9 +1,8 @@
 //! Names and expressions that are made by hand, within their limits and past them.
-use crate::fault::Fault;
-use crate::reading::{cut, number};
 use crate::showing::show_yes;
 use round_lang::{BinaryOperator, Constant, Expr, Formula, Identifier, UnaryOperator};
 use std::alloc::Global;
+use test_kit::{Fault, cut, number};
 
 fn name_of(alloc: Global, text: &str) -> Result<Option<Identifier>, Fault> {
     Ok(Identifier::new(String::from_str(alloc, text)?))

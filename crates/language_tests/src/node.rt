@@ -1,7 +1,6 @@
 //! One node, act by act.
 use crate::acts::Answers;
-use crate::fault::Fault;
-use crate::reading::{cut, number, vars};
+use crate::reading::vars;
 use crate::showing::{show_number, show_value, show_vars};
 use round_check::Checked;
 use round_lang::{Message, Shape, Value, Vars};
@@ -10,6 +9,7 @@ use round_meaning::{
     send_of, take_of,
 };
 use std::alloc::Global;
+use test_kit::{Fault, cut, number};
 
 /// A node of a program with its state, and what it has heard in its round.
 #[derive(Drop)]

@@ -4,13 +4,13 @@ use crate::equality::{
     are_one_assignments, are_one_fields, are_one_variables, is_one_program, is_one_setup,
     is_one_value,
 };
-use crate::fault::Fault;
-use crate::reading::{cut_pair, setup_in, value};
+use crate::reading::{setup_in, value};
 use crate::showing::show_same;
 use round_check::{CheckFault, Checked, check};
 use round_lang::{Block, Program, Shape, Value, Vars, VarsBuilder, parse};
 use round_meaning::Setup;
 use std::alloc::{AllocError, Global};
+use test_kit::{Fault, cut_pair};
 
 /// A part that differs is named.
 fn name_other(out: &mut String, part: &str, is_same: bool) -> Result<(), AllocError> {

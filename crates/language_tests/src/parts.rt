@@ -1,8 +1,8 @@
 //! What a program says, with its expressions as trees.
-use crate::fault::Fault;
 use crate::trees::write_tree;
 use round_lang::{Assignment, Block, Program, Variable, VariableKind, parse};
 use std::alloc::{AllocError, Global};
+use test_kit::Fault;
 
 /// How many columns a line has at most.
 const WIDTH: usize = 92;

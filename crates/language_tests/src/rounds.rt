@@ -1,11 +1,11 @@
 //! Runs in rounds, act by act.
 use crate::acts::Answers;
-use crate::fault::Fault;
-use crate::reading::{cut, number, numbers, setup_in};
+use crate::reading::setup_in;
 use crate::showing::{show_number, show_value, show_yes};
 use round_check::Checked;
 use round_meaning::{Omission, OmissionTable, Setup, StateTable, run_rounds};
 use std::alloc::Global;
+use test_kit::{Fault, cut, number, numbers};
 
 /// What is asked for, what is omitted, and the states of the last run.
 #[derive(Drop)]
@@ -18,7 +18,7 @@ pub struct Run<'a> {
 
 /// A receiver, a round and a sender.
 fn omission(alloc: Global, text: &str) -> Result<Omission, Fault> {
-    match numbers(alloc, text)?.as_slice() {
+    match numbers(alloc, text.split(' '))?.as_slice() {
         [receiver, round, sender] => Ok(Omission {
             receiver: *receiver,
             round: *round,

@@ -1,7 +1,7 @@
 //! Values as texts.
-use crate::fault::Fault;
 use round_lang::{Value, Vars};
 use std::alloc::AllocError;
+use test_kit::Fault;
 
 pub fn show_yes(out: &mut String, is_so: bool) -> Result<(), AllocError> {
     out.push_str(if is_so { "yes" } else { "no" })

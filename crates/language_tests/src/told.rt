@@ -1,10 +1,10 @@
 //! What a checked program tells.
-use crate::fault::Fault;
 use crate::reading::checked_of;
 use round_check::Checked;
 use round_lang::Shape;
 use round_meaning::is_broadcast;
 use std::alloc::{AllocError, Global};
+use test_kit::Fault;
 
 fn write_shape(out: &mut String, shape: &Shape) -> Result<(), AllocError> {
     for kind in shape.kinds() {

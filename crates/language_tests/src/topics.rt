@@ -1,11 +1,10 @@
 //! Acts that stand by themselves.
 use crate::acts::Answers;
-use crate::fault::Fault;
-use crate::reading::{cut_pair, number, numbers};
 use crate::showing::{show_number, show_numbers, show_yes};
 use crate::{nests, pairs, trees};
 use round_meaning::{Inputs, NodeSet};
 use std::alloc::Global;
+use test_kit::{Fault, cut_pair, number, numbers};
 
 /// What the acts are about.
 #[derive(Clone, Copy)]
@@ -51,7 +50,7 @@ impl Answers for Topic {
 /// The input of a node, and all: of `0 1 | 1`, the inputs and a node, it's `1 of 0 1`.
 fn input_of(alloc: Global, act: &str, out: &mut String) -> Result<(), Fault> {
     let (inputs, node) = cut_pair(act)?;
-    let inputs = Inputs::new(numbers(alloc, inputs)?).copy()?;
+    let inputs = Inputs::new(numbers(alloc, inputs.split(' '))?).copy()?;
     show_number(out, Some(inputs.of(number(node)?)))?;
     out.push_str(" of")?;
     show_numbers(out, inputs.into_vec().as_slice())?;
@@ -62,7 +61,7 @@ fn input_of(alloc: Global, act: &str, out: &mut String) -> Result<(), Fault> {
 fn node_in(alloc: Global, act: &str, out: &mut String) -> Result<(), Fault> {
     let (members, node) = cut_pair(act)?;
     let mut nodes = NodeSet::empty();
-    for member in &numbers(alloc, members)? {
+    for member in &numbers(alloc, members.split(' '))? {
         nodes = nodes.with(*member);
     }
     write!(out, "{} ", nodes.bits)?;

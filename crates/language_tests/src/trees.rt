@@ -1,7 +1,7 @@
 //! Expressions and their trees.
-use crate::fault::Fault;
 use round_lang::{Expr, VariableKind, parse};
 use std::alloc::{AllocError, Global};
+use test_kit::Fault;
 
 /// What stands before an expression in the text of a program.
 const BEFORE: &str = "values 2 period 1 state s: num = ";

@@ -1,46 +1,34 @@
 //! Runs of `gather` in lockstep, as schedules.
 //!
 //! ```text
-//! lockstep_tests VALUES INPUTS ROUNDS RECEIVES CORRECT DELTA GST TICKS DELAYS ORDERS
+//! lockstep_tests VALUES INPUTS ROUNDS RECEIVES CORRECT DELTA GST TICKS DELAYS ORDERS [CHANGES]
 //! ```
 //!
 //! RECEIVES are the receive steps of a round. INPUTS, CORRECT, DELAYS and ORDERS have commas, and
-//! `-` stands for none. Standard output has the schedule of the run, or `refused`.
+//! `-` stands for none. CHANGES are the words STOPS OMISSIONS OWN, lists of the same form: each
+//! stop is the two numbers I,C, each omission the three I,R,J, and each delay of a message of its
+//! own the four J,I,R,D. Standard output has the schedule of the run, or `refused`.
 #![tactic(auto)]
 
-mod fault;
+ghost use Rattle.std.specs.Prelude.{◌≡◌, IfOk};
 
 use adversary::RunFault;
-use fault::Fault;
-use lockstep_runs::run_lockstep;
+use lockstep_runs::{Changes, MessageDelay, Stop, run_changed_lockstep, run_lockstep};
 use policies::{Bounded, Table};
 use round_check::{Checked, check};
 use round_lang::parse;
-use round_meaning::{Inputs, NodeSet, Setup};
+use round_meaning::{Inputs, NodeSet, OmissionTable, Setup};
 use schedule_text::write_stored_schedule;
 use slot_plans::{Known, PlanKind};
 use std::alloc::Global;
 use std::env;
 use std::io::Write;
 use std::process::ExitCode;
-
-fn number(text: &str) -> Result<u32, Fault> {
-    text.parse().map_err(|_| Fault::Unreadable)
-}
-
-/// Numbers with commas between them, none in `-`.
-fn numbers(alloc: Global, text: &str) -> Result<Vec<u32>, Fault> {
-    let mut numbers = Vec::new(alloc);
-    if text != "-" {
-        for word in text.split(',') {
-            numbers.push(number(word)?)?;
-        }
-    }
-    Ok(numbers)
-}
+use step_journal::Journal;
+use test_kit::{Fault, comma_numbers, number, texts};
 
 fn nodes(alloc: Global, text: &str) -> Result<NodeSet, Fault> {
-    let members = numbers(alloc, text)?;
+    let members = comma_numbers(alloc, text)?;
     let mut set = NodeSet::empty();
     for node in &members {
         set = set.with(*node);
@@ -59,7 +47,7 @@ fn gather(alloc: Global, values: &str) -> Result<Checked, Fault> {
 }
 
 fn setup(alloc: Global, inputs: &str, rounds: &str) -> Result<Setup, Fault> {
-    let inputs = numbers(alloc, inputs)?;
+    let inputs = comma_numbers(alloc, inputs)?;
     Ok(Setup {
         nodes: inputs.len().min(16) as u32,
         faults: 0,
@@ -73,59 +61,158 @@ fn bounded(alloc: Global, words: [&str; 4]) -> Result<Bounded, Fault> {
     Ok(Bounded {
         delta: number(delta)?,
         gst: number(gst)?,
-        delays: Table::new(numbers(alloc, delays)?),
-        orders: Table::new(numbers(alloc, orders)?),
+        delays: Table::new(comma_numbers(alloc, delays)?),
+        orders: Table::new(comma_numbers(alloc, orders)?),
     })
+}
+
+fn stops(alloc: Global, text: &str) -> Result<Vec<Stop>, Fault> {
+    let mut stops = Vec::new(alloc);
+    for stop in comma_numbers(alloc, text)?.chunks(2) {
+        let [node, steps] = *stop else {
+            return Err(Fault::Unreadable);
+        };
+        stops.push(Stop { node, steps })?;
+    }
+    Ok(stops)
+}
+
+fn omissions(alloc: Global, text: &str) -> Result<OmissionTable, Fault> {
+    let mut table = OmissionTable::new(alloc);
+    for omission in comma_numbers(alloc, text)?.chunks(3) {
+        let [receiver, round, sender] = *omission else {
+            return Err(Fault::Unreadable);
+        };
+        table.insert(receiver, round, sender)?;
+    }
+    Ok(table)
+}
+
+fn delays(alloc: Global, text: &str) -> Result<Vec<MessageDelay>, Fault> {
+    let mut delays = Vec::new(alloc);
+    for delay in comma_numbers(alloc, text)?.chunks(4) {
+        let [sender, receiver, round, delay] = *delay else {
+            return Err(Fault::Unreadable);
+        };
+        delays.push(MessageDelay {
+            sender,
+            receiver,
+            round,
+            delay,
+        })?;
+    }
+    Ok(delays)
+}
+
+/// What is asked for.
+#[derive(Drop)]
+struct Question {
+    program: Checked,
+    setup: Setup,
+    receives: u32,
+    plan: Known,
+    correct: NodeSet,
+    bounded: Bounded,
+    ticks: u32,
+}
+
+impl Question {
+    fn read(alloc: Global, words: [&str; 10]) -> Result<Question, Fault>
+        ensures { IfOk result (λ q. q.plan.nodes ≡ q.setup.nodes) }
+    {
+        let [
+            values,
+            inputs,
+            rounds,
+            receives,
+            correct,
+            delta,
+            gst,
+            ticks,
+            delays,
+            orders,
+        ] = words;
+        let program = gather(alloc, values)?;
+        let setup = setup(alloc, inputs, rounds)?;
+        let receives = number(receives)?;
+        let plan = Known::new(setup.nodes, receives).ok_or(Fault::Unreadable)?;
+        Ok(Question {
+            program,
+            setup,
+            receives,
+            plan,
+            correct: nodes(alloc, correct)?,
+            bounded: bounded(alloc, [delta, gst, delays, orders])?,
+            ticks: number(ticks)?,
+        })
+    }
+
+    /// The run with no changes.
+    fn run(&self, alloc: Global) -> Result<Journal<Known>, RunFault>
+        requires { self.now.plan.nodes ≡ self.now.setup.nodes }
+    {
+        run_lockstep(
+            alloc,
+            &self.program,
+            &self.setup,
+            self.plan,
+            self.correct,
+            &self.bounded,
+            self.ticks,
+        )
+    }
+
+    /// The run with these changes.
+    fn run_changed(&self, alloc: Global, changes: &Changes) -> Result<Journal<Known>, RunFault>
+        requires { self.now.plan.nodes ≡ self.now.setup.nodes }
+    {
+        run_changed_lockstep(
+            alloc,
+            &self.program,
+            &self.setup,
+            self.plan,
+            self.correct,
+            &self.bounded,
+            changes,
+            self.ticks,
+        )
+    }
+
+    fn schedule(
+        &self,
+        alloc: Global,
+        ran: Result<Journal<Known>, RunFault>,
+    ) -> Result<String, Fault> {
+        match ran {
+            Ok(journal) => {
+                let kind = PlanKind::Known(self.receives);
+                let events = journal.book().trace();
+                Ok(write_stored_schedule(alloc, &self.setup, kind, events)?)
+            }
+            Err(RunFault::NoMemory) => Err(Fault::NoMemory),
+            Err(_) => Ok(String::from_str(alloc, "refused\n")?),
+        }
+    }
 }
 
 /// The schedule of the run that the words ask for.
 fn schedule(alloc: Global, words: &[&str]) -> Result<String, Fault> {
-    let [
-        values,
-        inputs,
-        rounds,
-        receives,
-        correct,
-        delta,
-        gst,
-        ticks,
-        delays,
-        orders,
-    ] = *words
-    else {
-        return Err(Fault::Unreadable);
-    };
-    let program = gather(alloc, values)?;
-    let setup = setup(alloc, inputs, rounds)?;
-    let receives = number(receives)?;
-    let plan = Known::new(setup.nodes, receives).ok_or(Fault::Unreadable)?;
-    let correct = nodes(alloc, correct)?;
-    let bounded = bounded(alloc, [delta, gst, delays, orders])?;
-    match run_lockstep(
-        alloc,
-        &program,
-        &setup,
-        plan,
-        correct,
-        &bounded,
-        number(ticks)?,
-    ) {
-        Ok(journal) => {
-            let events = journal.book().trace();
-            Ok(write_stored_schedule(alloc, &setup, PlanKind::Known(receives), events)?)
+    match *words {
+        [v, i, r, p, c, d, g, t, l, o] => {
+            let question = Question::read(alloc, [v, i, r, p, c, d, g, t, l, o])?;
+            question.schedule(alloc, question.run(alloc))
         }
-        Err(RunFault::NoMemory) => Err(Fault::NoMemory),
-        Err(_) => Ok(String::from_str(alloc, "refused\n")?),
+        [v, i, r, p, c, d, g, t, l, o, stopped, omitted, own] => {
+            let question = Question::read(alloc, [v, i, r, p, c, d, g, t, l, o])?;
+            let changes = Changes {
+                stops: stops(alloc, stopped)?,
+                omissions: omissions(alloc, omitted)?,
+                delays: delays(alloc, own)?,
+            };
+            question.schedule(alloc, question.run_changed(alloc, &changes))
+        }
+        _ => Err(Fault::Unreadable),
     }
-}
-
-/// The words after the program's own name.
-fn texts<'a>(alloc: Global, words: &'a [String]) -> Result<Vec<&'a str>, Fault> {
-    let mut texts = Vec::new(alloc);
-    for word in words.iter().skip(1) {
-        texts.push(word.as_str())?;
-    }
-    Ok(texts)
 }
 
 fn run(rt: &HostRuntime, alloc: Global) -> Result<(), Fault> {

@@ -1,9 +1,9 @@
 //! Policies by words.
-use crate::fault::Fault;
-use crate::reading::{choices, names, number, numbers};
+use crate::reading::{choices, names};
 use policies::{Bounded, Choice, Faulty, Hoard, Policy, Prompt, Script, Table};
 use std::alloc::Global;
 use step_machine::InFlight;
+use test_kit::{Fault, number, numbers};
 
 /// A policy that words name.
 #[derive(Drop)]
@@ -63,7 +63,7 @@ fn bounded(alloc: Global, words: &[String]) -> Result<Bounded, Fault> {
     Ok(Bounded {
         delta: number(delta.as_str())?,
         gst: number(gst.as_str())?,
-        delays: Table::new(numbers(alloc, delays)?),
+        delays: Table::new(numbers(alloc, delays.iter().map(String::as_str))?),
         orders: Table::new(Vec::new(alloc)),
     })
 }

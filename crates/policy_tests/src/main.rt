@@ -27,16 +27,14 @@
 #![tactic(auto)]
 
 mod chosen;
-mod fault;
 mod gate;
 mod reading;
 mod running;
 mod threads;
 
 use chosen::Chosen;
-use fault::Fault;
 use policies::{Choice, Policy};
-use reading::{flight, number};
+use reading::flight;
 use running::schedule;
 use std::alloc::Global;
 use std::io::Write;
@@ -44,6 +42,7 @@ use std::process::ExitCode;
 use std::sync::Wait;
 use std::thread::Threads;
 use std::{env, io};
+use test_kit::{Fault, cut, number};
 use threads::{Shown, overlap, threads};
 
 fn show(out: &mut String, choice: Option<Choice>) -> Result<(), Fault> {
@@ -60,7 +59,7 @@ fn show(out: &mut String, choice: Option<Choice>) -> Result<(), Fault> {
 fn call_all(alloc: Global, mut policy: Chosen, input: &str) -> Result<String, Fault> {
     let mut out = String::new(alloc);
     for line in input.lines() {
-        let (now, messages) = line.split_once(' ').unwrap_or((line, ""));
+        let (now, messages) = cut(line);
         let flight = flight(alloc, messages)?;
         show(&mut out, policy.choose(number(now)?, &flight))?;
         out.push_str("\n")?;

@@ -1,45 +1,13 @@
 //! Texts of numbers, messages and choices.
-use crate::fault::Fault;
 use policies::Choice;
 use std::alloc::Global;
 use step_machine::{InFlight, Name};
-
-pub fn number(text: &str) -> Result<u32, Fault> {
-    text.parse().map_err(|_| Fault::Unreadable)
-}
-
-pub fn numbers(alloc: Global, words: &[String]) -> Result<Vec<u32>, Fault> {
-    let mut numbers = Vec::new(alloc);
-    for word in words {
-        numbers.push(number(word.as_str())?)?;
-    }
-    Ok(numbers)
-}
-
-/// Numbers with commas between them, none in `-`.
-pub fn comma_numbers(alloc: Global, text: &str) -> Result<Vec<u32>, Fault> {
-    let mut numbers = Vec::new(alloc);
-    if text != "-" {
-        for word in text.split(',') {
-            numbers.push(number(word)?)?;
-        }
-    }
-    Ok(numbers)
-}
-
-/// Numbers with dots between them.
-fn dotted(alloc: Global, text: &str) -> Result<Vec<u32>, Fault> {
-    let mut numbers = Vec::new(alloc);
-    for word in text.split('.') {
-        numbers.push(number(word)?)?;
-    }
-    Ok(numbers)
-}
+use test_kit::{Fault, number, numbers};
 
 pub fn names(alloc: Global, words: &[String]) -> Result<Vec<Name>, Fault> {
     let mut names = Vec::new(alloc);
     for word in words {
-        let numbers = dotted(alloc, word.as_str())?;
+        let numbers = numbers(alloc, word.split('.'))?;
         let [from, to, round, copy] = *numbers.as_slice() else {
             return Err(Fault::Unreadable);
         };
@@ -75,7 +43,7 @@ pub fn choices(alloc: Global, words: &[String]) -> Result<Vec<Choice>, Fault> {
 }
 
 fn message(alloc: Global, text: &str) -> Result<InFlight, Fault> {
-    let numbers = dotted(alloc, text)?;
+    let numbers = numbers(alloc, text.split('.'))?;
     let [from, to, round, copy, sent_at, serial] = *numbers.as_slice() else {
         return Err(Fault::Unreadable);
     };

@@ -1,7 +1,5 @@
 //! Runs of `gather` in which a policy is asked.
 use crate::chosen::Chosen;
-use crate::fault::Fault;
-use crate::reading::{comma_numbers, number};
 use adversary::{RunFault, run_policy};
 use round_check::{Checked, check};
 use round_lang::parse;
@@ -9,6 +7,7 @@ use round_meaning::{Inputs, NodeSet, Setup};
 use schedule_text::write_stored_schedule;
 use slot_plans::{Known, PlanKind};
 use std::alloc::Global;
+use test_kit::{Fault, comma_numbers, number};
 
 /// Each node sends what it has seen.
 pub fn gather(alloc: Global, values: &str) -> Result<Checked, Fault> {

@@ -2,7 +2,6 @@
 ghost use Rattle.std.specs.Prelude.{◌≡◌};
 
 use crate::chosen::Chosen;
-use crate::fault::Fault;
 use crate::gate::Holder;
 use crate::running::gather;
 use adversary::{RunFault, run_schedule};
@@ -11,7 +10,7 @@ use node_threads::{Ended, run_threads};
 use omission_explainer::{explain, write_report};
 use round_check::Checked;
 use round_meaning::Setup;
-use schedule_text::{Pace, Stop, ThreadSetup, read_threads};
+use schedule_text::{Pace, ScheduleFault, Stop, ThreadSetup, read_threads};
 use slot_plans::{Growing, Known, Plan, PlanKind};
 use std::alloc::Global;
 use std::io::Write;
@@ -19,6 +18,7 @@ use std::sync::Wait;
 use std::thread::Threads;
 use step_book::events_of;
 use step_journal::Journal;
+use test_kit::Fault;
 
 /// How much of a run is printed.
 #[derive(Clone, Copy, PartialEq, Eq)]
@@ -144,6 +144,13 @@ impl<'a> Asked<'a> {
     }
 }
 
+fn schedule_fault(fault: ScheduleFault) -> Fault {
+    match fault {
+        ScheduleFault::NoMemory => Fault::NoMemory,
+        _ => Fault::Unreadable,
+    }
+}
+
 /// The answer on the thread setup that a text is.
 pub fn threads<R: Threads + Wait + Sync>(
     rt: &R,
@@ -161,7 +168,7 @@ pub fn threads<R: Threads + Wait + Sync>(
         plan,
         pace,
         stops,
-    } = read_threads(alloc, input)?;
+    } = read_threads(alloc, input).map_err(schedule_fault)?;
     let policy = Chosen::read(alloc, policy)?;
     let asked = Asked {
         program: &program,
@@ -195,7 +202,7 @@ pub fn overlap<R: Threads + Wait + Sync>(
         pace,
         stops,
         ..
-    } = read_threads(alloc, input)?;
+    } = read_threads(alloc, input).map_err(schedule_fault)?;
     let plan = Known::new(setup.nodes, 1).ok_or(Fault::Unreadable)?;
     let asked = Asked {
         program: &program,

@@ -2,7 +2,6 @@
 ghost use Rattle.std.specs.Prelude.{◌≡◌};
 ghost use Rattle.round_meaning.specs.Setups.{IsLawful};
 
-use crate::fault::Fault;
 use crate::forwarding::Forwarding;
 use crate::report;
 use locked_buffers::{OpenGate, Post, Seat};
@@ -15,6 +14,7 @@ use std::sync::atomic::{AtomicBool, Ordering};
 use std::sync::{Mutex, Wait};
 use step_journal::Journal;
 use step_machine::Node;
+use test_kit::Fault;
 
 /// Nodes that needn't wait.
 struct NoBeat;

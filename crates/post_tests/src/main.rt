@@ -23,13 +23,11 @@
 ghost use Rattle.std.specs.Prelude.{◌≡◌};
 
 mod alone;
-mod fault;
 mod forwarding;
 mod recorder;
 mod row;
 
-use adversary::{Schedule, read_schedule};
-use fault::Fault;
+use adversary::{Schedule, ScheduleFault, read_schedule};
 use omission_explainer::{explain, write_report};
 use round_check::{Checked, check};
 use round_lang::parse;
@@ -41,6 +39,7 @@ use std::rt::Files;
 use std::sync::Wait;
 use std::{env, fs, io};
 use step_journal::Journal;
+use test_kit::Fault;
 
 /// The program of a source.
 fn program<R: Files + AllocGlobal>(rt: &R, alloc: Global, source: &str) -> Result<Checked, Fault> {
@@ -84,6 +83,13 @@ fn answer_planned<R: Wait, P: Plan>(
     }
 }
 
+fn schedule_fault(fault: ScheduleFault) -> Fault {
+    match fault {
+        ScheduleFault::NoMemory => Fault::NoMemory,
+        _ => Fault::Unreadable,
+    }
+}
+
 fn answer_text<R: Wait>(
     rt: &R,
     alloc: Global,
@@ -91,7 +97,7 @@ fn answer_text<R: Wait>(
     input: &str,
     word: &str,
 ) -> Result<String, Fault> {
-    let schedule = read_schedule(alloc, input)?;
+    let schedule = read_schedule(alloc, input).map_err(schedule_fault)?;
     let nodes = schedule.setup.nodes;
     match schedule.plan {
         PlanKind::Known(delta) => {

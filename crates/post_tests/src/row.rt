@@ -4,7 +4,6 @@ ghost use Rattle.round_meaning.specs.Setups.{IsLawful, IsSetup, max_rounds};
 ghost use Rattle.step_book.specs.Buffers.{IsMail};
 ghost use Rattle.step_machine.specs.Nodes.{algorithm_in};
 
-use crate::fault::Fault;
 use crate::recorder::{Counter, Recorder};
 use crate::report;
 use locked_buffers::{Post, PostFault, RelayFault, Unmatched};
@@ -17,6 +16,7 @@ use std::sync::Wait;
 use step_book::{CloseFault, SendFault, Waiting, is_name};
 use step_journal::Journal;
 use step_machine::{Event, Name, Node};
+use test_kit::Fault;
 
 /// The nodes of a run before their first step.
 fn all_nodes(alloc: Global, program: &Checked, setup: &Setup) -> Result<Vec<Node>, Fault>

@@ -17,7 +17,6 @@
 //! input is the schedule of the run whose report is written.
 #![tactic(auto)]
 
-mod fault;
 mod journal;
 mod plans;
 mod reading;
@@ -25,24 +24,15 @@ mod reports;
 mod schedules;
 mod writers;
 
-use fault::Fault;
 use std::alloc::Global;
 use std::io::Write;
 use std::process::ExitCode;
 use std::rt::Files;
 use std::{env, fs, io};
+use test_kit::{Fault, texts};
 
 /// The room for answers, so that giving one takes no memory.
 const ROOM: usize = 65_536;
-
-/// The words after the program's own name.
-fn texts<'a>(alloc: Global, words: &'a [String]) -> Result<Vec<&'a str>, Fault> {
-    let mut texts = Vec::new(alloc);
-    for word in words.iter().skip(1) {
-        texts.push(word.as_str())?;
-    }
-    Ok(texts)
-}
 
 /// The source in which each node tells what it has seen where the condition holds.
 fn gathering(alloc: Global, values: &str, condition: &str) -> Result<String, Fault> {

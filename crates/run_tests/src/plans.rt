@@ -1,7 +1,7 @@
 //! What plans answer.
-use crate::fault::Fault;
-use crate::reading::{cut, kind, number, two};
+use crate::reading::{kind, two};
 use slot_plans::{Growing, Known, MAX_ROUNDS, Plan, Slot};
+use test_kit::{Fault, cut, number};
 
 const OUTSIDE: &str = "not within its limits";
 

@@ -2,19 +2,10 @@
 ghost use Rattle.std.specs.Prelude.{◌≡◌, IfOk};
 ghost use Rattle.slot_plans.specs.Known.{known_nodes};
 
-use crate::fault::Fault;
 use round_meaning::{Inputs, Setup};
 use slot_plans::{Known, PlanKind};
 use std::alloc::Global;
-
-/// The texts before and behind a blank, or the whole and an empty one.
-pub fn cut(text: &str) -> (&str, &str) {
-    text.split_once(' ').unwrap_or((text, ""))
-}
-
-pub fn number(text: &str) -> Result<u32, Fault> {
-    text.parse().map_err(|_| Fault::Unreadable)
-}
+use test_kit::{Fault, cut, number, numbers};
 
 /// Two numbers with a blank between them.
 pub fn two(text: &str) -> Result<(u32, u32), Fault> {
@@ -31,18 +22,9 @@ pub fn kind(text: &str) -> Result<PlanKind, Fault> {
     }
 }
 
-/// Numbers with commas between them.
-fn numbers(alloc: Global, text: &str) -> Result<Vec<u32>, Fault> {
-    let mut numbers = Vec::new(alloc);
-    for word in text.split(',') {
-        numbers.push(number(word)?)?;
-    }
-    Ok(numbers)
-}
-
 /// A setup without faults, of as many nodes as there are inputs.
 pub fn setup(alloc: Global, inputs: &str, rounds: &str) -> Result<Setup, Fault> {
-    let inputs = numbers(alloc, inputs)?;
+    let inputs = numbers(alloc, inputs.split(','))?;
     Ok(Setup {
         nodes: inputs.len().min(16) as u32,
         faults: 0,

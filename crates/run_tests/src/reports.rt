@@ -1,11 +1,11 @@
 //! Reports made by hand.
-use crate::fault::Fault;
 use omission_explainer::{Listed, Report, ReportRow, write_report};
 use round_lang::{Identifier, NoMemory, Row, Shape, Ty, Value, ValueSet, VarsBuilder};
 use round_meaning::NodeSet;
 use std::alloc::Global;
 use std::sync::Arc;
 use step_machine::StoredState;
+use test_kit::Fault;
 
 /// A value of a table.
 enum Given {

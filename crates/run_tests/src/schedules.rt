@@ -1,11 +1,11 @@
 //! Schedules as they are read, and written again; thread setups and headers as they are read.
-use crate::fault::Fault;
 use adversary::{
     Schedule, ScheduleFault, read_header, read_schedule, read_threads, write_schedule,
 };
 use round_meaning::Setup;
 use slot_plans::PlanKind;
 use std::alloc::Global;
+use test_kit::Fault;
 
 /// All that a header says.
 fn show_header(setup: &Setup, plan: PlanKind, out: &mut String) -> Result<(), Fault> {

@@ -1,8 +1,7 @@
 //! Writers that fail, and lists.
-use crate::fault::Fault;
 use crate::reading::known;
 use crate::reports::{report, text_of};
-use adversary::{read_schedule, run_schedule};
+use adversary::{RunFault, ScheduleFault, read_schedule, run_schedule};
 use omission_explainer::{
     Listed, Report, explain, omissions_give_inbox, sets_part_nodes, write_report,
 };
@@ -12,6 +11,7 @@ use slot_plans::PlanKind;
 use std::alloc::Global;
 use std::io;
 use std::io::Write;
+use test_kit::Fault;
 
 /// The code with which writers fail.
 const CODE: i32 = 28;
@@ -77,16 +77,30 @@ pub fn try_named(alloc: Global, name: &str, out: &mut String) -> Result<(), Faul
     try_report(alloc, &report(alloc, name)?, out)
 }
 
+fn schedule_fault(fault: ScheduleFault) -> Fault {
+    match fault {
+        ScheduleFault::NoMemory => Fault::NoMemory,
+        _ => Fault::Unreadable,
+    }
+}
+
+fn run_fault(fault: RunFault) -> Fault {
+    match fault {
+        RunFault::NoMemory => Fault::NoMemory,
+        _ => Fault::Unreadable,
+    }
+}
+
 /// The report of the run that a schedule's text says, with a known bound.
 fn report_of(alloc: Global, program: &Checked, text: &str) -> Result<Report, Fault> {
-    let schedule = read_schedule(alloc, text)?;
+    let schedule = read_schedule(alloc, text).map_err(schedule_fault)?;
     let PlanKind::Known(delta) = schedule.plan else {
         return Err(Fault::Unreadable);
     };
     let plan = known(schedule.setup.nodes, delta)?;
     let events = schedule.events.to_vec(alloc)?;
-    let journal = run_schedule(alloc, program, &schedule.setup, plan, &events)?;
-    Ok(explain(alloc, &journal)?)
+    let run = run_schedule(alloc, program, &schedule.setup, plan, &events);
+    Ok(explain(alloc, &run.map_err(run_fault)?)?)
 }
 
 /// Does so with the report of a run.

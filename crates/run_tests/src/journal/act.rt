@@ -1,7 +1,7 @@
 //! The acts on a journal.
-use crate::fault::Fault;
-use crate::reading::{cut, number, two};
+use crate::reading::two;
 use step_machine::Name;
+use test_kit::{Fault, cut, number};
 
 /// What is done. A node that isn't the journal's own, a double, does the same with frames of its
 /// own.

@@ -6,7 +6,6 @@ ghost use Rattle.step_book.specs.Names.{IsName};
 ghost use Rattle.step_machine.specs.Sealed.{IsPrepared};
 ghost use Rattle.step_machine.specs.Nodes.{algorithm_in};
 
-use crate::fault::Fault;
 use crate::journal::act::{Deed, Network};
 use crate::journal::seen::{Answer, Seen, tell};
 use crate::journal::taking::receive;
@@ -16,6 +15,7 @@ use slot_plans::Known;
 use step_book::{CloseFault, IdleFault, SendFault};
 use step_journal::Journal;
 use step_machine::{Name, Node, Prepared};
+use test_kit::Fault;
 
 /// What the node has for another.
 fn prepare(node: &mut Node, to: u32) -> Option<Prepared>

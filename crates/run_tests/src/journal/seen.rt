@@ -2,10 +2,10 @@
 ghost use Rattle.std.specs.Prelude.{◌<◌};
 
 use super::telling::frames_of;
-use crate::fault::Fault;
 use slot_plans::Known;
 use std::fmt::Debug;
 use step_journal::Journal;
+use test_kit::Fault;
 
 /// What a journal says of a node.
 #[derive(Clone, Copy, PartialEq, Eq, Debug)]

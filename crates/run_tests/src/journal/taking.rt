@@ -3,7 +3,6 @@ ghost use Rattle.std.specs.Prelude.{◌≡◌, All};
 ghost use Rattle.step_book.specs.Buffers.{IsMail};
 ghost use Rattle.step_machine.specs.Nodes.{algorithm_in};
 
-use crate::fault::Fault;
 use crate::journal::doing::number_of;
 use crate::journal::seen::{Answer, Seen, tell};
 use crate::journal::telling::tell_name;
@@ -11,6 +10,7 @@ use slot_plans::Known;
 use step_book::{ReceiveFault, Waiting};
 use step_journal::Journal;
 use step_machine::Node;
+use test_kit::Fault;
 
 /// The node takes frames, and what becomes of each is told.
 fn take_all(node: &mut Node, frames: Waiting, out: &mut String) -> Result<(), Fault>

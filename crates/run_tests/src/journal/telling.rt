@@ -2,7 +2,6 @@
 ghost use Rattle.std.specs.Prelude.{◌<◌, IsTrue};
 ghost use Rattle.step_book.specs.Names.{IsName};
 
-use crate::fault::Fault;
 use crate::journal::act::Question;
 use round_lang::ValueSet;
 use slot_plans::Known;
@@ -10,6 +9,7 @@ use std::alloc::Global;
 use step_book::StoredName;
 use step_journal::Journal;
 use step_machine::{InFlight, MAX_COPY, Name};
+use test_kit::Fault;
 
 const OUTSIDE: &str = "not within its limits";
 

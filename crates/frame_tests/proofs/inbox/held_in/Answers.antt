@@ -9,5 +9,8 @@ loop-part-preserved c =
     let old = c.loop-part.held.items in
     record {
       few = omega (arith, c.in_ok-push.ensures.len);
-      frames = subst (λ (held : List (Option (List ℕ))). AreFrames layout held) (sym {A = List (Option (List ℕ))} c.in_ok-push.ensures.items) (AreFrames-push layout old c.in_ok-frame_in.field-0 c.loop-part.invariant.frames c.in_ok-frame_in.ensures);
+      frames = subst (λ (held : List (Option (List ℕ))). AreFrames layout held)
+          (sym {A = List (Option (List ℕ))} c.in_ok-push.ensures.items)
+          (AreFrames-push layout old c.in_ok-frame_in.field-0 c.loop-part.invariant.frames
+          c.in_ok-frame_in.ensures);
     }

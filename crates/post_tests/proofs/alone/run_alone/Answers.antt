@@ -22,8 +22,10 @@ run_steps-requires-clause-together g c =
     let s = c.args.setup.now in
     let run = c.requires.run in
     let one : round_by a ≡ 1 = omega (arith, c.round.ensures.value, c.if-round-ne1.false) in
-    let within : c.node-2.result < s.nodes = omega (arith, c.node.ensures, c.node-2.ensures, c.if-node-setup.false) in
-    together_first _ p c.args.program.now s c.node-2.result a c.in_ok-node.node run c.in_ok-node.ensures c.node-2.ensures within one
+    let within : c.node-2.result < s.nodes =
+    omega (arith, c.node.ensures, c.node-2.ensures, c.if-node-setup.false) in
+    together_first _ p c.args.program.now s c.node-2.result a c.in_ok-node.node run
+    c.in_ok-node.ensures c.node-2.ensures within one
 
 pub run_steps-requires-clause-place : goal.run_steps-requires-clause-place
 run_steps-requires-clause-place g c =
@@ -31,4 +33,5 @@ run_steps-requires-clause-place g c =
     let a = c.args.seat in
     let none : a.steps ≡ 0 = omega (arith, c.steps.ensures, c.if-steps-ne0.false) in
     let one : round_by a ≡ 1 = omega (arith, c.round.ensures.value, c.if-round-ne1.false) in
-    placed_first (g.P.Plan.start p) (g.P.Plan.receives p) (g.P.Plan.nodes p) (g.met.P.Plan.laws p) c.args.setup.now.rounds a none one
+    placed_first (g.P.Plan.start p) (g.P.Plan.receives p) (g.P.Plan.nodes p)
+    (g.met.P.Plan.laws p) c.args.setup.now.rounds a none one

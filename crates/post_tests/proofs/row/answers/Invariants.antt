@@ -7,5 +7,6 @@ abbrev pub invariant-loop-event : goal.invariant-loop-event
 invariant-loop-event g l = record {
   program : g.C.Recorder.program l.recorder ≡ l.program;
   setup : l.schedule.setup ≡ g.C.Recorder.setup l.recorder;
-  nodes : All (λ (n : NodeView). (n.program ≡ l.program) × (n.setup ≡ l.schedule.setup)) l.nodes.items;
+  nodes : All (λ (n : NodeView). (n.program ≡ l.program)
+      × (n.setup ≡ l.schedule.setup)) l.nodes.items;
 }

@@ -18,4 +18,5 @@ take-taken-requires-clause-honest c =
 
 pub loop-frame-preserved : goal.loop-frame-preserved
 loop-frame-preserved c =
-    taking_next _ _ _ _ _ _ _ c.take-taken.result c.loop-frame.invariant c.in-Some.ensures c.take-taken.ensures.kept c.take-taken.ensures.dropped
+    taking_next _ _ _ _ _ _ _ c.take-taken.result c.loop-frame.invariant c.in-Some.ensures
+    c.take-taken.ensures.kept c.take-taken.ensures.dropped

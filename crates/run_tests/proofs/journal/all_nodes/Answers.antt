@@ -6,7 +6,11 @@ use Rattle.run_tests.proofs.journal.all_nodes.Goals as goal
 
 pub loop-place-preserved : goal.loop-place-preserved
 loop-place-preserved c =
-    let P : NodeView → Type 0 = λ (n : NodeView). (n.program ≡ c.args.program.now) × (n.setup ≡ c.args.setup.now) in
+    let P : NodeView → Type 0 = λ (n : NodeView). (n.program ≡ c.args.program.now)
+    × (n.setup ≡ c.args.setup.now) in
     let new = c.in_ok-new.ensures in
     subst (All P) (sym c.in_ok-push.ensures.items)
-    (All-push P _ _ c.loop-place.invariant (ap (λ (n : NodeView). n.program) new, ap (λ (n : NodeView). n.setup) new))
+    (All-push P _ _ c.loop-place.invariant (
+      ap (λ (n : NodeView). n.program) new,
+      ap (λ (n : NodeView). n.setup) new,
+    ))
