@@ -17,6 +17,7 @@ _roundc_choices() {
         'threads --trace' | \
         'judge --schedule' | \
         'lockstep --header' | \
+        'lockstep --omissions' | \
         'realise --header' | \
         'realise --omissions' | \
         'rounds --header' | \
@@ -37,7 +38,7 @@ _roundc_options() {
         'run') options='--schedule --decided -h --help -V --version' ;;
         'threads') options='--setup --trace --decided -h --help -V --version' ;;
         'judge') options='--schedule --correct --delta --gst -h --help -V --version' ;;
-        'lockstep') options='--header --correct --delta --gst --delays --orders --ticks -h --help -V --version' ;;
+        'lockstep') options='--header --correct --delta --gst --delays --orders --ticks --stop --omissions --delay -h --help -V --version' ;;
         'realise') options='--header --omissions -h --help -V --version' ;;
         'rounds') options='--header --omissions --decided -h --help -V --version' ;;
         'explore') options='--header --inputs --faults --clear --hears --check --always --trace -h --help -V --version' ;;
@@ -62,6 +63,9 @@ _roundc_takes_value() {
         'lockstep --delays' | \
         'lockstep --orders' | \
         'lockstep --ticks' | \
+        'lockstep --stop' | \
+        'lockstep --omissions' | \
+        'lockstep --delay' | \
         'realise --header' | \
         'realise --omissions' | \
         'rounds --header' | \

@@ -1,7 +1,7 @@
 # Completions of roundc for fish, made by .ci/manual from what `roundc help` says.
 
 # The options that take a value.
-set -g __roundc_valued --always --check --clear --correct --delays --delta --faults --gst --header --hears --inputs --omissions --orders --schedule --setup --ticks --trace
+set -g __roundc_valued --always --check --clear --correct --delay --delays --delta --faults --gst --header --hears --inputs --omissions --orders --schedule --setup --stop --ticks --trace
 
 # The words of the line behind `roundc`, without options and their values.
 function __roundc_words
@@ -73,6 +73,9 @@ complete -c roundc -n "__roundc_at 'lockstep'" -l gst -r -x -d 'The step from wh
 complete -c roundc -n "__roundc_at 'lockstep'" -l delays -r -x -d 'The delays of the messages, by their serials'
 complete -c roundc -n "__roundc_at 'lockstep'" -l orders -r -x -d 'The node that steps first in each tick'
 complete -c roundc -n "__roundc_at 'lockstep'" -l ticks -r -x -d 'How many ticks; by default as many as the rounds need'
+complete -c roundc -n "__roundc_at 'lockstep'" -l stop -r -x -d 'Node I takes no step from tick C on; may be repeated'
+complete -c roundc -n "__roundc_at 'lockstep'" -l omissions -r -F -d 'The file of messages that are never released, or - for standard input'
+complete -c roundc -n "__roundc_at 'lockstep'" -l delay -r -x -d 'The message of round R from node J to I has the delay W; may be repeated'
 complete -c roundc -n "__roundc_at 'lockstep'" -s h -l help -d 'Print help'
 complete -c roundc -n "__roundc_at 'lockstep'" -s V -l version -d 'Print version'
 complete -c roundc -n "__roundc_at 'lockstep' 0" -F -a '@gather: @count_votes: @dls1:'
