@@ -52,8 +52,8 @@ impl TraceIndex {
         }
     }
 
-    /// The place of a node's step, from 0, if it was taken.
-    pub(crate) fn step_place(&self, node: u32, step: u64) -> Option<usize>
+    /// The place in the trace of a node's step by its number, both from 0, if it was taken.
+    pub fn step_place(&self, node: u32, step: u64) -> Option<usize>
         ensures { result ≡ slice_get (slice_index_or self.now.steps node []) step }
     {
         self.steps.list(node as usize).get(step as usize).copied()
