@@ -19,4 +19,5 @@ pub use idle::{Idle, why_not_copied, why_not_let_go};
 pub use omission::is_omitted;
 pub use reason::Reason;
 pub use reasoning::reason_of;
+pub use receive::{Receive, first_receive};
 pub use trace_index::TraceIndex;

@@ -7,14 +7,14 @@ use slot_plans::{Plan, Slot};
 use step_book::Book;
 
 /// A receive of a node: its step number and its round.
-#[derive(Clone, Copy)]
-pub(crate) struct Receive {
-    pub(crate) step: u64,
-    pub(crate) round: u32,
+#[derive(Clone, Copy, PartialEq, Eq, Debug)]
+pub struct Receive {
+    pub step: u64,
+    pub round: u32,
 }
 
 /// The first receive among a node's steps from this number on; `None` past the last round.
-pub(crate) fn first_receive<P: Plan>(book: &Book<P>, low: u64) -> Option<Receive>
+pub fn first_receive<P: Plan>(book: &Book<P>, low: u64) -> Option<Receive>
     ensures { MatchOption result
         (NoReceiveFrom (world_of (P.start book.now.plan) book.now.log) low)
         (IsFirstReceive (world_of (P.start book.now.plan) book.now.log) low) }
