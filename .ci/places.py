@@ -7,6 +7,8 @@ The texts are programs of examples/ and random ones, cut off at a token, or with
 left out or in another's place, and random programs with faults of names and types. What
 `place_tests kinds` prints for the first token with which no program's tokens go on must be the
 kinds that the parser of .ci/language.py asks for there, one after the other, before it gives up.
+What `place_tests brief` says of that token, the place and the common mistake must be those of
+.ci/mistakes.py.
 Of a program, the place and the part of the text that `place_tests brief` prints must be those of
 .ci/placing.py, and with them the types, the counts and the nearest name. It prints its seed, and
 each text that is answered otherwise; the last line has the counts.
@@ -22,9 +24,15 @@ sys.dont_write_bytecode = True
 sys.path.insert(0, os.path.dirname(os.path.realpath(__file__)))
 import generating
 import language
+import mistakes
 import placing
 
 TOP = os.path.dirname(os.path.dirname(os.path.realpath(__file__)))
+
+
+# What is often written at first.
+MISTAKEN = """! != || // -- in elif to states unoin True EMPTY {} {1,2} [0,0] -1 ; := int size
+decide end at message(s) {v|true} if""".split()
 
 
 def changed(choose, text):
@@ -35,6 +43,8 @@ def changed(choose, text):
     other = choose.choice(found).text.encode()
     if choose.random() < 0.1:
         other = choose.choice(generating.ODD).encode()
+    elif choose.random() < 0.3:
+        other = choose.choice(MISTAKEN).encode()
     ways = (
         text[:at],
         text[:at] + b" " + other + b" " + text[at:],
@@ -76,8 +86,13 @@ def token_complaint(program, text, at):
     found = run(program, ["kinds", str(at)], text)
     if found != wanted:
         return f"wanted\n{wanted}found\n{found}"
-    wanted, found = place_of(text, at), run(program, ["why"], text).split("\n", 1)[0]
-    return None if found == wanted else f"wanted {wanted}, found {found}"
+    found = run(program, ["brief"], text)
+    gap = mistakes.gap_before(text, at)
+    wanted = f'{place_of(text, at)} "' if gap is None else f'{place_of(text, gap)} ""'
+    hint = mistakes.Mistake(text, at).hint()
+    told = f'" {mistakes.sentence(text[:at])}\n' + (f"{hint}\n" if hint else "")
+    fits = found.startswith(wanted) and found.endswith(told)
+    return None if fits else f"wanted {wanted}..{told}found {found}"
 
 
 def program_complaint(program, text):

@@ -166,12 +166,23 @@ def span(tree):
     return getattr(tree, "span", None) or (span(tree.parts[0])[0], span(tree.parts[-1])[1])
 
 
+# What is said of an operand of a wrong type, by the form, the type that it wants and the other.
+ADVICE = {
+    ("+", "num", "set"): 'sets are joined by "union"',
+    ("-", "num", "set"): 'sets are subtracted by "minus"',
+    ("has", "set", "num"): "has(s, e): the set comes first",
+    ("entry", "num", "set"): "r[e] is the entry of one value",
+    **{(it, "set", "num"): "the set of one value is single(e)"
+       for it in ("union", "inter", "minus")},
+}
+
+
 class Faults:
     """The places at which a program is at fault, by the number of the cause."""
 
     def __init__(self, text):
         self.placed = placed = Placed(text)
-        self.program, self.end, self.found = placed.program(), len(text), []
+        self.program, self.end, self.found = placed.program(), placed.tokens[-2].after, []
         self.types = {name.text: it.type for name, it in reversed(placed.variables)}
         self.inputs = [name for name, it in placed.variables if it.kind == "input"]
         self.all_fields = {name.text for own in placed.fields for name, _ in own}
@@ -232,32 +243,41 @@ class Faults:
             if int(number.text) != wanted or wanted > self.program.period:
                 self.note(number.first, number.after)
         if len(numbers) < self.program.period:
-            self.note(self.end, self.end, f"at {len(numbers) + 1}:")
+            self.note(self.end, self.end, f'"at {len(numbers) + 1}:" has to stand behind this')
 
-    def names(self, tree, bound=frozenset()):
+    def names(self, tree, bound=()):
         """Yields the names and words of an expression, and what is bound there."""
         yield tree, bound
         if tree.form in ("set of", "row of"):
-            bound = bound | {tree.name}
+            bound = (*bound, tree.name)
         for part in tree.parts:
             yield from self.names(part, bound)
 
     def unknown(self):
         known = {*self.types, *self.all_fields}
-        found = [(it.text, it.first) for it in [*self.placed.targets, *self.placed.decides]]
-        for site, *_ in self.placed.sites:
-            found += [(tree.name, span(tree)[0]) for tree, bound in self.names(site)
-                      if tree.form == "name" and tree.name not in bound]
-        for name, first in found:
-            if name not in known:
-                self.note(first, first + len(name), self.nearest(name))
+        variables = [it.text for it, _ in self.placed.variables]
+        for it in [*self.placed.targets, *self.placed.decides]:
+            if it.text not in known:
+                self.note(it.first, it.after, self.asked(it.text, variables))
+        for site, place, own, _ in self.placed.sites:
+            for tree, bound in self.names(site):
+                if tree.form == "name" and tree.name not in {*bound, *known}:
+                    first = span(tree)[0]
+                    meant = self.readable(place, own, bound)
+                    self.note(first, first + len(tree.name), self.asked(tree.name, meant))
 
-    def nearest(self, name):
-        names = [it.text for it, _ in self.placed.variables]
-        names += [it.text for own in self.placed.fields for it, _ in own]
-        near = min(names, key=lambda it: edits(name, it))
-        is_near = edits(name, near) <= (len(name) + 1) // 3
-        return f'is it "{near}"?' if is_near else "isn't declared\n"
+    def readable(self, place, own, bound):
+        """Returns the names and words that may stand in an expression there."""
+        initial = place == "initial"
+        names = [it for it, of in self.placed.variables if not initial or of.kind == "input"]
+        names += [name for name, _ in own] if place == "message" else []
+        words = "true false empty all zero me n t".split() + ["round", "phase"] * (not initial)
+        words += {"send": ["dest"], "message": ["from"]}.get(place, [])
+        return [*(it.text for it in names), *bound, *words]
+
+    def asked(self, name, meant):
+        near = nearest(name, meant)
+        return f'isn\'t declared; is it "{near}"?' if near else "isn't declared\n"
 
     def misplaced(self):
         for it in [*self.placed.targets, *self.placed.decides]:
@@ -282,8 +302,8 @@ class Faults:
     def lengths(self):
         for first, after, sent, fields in self.placed.counts:
             if sent != fields:
-                counts = f"fields of the message: {fields}, values that are sent: {sent}"
-                self.note(first, after, counts)
+                counts = f"the message has {fields} field{'s' * (fields != 1)}, and {sent} value"
+                self.note(first, after, counts + (" is sent\n" if sent == 1 else "s are sent\n"))
 
     def wrong_types(self):
         for name in self.placed.decides:
@@ -293,9 +313,11 @@ class Faults:
             names = {name.text: of for name, of in own} if place == "message" else {}
             self.want(tree, self.type_of(tree, {**self.types, **names}), wanted)
 
-    def want(self, tree, found, wanted):
+    def want(self, tree, found, wanted, form=""):
         if found and wanted and found != wanted:
-            self.note(*span(tree), f"a {wanted}, and this is a {found}")
+            advice = ADVICE.get((form, wanted, found))
+            told = f"; {advice}\n" if advice else "\n"
+            self.note(*span(tree), f"a {wanted}, and this is a {found}{told}")
         return found == wanted
 
     def type_of(self, tree, names):
@@ -312,12 +334,19 @@ class Faults:
             wanted, result = ["bool", parts[1], parts[1]], parts[1]
         else:
             wanted, result = language.SIGNATURES[tree.form]
-        fits = [self.want(*it) for it in zip(tree.parts, parts, wanted)]
+        fits = [self.want(*it, tree.form) for it in zip(tree.parts, parts, wanted)]
         return result if all(fits) and None not in parts else None
 
 
+def nearest(name, others):
+    """Returns the first of the nearest names, if it's near enough, or None."""
+    near = min(others, key=lambda it: edits(name, it), default=None)
+    return near if near and edits(name, near) <= (len(name) + 1) // 3 else None
+
+
 def edits(name, other):
-    """Returns how many letters are to be changed, put in or left out."""
+    """Returns how many letters are to be changed, put in or left out; case doesn't count."""
+    name, other = name.lower(), other.lower()
     row = [*range(len(other) + 1)]
     for count, letter in enumerate(name, 1):
         last, row[0] = row[0], count

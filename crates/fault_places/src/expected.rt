@@ -1,11 +1,13 @@
 //! What could stand where a text goes wrong.
 
 use crate::kind::{KINDS, TokenKind};
-use crate::mistake::{Found, Mistake, mistake_of};
+use crate::mistake::Mistake;
 use crate::place::before;
 use crate::previous::Previous;
+use crate::recognition::mistake_of;
+use crate::spot::{Found, Spot};
 use crate::trial::Trial;
-use round_lang::{Mark, NoMemory, Token, TokenFault, tokens};
+use round_lang::{Mark, NoMemory, Span, Token, TokenFault, tokens};
 use std::alloc::Global;
 use std::fmt;
 
@@ -34,17 +36,31 @@ impl fmt::Display for Item {
 
 /// What could stand at a place of a text.
 #[derive(Drop, Debug)]
-pub struct Expected {
+pub struct Expected<'a> {
     kinds: Vec<TokenKind>,
     items: Vec<Item>,
-    previous: Previous,
+    previous: Previous<'a>,
     mistake: Option<Mistake>,
+    /// Where the token before ends, if something is missing behind it.
+    gap: Option<usize>,
 }
 
-impl Expected {
+impl Expected<'_> {
     /// The kinds of token that could stand there.
     pub fn kinds(&self) -> &[TokenKind] {
         &self.kinds
+    }
+
+    /// The part of the text to show, if `parse` answers this one: the place behind the token
+    /// before, if something is missing there.
+    pub fn place(&self, refused: Span) -> Span {
+        match self.gap {
+            Some(end) => Span {
+                first: end,
+                after: end,
+            },
+            None => refused,
+        }
     }
 
     /// The mistake that was made there, if it's one of the common ones.
@@ -54,23 +70,31 @@ impl Expected {
 }
 
 /// A sentence of what could stand there.
-impl fmt::Display for Expected {
+impl fmt::Display for Expected<'_> {
     fn fmt<W: fmt::Write>(&self, f: &mut fmt::Formatter<W>) -> fmt::Result {
-        if self.items.is_empty() {
-            return write!(f, "this can't stand here {}", self.previous);
-        }
-        write!(f, "expected ")?;
-        for (place, item) in self.items.iter().enumerate() {
-            if place == 0 {
-                write!(f, "{item}")?;
-            } else if place + 1 == self.items.len() {
-                write!(f, " or {item}")?;
-            } else {
-                write!(f, ", {item}")?;
+        match self.items.as_slice() {
+            [] => write!(f, "this can't stand here {}", self.previous),
+            [item] => write!(f, "{} there has to be {item}", self.previous),
+            items => {
+                write!(f, "{} there can be ", self.previous)?;
+                write_items(items, f)
             }
         }
-        write!(f, " {}", self.previous)
     }
+}
+
+/// Writes a list of items.
+fn write_items<W: fmt::Write>(items: &[Item], f: &mut fmt::Formatter<W>) -> fmt::Result {
+    for (place, item) in items.iter().enumerate() {
+        if place == 0 {
+            write!(f, "{item}")?;
+        } else if place + 1 == items.len() {
+            write!(f, " or {item}")?;
+        } else {
+            write!(f, ", {item}")?;
+        }
+    }
+    Ok(())
 }
 
 /// Whether a kind is one of those that begin an expression.
@@ -136,11 +160,23 @@ fn kinds_behind(alloc: Global, before: &[Token<'_>]) -> Result<Vec<TokenKind>, N
     Ok(kinds)
 }
 
+/// Where the token before ends, if something is missing behind it.
+fn gap(spot: &Spot<'_, '_>, mistake: Option<Mistake>) -> Option<usize> {
+    let last = spot.front.last()?;
+    let is_end = matches!(spot.found, Found::End);
+    let is_gap = mistake.is_some_and(|mistake| mistake.is_gap());
+    (is_end || is_gap).then_some(last.span.after)
+}
+
 /// What could stand at the offset: the kinds of token with which some program goes on, if its
 /// tokens begin as the text does before the offset. The offset that `parse` answers for an
 /// unexpected token or a bad one is meant. If the tokens before it pass a limit of the language, or
 /// fill a text to its limit, no kind is found.
-pub fn expected_at(alloc: Global, text: &str, offset: usize) -> Result<Expected, NoMemory> {
+pub fn expected_at<'a>(
+    alloc: Global,
+    text: &'a str,
+    offset: usize,
+) -> Result<Expected<'a>, NoMemory> {
     let front = before(text.as_bytes(), offset);
     let front = match tokens(alloc, front) {
         Ok(front) => front,
@@ -148,11 +184,14 @@ pub fn expected_at(alloc: Global, text: &str, offset: usize) -> Result<Expected,
         Err(TokenFault::BadToken(_)) => Vec::new(alloc),
     };
     let kinds = kinds_behind(alloc, &front)?;
-    let found = Found::at(alloc, text.as_bytes(), offset)?;
+    let spot = Spot::new(alloc, text.as_bytes(), offset, &front, &kinds)?;
+    let mistake = mistake_of(alloc, &spot)?;
+    let gap = gap(&spot, mistake);
     Ok(Expected {
         items: items_of(alloc, &kinds)?,
         previous: Previous::of(&front),
-        mistake: mistake_of(&front, found, &kinds),
+        mistake,
+        gap,
         kinds,
     })
 }

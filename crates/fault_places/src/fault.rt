@@ -3,7 +3,8 @@
 use crate::doubles::note_doubles;
 use crate::earliest::Earliest;
 use crate::layout::{Layout, NameAt};
-use crate::nearest::nearest_name;
+use crate::meanings::meant;
+use crate::nearest::Meant;
 use crate::parts::span_of;
 use crate::rules::{NotAllowed, Rule};
 use crate::scope::{Placed, is_input};
@@ -31,10 +32,12 @@ pub enum Double {
 /// Where a program is at fault, and what is wrong there.
 #[derive(Clone, Copy, PartialEq, Eq, Debug)]
 pub enum FaultPlace<'a> {
-    /// A name that isn't declared, and the nearest one that is, if one is near.
+    /// A name that isn't declared, and the nearest one that may stand there, if one is near: a name
+    /// that is declared, or a word of the language.
     UnknownName {
         name: NameAt<'a>,
         nearest: Option<NameAt<'a>>,
+        word: Option<&'a str>,
     },
     /// A name whose second meaning stands in the text behind another.
     DoubleName {
@@ -61,23 +64,23 @@ pub enum FaultPlace<'a> {
         word: Span,
         why: NotAllowed<'a>,
     },
-    /// The end of the declarations, of which none is the input.
+    /// The first block, or the place behind the last token, if no declaration is the input.
     NoInput {
         end: Span,
     },
-    /// The end of the declarations, of which none says what is decided.
+    /// The same, if no declaration says what is decided.
     NoDecision {
         end: Span,
     },
-    /// The number of a block that should be that of another round, or of none; or the end of the
-    /// text, if a block lacks there.
+    /// The number of a block that should be that of another round, or of none; or the place behind
+    /// the last token, if a block lacks there.
     MissingRound {
         number: Span,
         round: Option<u32>,
     },
 }
 
-/// The first block whose number isn't the round's, or the end of the text, if a block lacks there.
+/// The first block whose number isn't the round's, or the end, if a block lacks there.
 fn missing_round<'a>(placed: &Placed<'_, '_, '_>, end: usize) -> Option<FaultPlace<'a>> {
     let mut rounds = 0u32;
     let period = placed.program.period();
@@ -186,18 +189,46 @@ fn note_types<'p, 't, 'a>(
     }
 }
 
-/// The fault with the nearest name, if it's a name that isn't declared.
-fn with_nearest<'a>(
+/// The first name that isn't declared, with the nearest one that may stand there.
+fn unknown_name<'p, 't, 'a>(
     alloc: Global,
-    placed: &Placed<'_, '_, 'a>,
-    fault: FaultPlace<'a>,
-) -> Result<FaultPlace<'a>, NoMemory> {
-    match fault {
-        FaultPlace::UnknownName { name, nearest: _ } => Ok(FaultPlace::UnknownName {
-            name,
-            nearest: nearest_name(alloc, placed, name.text)?,
-        }),
+    placed: &'p Placed<'p, 't, 'a>,
+) -> Result<Option<FaultPlace<'a>>, NoMemory> {
+    let mut earliest = Earliest::new();
+    let sites = Sites::new(alloc, placed)?;
+    note_rule(placed, &sites, Rule::Known, &mut earliest);
+    match earliest.fault {
+        Some(FaultPlace::UnknownName { name, .. }) => {
+            let meant = meant(alloc, placed, &sites, name)?;
+            Ok(Some(FaultPlace::unknown(name, meant)))
+        }
         fault => Ok(fault),
+    }
+}
+
+impl<'a> FaultPlace<'a> {
+    /// A name that isn't declared, and what was meant by it, if that's known.
+    pub(crate) fn unknown(name: NameAt<'a>, meant: Option<Meant<'a>>) -> FaultPlace<'a> {
+        let Some(meant) = meant else {
+            return FaultPlace::UnknownName {
+                name,
+                nearest: None,
+                word: None,
+            };
+        };
+        let text = meant.text;
+        match meant.declared {
+            Some(span) => FaultPlace::UnknownName {
+                name,
+                nearest: Some(NameAt { text, span }),
+                word: None,
+            },
+            None => FaultPlace::UnknownName {
+                name,
+                nearest: None,
+                word: Some(text),
+            },
+        }
     }
 }
 
@@ -219,14 +250,7 @@ fn place_in<'p, 't, 'a>(
                 &mut earliest,
             );
         }
-        CheckFault::UnknownName => {
-            note_rule(
-                placed,
-                &Sites::new(alloc, placed)?,
-                Rule::Known,
-                &mut earliest,
-            );
-        }
+        CheckFault::UnknownName => return unknown_name(alloc, placed),
         CheckFault::NotAllowedHere => {
             note_rule(
                 placed,
@@ -242,10 +266,7 @@ fn place_in<'p, 't, 'a>(
         CheckFault::MissingRound => return Ok(missing_round(placed, end)),
         CheckFault::NoMemory => return Err(NoMemory),
     }
-    match earliest.fault {
-        Some(fault) => Ok(Some(with_nearest(alloc, placed, fault)?)),
-        None => Ok(None),
-    }
+    Ok(earliest.fault)
 }
 
 /// Where the program that a text is has the fault that its check answered: the first place in the
@@ -262,10 +283,11 @@ pub fn fault_place<'a>(
         Err(TokenFault::NoMemory) => return Err(NoMemory),
         Err(TokenFault::BadToken(_)) => return Ok(None),
     };
-    let layout = Layout::new(alloc, &found, text.len())?;
+    let end = span_of(&found).map_or(text.len(), |program| program.after);
+    let layout = Layout::new(alloc, &found, end)?;
     let placed = Placed {
         program,
         layout: &layout,
     };
-    place_in(alloc, &placed, text.len(), fault)
+    place_in(alloc, &placed, end, fault)
 }

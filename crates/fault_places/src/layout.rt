@@ -45,7 +45,7 @@ pub(crate) struct Layout<'t, 'a> {
     pub(crate) variables: Vec<VariablePlace<'t, 'a>>,
     pub(crate) decides: Vec<NameAt<'a>>,
     pub(crate) blocks: Vec<BlockPlace<'t, 'a>>,
-    /// Where the declarations end: at the first block, or at the end of the text.
+    /// Where the declarations end: at the first block, or behind the last token.
     pub(crate) declarations_end: Span,
 }
 
@@ -147,7 +147,7 @@ fn chunks<'t, 'a>(alloc: Global, part: &'t [Token<'a>]) -> Result<Vec<&'t [Token
 }
 
 impl<'t, 'a> Layout<'t, 'a> {
-    /// The layout of the program that the tokens are; `end` is where the text ends.
+    /// The layout of the program that the tokens are; `end` is where they end.
     pub(crate) fn new(
         alloc: Global,
         tokens: &'t [Token<'a>],

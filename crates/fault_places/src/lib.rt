@@ -1,8 +1,8 @@
 //! Where a refused text is at fault: its lines and columns, what could stand there, and where its
 //! program breaks a rule.
 //!
-//! What lines, columns and carets are is proved exactly, and so is which declared name is nearest
-//! to one that isn't declared. Of what `expected_at` and `fault_place` find only safety is proved:
+//! What lines, columns and carets are is proved exactly, and so is which of the names and words that
+//! may stand in a place is nearest to one that isn't declared. Of what `expected_at` and `fault_place` find only safety is proved:
 //! it's compared with a second reading, `.ci/placing.py`, on random texts.
 #![tactic(auto)]
 
@@ -14,16 +14,19 @@ mod fault;
 mod kind;
 mod layout;
 mod line;
+mod meanings;
 mod mistake;
 mod nearest;
 mod operands;
 mod parts;
 mod place;
 mod previous;
+mod recognition;
 mod rules;
 mod scope;
 mod sites;
 mod spelling;
+mod spot;
 mod telling;
 mod trial;
 mod types;

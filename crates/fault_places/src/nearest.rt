@@ -1,13 +1,38 @@
-//! The declared name that is nearest to one that isn't declared.
+//! The name or word that is nearest to one that was written.
 ghost use Rattle.std.specs.Prelude.{◌≡◌, ◌≤◌, ◌<◌, All, IfNone, IfOk, IfSome};
 ghost use Rattle.fault_places.specs.Nearness as spec;
-ghost use Rattle.fault_places.specs.declared.layout.NameAt.{NameAt as Place};
+ghost use Rattle.fault_places.specs.declared.nearest.Meant.{Meant as Name};
 
 use crate::layout::NameAt;
-use crate::scope::Placed;
-use round_lang::NoMemory;
+use round_lang::{NoMemory, Span};
 use std::alloc::Global;
 use strsim::levenshtein;
+
+/// A name or a word that could have been meant.
+#[derive(Clone, Copy, PartialEq, Eq, Debug)]
+pub(crate) struct Meant<'a> {
+    pub(crate) text: &'a str,
+    /// Where the name is declared; none of a word of the language.
+    pub(crate) declared: Option<Span>,
+}
+
+impl<'a> Meant<'a> {
+    /// A declared name.
+    pub(crate) fn name(name: NameAt<'a>) -> Meant<'a> {
+        Meant {
+            text: name.text,
+            declared: Some(name.span),
+        }
+    }
+
+    /// A word of the language.
+    pub(crate) fn word(text: &'a str) -> Meant<'a> {
+        Meant {
+            text,
+            declared: None,
+        }
+    }
+}
 
 /// How many edits a name may be away from one that was meant.
 fn most_edits(name: &str) -> usize
@@ -16,12 +41,14 @@ fn most_edits(name: &str) -> usize
     (name.len() + 1) / 3
 }
 
-/// How many edits make one name of another.
+/// How many edits make one name of another, if case doesn't count.
 #[tactic(auto, unfolding(crate::specs::Nearness::edits))]
 fn edits(alloc: Global, name: &str, other: &str) -> Result<usize, NoMemory>
     ensures { IfOk result (λ count. count ≡ spec.edits name.now other.now) }
 {
-    Ok(levenshtein(alloc, name, other)?)
+    let name = name.to_ascii_lowercase(alloc)?;
+    let other = other.to_ascii_lowercase(alloc)?;
+    Ok(levenshtein(alloc, &name, &other)?)
 }
 
 /// The nearest of the names to a name, if one is near enough; the first of those that are equally
@@ -29,13 +56,13 @@ fn edits(alloc: Global, name: &str, other: &str) -> Result<usize, NoMemory>
 pub(crate) fn nearest<'a>(
     alloc: Global,
     name: &str,
-    names: &[NameAt<'a>],
-) -> Result<Option<NameAt<'a>>, NoMemory>
+    names: &[Meant<'a>],
+) -> Result<Option<Meant<'a>>, NoMemory>
     ensures near { IfOk result (λ found. IfSome found (λ near.
         spec.edits name.now near.text.now ≤ spec.most_edits name.now)) }
-    ensures nearest { IfOk result (λ found. IfSome found (λ near. All (λ (other : Place).
+    ensures nearest { IfOk result (λ found. IfSome found (λ near. All (λ (other : Name).
         spec.edits name.now near.text.now ≤ spec.edits name.now other.text.now) names.now)) }
-    ensures none { IfOk result (λ found. IfNone found (All (λ (other : Place).
+    ensures none { IfOk result (λ found. IfNone found (All (λ (other : Name).
         spec.most_edits name.now < spec.edits name.now other.text.now) names.now)) }
 {
     let mut limit = most_edits(name) + 1;
@@ -48,22 +75,4 @@ pub(crate) fn nearest<'a>(
         }
     }
     Ok(nearest)
-}
-
-/// The declared name that is nearest to another, if one is near enough.
-pub(crate) fn nearest_name<'a>(
-    alloc: Global,
-    placed: &Placed<'_, '_, 'a>,
-    name: &str,
-) -> Result<Option<NameAt<'a>>, NoMemory> {
-    let mut names = Vec::new(alloc);
-    for variable in &placed.layout.variables {
-        names.push(variable.name)?;
-    }
-    for block in &placed.layout.blocks {
-        for field in &block.fields {
-            names.push(*field)?;
-        }
-    }
-    nearest(alloc, name, &names)
 }

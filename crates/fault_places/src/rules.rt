@@ -50,7 +50,7 @@ struct View<'p, 't, 'a> {
 }
 
 /// Why a constant may not stand there, if it may not.
-fn constant_fault<'a>(constant: Constant, position: Position) -> Option<NotAllowed<'a>> {
+pub(crate) fn constant_fault<'a>(constant: Constant, position: Position) -> Option<NotAllowed<'a>> {
     match constant {
         Constant::Dest if position != Position::Send => Some(NotAllowed::Dest),
         Constant::From if position != Position::OnMessage => Some(NotAllowed::From),
@@ -108,8 +108,7 @@ fn is_declared(placed: &Placed<'_, '_, '_>, name: &Identifier) -> bool {
 
 impl<'a> Earliest<'a> {
     fn note_unknown(&mut self, name: NameAt<'a>) {
-        let nearest = None;
-        self.note(name.span.first, FaultPlace::UnknownName { name, nearest });
+        self.note(name.span.first, FaultPlace::unknown(name, None));
     }
 
     fn note_not_allowed(&mut self, word: Span, why: NotAllowed<'a>) {

@@ -1,6 +1,6 @@
 //! How the language's own words and symbols are spelt.
 
-use round_lang::{BinaryOperator, Constant, Mark, Ty, UnaryOperator};
+use round_lang::{BinaryOperator, Constant, Mark, Ty, UnaryOperator, Word};
 
 /// The word or symbol of a mark.
 pub(crate) fn mark_text(mark: Mark) -> &'static str {
@@ -100,5 +100,17 @@ pub(crate) fn binary_text(operator: BinaryOperator) -> &'static str {
         BinaryOperator::Minus => "minus",
         BinaryOperator::Has => "has",
         BinaryOperator::Entry => "[..]",
+    }
+}
+
+/// The word or symbol of a token; nothing of a name or a number.
+pub(crate) fn word_text(word: Word<'_>) -> &'static str {
+    match word {
+        Word::Name(_) | Word::Number(_) => "",
+        Word::Mark(mark) => mark_text(mark),
+        Word::Kind(ty) => type_text(ty),
+        Word::Fixed(constant) => constant_text(constant),
+        Word::Call(operator) => unary_text(operator),
+        Word::Infix(operator) => binary_text(operator),
     }
 }

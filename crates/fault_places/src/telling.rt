@@ -3,7 +3,8 @@
 use crate::fault::{Double, FaultPlace};
 use crate::layout::NameAt;
 use crate::rules::NotAllowed;
-use round_lang::Ty;
+use crate::wants::Wants;
+use round_lang::{Span, Ty};
 use std::fmt;
 
 /// Why a word or a name may not stand there, in words.
@@ -51,20 +52,77 @@ fn write_double<W: fmt::Write>(
 
 fn write_unknown<W: fmt::Write>(
     name: NameAt<'_>,
-    nearest: Option<NameAt<'_>>,
+    near: Option<&str>,
     f: &mut fmt::Formatter<W>,
 ) -> fmt::Result {
     write!(f, "the name \"{}\" isn't declared", name.text)?;
-    match nearest {
-        Some(nearest) => write!(f, "; is it \"{}\"?", nearest.text),
+    match near {
+        Some(near) => write!(f, "; is it \"{near}\"?"),
         None => Ok(()),
     }
 }
 
-fn write_round<W: fmt::Write>(round: Option<u32>, f: &mut fmt::Formatter<W>) -> fmt::Result {
+/// The nearest name or word.
+fn near<'a>(nearest: Option<NameAt<'a>>, word: Option<&'a str>) -> Option<&'a str> {
+    match nearest {
+        Some(nearest) => Some(nearest.text),
+        None => word,
+    }
+}
+
+fn write_round<W: fmt::Write>(
+    number: Span,
+    round: Option<u32>,
+    f: &mut fmt::Formatter<W>,
+) -> fmt::Result {
+    let is_end = number.first == number.after;
     match round {
+        Some(round) if is_end => { write!(f, "the block \"at {round}:\" has to stand behind this") }
         Some(round) => write!(f, "the block \"at {round}:\" has to stand here"),
         None => write!(f, "the period has no more rounds, and so no more blocks"),
+    }
+}
+
+fn write_counts<W: fmt::Write>(
+    fields: usize,
+    values: usize,
+    f: &mut fmt::Formatter<W>,
+) -> fmt::Result {
+    let noun = if fields == 1 { "field" } else { "fields" };
+    write!(f, "the message has {fields} {noun}, and ")?;
+    if values == 1 {
+        write!(f, "1 value is sent")
+    } else {
+        write!(f, "{values} values are sent")
+    }
+}
+
+/// What to write in the place of an operand of a wrong type, for common mistakes.
+fn advice(wants: Wants<'_>, wanted: Ty, found: Ty) -> Option<&'static str> {
+    let Wants::Operator(word) = wants else {
+        return None;
+    };
+    match (word, wanted, found) {
+        ("+", _, Ty::Set) => Some("sets are joined by \"union\""),
+        ("-", _, Ty::Set) => Some("sets are subtracted by \"minus\""),
+        ("union" | "inter" | "minus", _, Ty::Num) => Some("the set of one value is single(e)"),
+        ("has", _, Ty::Num) => Some("has(s, e): the set comes first"),
+        ("[..]", Ty::Num, Ty::Set) => Some("r[e] is the entry of one value"),
+        _ => None,
+    }
+}
+
+fn write_type<W: fmt::Write>(
+    wanted: Ty,
+    found: Ty,
+    wants: Wants<'_>,
+    f: &mut fmt::Formatter<W>,
+) -> fmt::Result {
+    let found_text = kind_text(found);
+    write!(f, "{wants} {}, and this is {found_text}", kind_text(wanted))?;
+    match advice(wants, wanted, found) {
+        Some(advice) => write!(f, "; {advice}"),
+        None => Ok(()),
     }
 }
 
@@ -82,27 +140,19 @@ fn kind_text(ty: Ty) -> &'static str {
 impl fmt::Display for FaultPlace<'_> {
     fn fmt<W: fmt::Write>(&self, f: &mut fmt::Formatter<W>) -> fmt::Result {
         match self {
-            FaultPlace::UnknownName { name, nearest } => write_unknown(*name, *nearest, f),
+            FaultPlace::UnknownName {
+                name,
+                nearest,
+                word,
+            } => write_unknown(*name, near(*nearest, *word), f),
             FaultPlace::DoubleName { name, double, .. } => write_double(*name, *double, f),
             FaultPlace::WrongType {
                 wanted,
                 found,
                 wants,
                 ..
-            } => {
-                write!(
-                    f,
-                    "{wants} {}, and this is {}",
-                    kind_text(*wanted),
-                    kind_text(*found)
-                )
-            }
-            FaultPlace::FieldCount { fields, values, .. } => {
-                write!(
-                    f,
-                    "fields of the message: {fields}, values that are sent: {values}"
-                )
-            }
+            } => write_type(*wanted, *found, *wants, f),
+            FaultPlace::FieldCount { fields, values, .. } => write_counts(*fields, *values, f),
             FaultPlace::NotAllowedHere { why, .. } => write!(f, "{why}"),
             FaultPlace::NoInput { .. } => {
                 write!(
@@ -113,7 +163,7 @@ impl fmt::Display for FaultPlace<'_> {
             FaultPlace::NoDecision { .. } => {
                 write!(f, "no variable decides: a line \"decide NAME\" is missing")
             }
-            FaultPlace::MissingRound { round, .. } => write_round(*round, f),
+            FaultPlace::MissingRound { number, round } => write_round(*number, *round, f),
         }
     }
 }

@@ -45,7 +45,7 @@ fn tell_expected(
     out: &mut String,
 ) -> Result<(), Fault> {
     let expected = expected_at(alloc, text, span.first)?;
-    tell_place(alloc, text, span, form, out)?;
+    tell_place(alloc, text, expected.place(span), form, out)?;
     write!(out, "{expected}\n")?;
     if let Some(mistake) = expected.mistake() {
         write!(out, "{mistake}\n")?;
