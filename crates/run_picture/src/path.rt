@@ -1,0 +1,144 @@
+//! The lines of arrows.
+use crate::arrow::Arrow;
+use crate::grid::{Grid, Point};
+use crate::messages::Fate;
+use std::fmt;
+
+/// A straight line, or a curve that is pulled to a point.
+#[derive(Clone, Copy)]
+pub(crate) struct ArrowPath {
+    pub start: Point,
+    pub pull: Option<Point>,
+    pub end: Point,
+}
+
+impl ArrowPath {
+    /// The line of an arrow, if both lanes are shown. A message to oneself hangs from its lane, and
+    /// copies that the network made go by curves.
+    pub(crate) fn new(grid: &Grid, arrow: &Arrow) -> Option<ArrowPath> {
+        let start = Point {
+            x: grid.x(arrow.sent.at),
+            y: grid.y(arrow.name.from)?,
+        };
+        if arrow.name.from == arrow.name.to {
+            return Some(hanging(grid, arrow, start));
+        }
+        let lane = grid.y(arrow.name.to)?;
+        let end = end_of(grid, arrow, start, lane);
+        let pull = match arrow.name.copy {
+            0 => None,
+            copy => Some(pull_of(start, end, copy)),
+        };
+        Some(ArrowPath { start, pull, end })
+    }
+
+    /// Where the number of the copy stands.
+    pub(crate) fn label(&self) -> Point {
+        let middle = middle(self.start, self.end);
+        match self.pull {
+            Some(pull) => Point {
+                x: middle.x.midpoint(pull.x).saturating_add(4),
+                y: middle.y.midpoint(pull.y).saturating_add(3),
+            },
+            None => middle,
+        }
+    }
+}
+
+impl fmt::Display for ArrowPath {
+    fn fmt<W: fmt::Write>(&self, f: &mut fmt::Formatter<W>) -> fmt::Result {
+        let Point { x, y } = self.start;
+        write!(f, "M{x} {y}")?;
+        match self.pull {
+            Some(Point { x, y }) => write!(f, "Q{x} {y} ")?,
+            None => write!(f, "L")?,
+        }
+        let Point { x, y } = self.end;
+        write!(f, "{x} {y}")
+    }
+}
+
+/// The line of a message to oneself.
+fn hanging(grid: &Grid, arrow: &Arrow, start: Point) -> ArrowPath {
+    let deeper = arrow.name.copy.saturating_mul(8);
+    let (x, depth) = match arrow.copy.fate {
+        Fate::Received { received, .. } => (grid.x(received.at), 9),
+        Fate::Dropped(dropped) => (grid.x(dropped.at), 20),
+        Fate::Waiting { released } => (grid.x(released.at), 16),
+        Fate::Flying => (start.x.saturating_add(18), 16),
+    };
+    let end = Point {
+        x,
+        y: start.y.saturating_add(depth),
+    };
+    let pull = Point {
+        x: middle(start, end).x,
+        y: start.y.saturating_add(34).saturating_add(deeper),
+    };
+    ArrowPath {
+        start,
+        pull: Some(pull),
+        end,
+    }
+}
+
+/// Where the arrow of a message to another node ends, whose lane this is. What isn't received ends
+/// before the lane, and the ends of the copies from different senders lie apart.
+fn end_of(grid: &Grid, arrow: &Arrow, start: Point, lane: u32) -> Point {
+    let apart = (arrow.name.from % 4).saturating_mul(3);
+    match arrow.copy.fate {
+        Fate::Received { received, .. } => Point {
+            x: grid.x(received.at),
+            y: short_of(start.y, lane, 7),
+        },
+        Fate::Dropped(dropped) => Point {
+            x: grid.x(dropped.at),
+            y: short_of(start.y, lane, apart.saturating_add(22)),
+        },
+        Fate::Waiting { released } => Point {
+            x: grid.x(released.at),
+            y: short_of(start.y, lane, apart.saturating_add(14)),
+        },
+        Fate::Flying => stub(grid, start, lane, arrow.name.copy),
+    }
+}
+
+/// Where the arrow of a copy ends that is still in flight: not far from its sender.
+fn stub(grid: &Grid, start: Point, lane: u32, copy: u32) -> Point {
+    let columns = copy.saturating_add(3);
+    Point {
+        x: columns.saturating_mul(grid.half()).saturating_add(start.x),
+        y: short_of(lane, start.y, 30),
+    }
+}
+
+/// So much before a height, on the side of the one from which it's reached.
+fn short_of(from: u32, to: u32, gap: u32) -> u32 {
+    if from < to {
+        to.saturating_sub(gap)
+    } else {
+        to.saturating_add(gap)
+    }
+}
+
+/// To where the curve of a copy is pulled: to the right of its line.
+fn pull_of(start: Point, end: Point, copy: u32) -> Point {
+    let middle = middle(start, end);
+    let pull = copy.saturating_mul(16);
+    let y = if start.y < end.y {
+        middle.y.saturating_sub(pull / 2)
+    } else {
+        middle.y.saturating_add(pull / 2)
+    };
+    Point {
+        x: middle.x.saturating_add(pull),
+        y,
+    }
+}
+
+fn middle(start: Point, end: Point) -> Point {
+    Point {
+        x: start.x.midpoint(end.x),
+        y: start.y.midpoint(end.y),
+    }
+}
