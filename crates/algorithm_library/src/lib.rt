@@ -8,4 +8,4 @@ mod source;
 mod texts;
 
 pub use fault::LibraryFault;
-pub use library::{count_votes, dls1, gather};
+pub use library::{count_votes, count_votes_text, dls1, dls1_text, gather, gather_text};

@@ -1,5 +1,6 @@
-//! The programs of the library.
+//! The programs of the library, and their texts.
 ghost use Rattle.std.specs.Prelude.{◌≡◌, ◌≢◌, ◌+◌, ◌*◌, ◌≤◌, ◌↔◌, Err, IfOk, IsTrue, OnOk};
+ghost use Rattle.std.specs.Prelude.{string_bytes};
 ghost use Rattle.algorithm_library.specs.declared.fault.LibraryFault.TheVariants as fault;
 ghost use Rattle.algorithm_library.specs.Agreeing.{KeepsAgreement, KeepsValidity};
 ghost use Rattle.algorithm_library.specs.Programs.{count_votes_tree, gather_tree};
@@ -9,7 +10,7 @@ ghost use Rattle.round_lang.specs.Source.{IsSource};
 ghost use Rattle.round_meaning.specs.Algorithm1.{dls1 as dls1_tree};
 
 use crate::fault::LibraryFault;
-use crate::source::program_of;
+use crate::source::{program_of, text_of};
 use crate::texts::{count_votes_rest, dls1_rest, gather_rest};
 use round_check::Checked;
 use round_meaning::{MAX_FAULTS, MAX_NODES};
@@ -66,6 +67,45 @@ pub fn dls1(alloc: Global, nodes: u32, faults: u32, values: u32) -> Result<Check
         return Err(LibraryFault::TooFew);
     }
     Ok(program_of(alloc, values, dls1_rest())?)
+}
+
+/// The text whose program [`gather`] answers. There are 1 to 64 values.
+pub fn gather_text(alloc: Global, values: u32) -> Result<String, LibraryFault>
+    ensures bad { (result ≡ Err fault.BadValues) ↔ (¬ (IsCount values)) }
+    ensures never_few { result ≢ Err fault.TooFew }
+    ensures count { OnOk result (IsCount values) }
+    ensures text { IfOk result (λ s. string_bytes s ≡ text_of gather_rest values) }
+{
+    if !is_count(values) {
+        return Err(LibraryFault::BadValues);
+    }
+    Ok(text_of(alloc, values, gather_rest())?)
+}
+
+/// The text whose program [`count_votes`] answers. There are 1 to 64 values.
+pub fn count_votes_text(alloc: Global, values: u32) -> Result<String, LibraryFault>
+    ensures bad { (result ≡ Err fault.BadValues) ↔ (¬ (IsCount values)) }
+    ensures never_few { result ≢ Err fault.TooFew }
+    ensures count { OnOk result (IsCount values) }
+    ensures text { IfOk result (λ s. string_bytes s ≡ text_of count_votes_rest values) }
+{
+    if !is_count(values) {
+        return Err(LibraryFault::BadValues);
+    }
+    Ok(text_of(alloc, values, count_votes_rest())?)
+}
+
+/// The text whose program [`dls1`] answers. There are 1 to 64 values.
+pub fn dls1_text(alloc: Global, values: u32) -> Result<String, LibraryFault>
+    ensures bad { (result ≡ Err fault.BadValues) ↔ (¬ (IsCount values)) }
+    ensures never_few { result ≢ Err fault.TooFew }
+    ensures count { OnOk result (IsCount values) }
+    ensures text { IfOk result (λ s. string_bytes s ≡ text_of dls1_rest values) }
+{
+    if !is_count(values) {
+        return Err(LibraryFault::BadValues);
+    }
+    Ok(text_of(alloc, values, dls1_rest())?)
 }
 
 fn is_count(values: u32) -> bool

@@ -17,7 +17,8 @@ pub(crate) fn program_of(alloc: Global, values: u32, rest: &str) -> Result<Check
     program_in(alloc, &text)
 }
 
-fn text_of(alloc: Global, values: u32, rest: &str) -> Result<String, NoMemory>
+/// The text `values K` and what follows.
+pub(crate) fn text_of(alloc: Global, values: u32, rest: &str) -> Result<String, NoMemory>
     ensures { IfOk result (λ text. string_bytes text ≡ text_of rest.now values) }
 {
     let mut text = String::new(alloc);

@@ -47,6 +47,7 @@ silent_same x (refusal.Schedule f) = keeps_same x
 silent_same x (refusal.Library f) = keeps_same x
 silent_same x refusal.NoSuchProgram = keeps_same x
 silent_same x (refusal.Run f) = keeps_same x
+silent_same x refusal.TooManyEvents = keeps_same x
 silent_same x refusal.NoMemory = keeps_same x
 
 -- only a refused writing is told after some was written
@@ -145,6 +146,7 @@ run_refused source files schedule told (refusal.Schedule f) h = h
 run_refused source files schedule told (refusal.Library f) h = h
 run_refused source files schedule told refusal.NoSuchProgram h = h
 run_refused source files schedule told (refusal.Run f) h = h
+run_refused source files schedule told refusal.TooManyEvents h = h
 run_refused source files schedule told refusal.NoMemory h = h
 run_refused source files schedule told refusal.NodeNoMemory h =
     absurd (not_in_turn kinds.Schedule (λ p s k events r. IsNotRun p s k events [] r) source files
@@ -179,6 +181,7 @@ module _ (source : Source) (files : Files) (schedule : Bor (List ℕ)) (correct 
   judge_refused (refusal.Library f) h = unanswered (refusal.Library f) h
   judge_refused refusal.NoSuchProgram h = unanswered refusal.NoSuchProgram h
   judge_refused (refusal.Run f) h = unanswered (refusal.Run f) h
+  judge_refused refusal.TooManyEvents h = unanswered refusal.TooManyEvents h
   judge_refused refusal.NoMemory h = unanswered refusal.NoMemory h
   judge_refused refusal.NodeNoMemory h =
       absurd (not_in_turn kinds.Schedule (λ p s k events r. IsNotRun p s k events list.now r) source

@@ -96,6 +96,7 @@ module _ (source : Source) (files : Files) (file : Option (List ℕ)) where
   threads_refused (refusal.Schedule f) h = h
   threads_refused (refusal.Library f) h = h
   threads_refused refusal.NoSuchProgram h = h
+  threads_refused refusal.TooManyEvents h = h
   threads_refused (refusal.Run f) h = h
   threads_refused refusal.NoMemory h = h
 
@@ -151,6 +152,7 @@ module _ (source : Source) (files : Files) (file : Option (List ℕ)) (e : Explo
   search_refused (refusal.Schedule f) h = h
   search_refused (refusal.Library f) h = h
   search_refused refusal.NoSuchProgram h = h
+  search_refused refusal.TooManyEvents h = h
   search_refused (refusal.Run f) h = h
   search_refused refusal.NoMemory h = h
 
@@ -190,5 +192,6 @@ module _ (source : Source) (files : Files) (header : Bor (List ℕ)) (e : Explor
   explore_refused (refusal.Schedule f) h = h
   explore_refused (refusal.Library f) h = h
   explore_refused refusal.NoSuchProgram h = h
+  explore_refused refusal.TooManyEvents h = h
   explore_refused (refusal.Run f) h = h
   explore_refused refusal.NoMemory h = h

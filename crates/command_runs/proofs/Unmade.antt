@@ -81,6 +81,7 @@ not_made start p s k ls t (refusal.Condition f) same plan none = absurd none
 not_made start p s k ls t (refusal.Schedule f) same plan none = absurd none
 not_made start p s k ls t (refusal.Library f) same plan none = absurd none
 not_made start p s k ls t refusal.NoSuchProgram same plan none = absurd none
+not_made start p s k ls t refusal.TooManyEvents same plan none = absurd none
 not_made start p s k ls t refusal.Write same plan none = absurd none
 not_made start p s k ls t refusal.NodeNoMemory same plan none = absurd none
 
@@ -133,6 +134,7 @@ unmade_told s files header omissions t (refusal.Condition f) h = h
 unmade_told s files header omissions t (refusal.Schedule f) h = h
 unmade_told s files header omissions t (refusal.Library f) h = h
 unmade_told s files header omissions t refusal.NoSuchProgram h = h
+unmade_told s files header omissions t refusal.TooManyEvents h = h
 unmade_told s files header omissions t (refusal.Run f) h = h
 unmade_told s files header omissions t refusal.NoMemory h = h
 unmade_told s files header omissions t refusal.NodeNoMemory h = h
@@ -182,5 +184,6 @@ module _ (from : Source) (files : Files) (header : Bor (List ℕ)) (correct : Ve
   lockstep_refused (refusal.Schedule f) h = unmade (refusal.Schedule f) h
   lockstep_refused (refusal.Library f) h = unmade (refusal.Library f) h
   lockstep_refused refusal.NoSuchProgram h = unmade refusal.NoSuchProgram h
+  lockstep_refused refusal.TooManyEvents h = unmade refusal.TooManyEvents h
   lockstep_refused (refusal.Run f) h = unmade (refusal.Run f) h
   lockstep_refused refusal.NoMemory h = unmade refusal.NoMemory h

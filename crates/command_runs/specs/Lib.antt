@@ -11,6 +11,7 @@ pub mod Texts
 pub mod Served
 pub mod Lines
 pub mod Refused
+pub mod Unshown
 pub mod Stages
 pub mod Desks
 pub mod Limits

@@ -11,6 +11,7 @@ use Rattle.command_runs.specs.declared.refusal.Refusal.TheVariants.{Condition}
 use Rattle.command_runs.specs.declared.refusal.Refusal.TheVariants.{Schedule, Library}
 use Rattle.command_runs.specs.declared.refusal.Refusal.TheVariants.{NoSuchProgram, Run, Write}
 use Rattle.command_runs.specs.declared.refusal.Refusal.TheVariants.{NoMemory, NodeNoMemory}
+use Rattle.command_runs.specs.declared.refusal.Refusal.TheVariants.{TooManyEvents}
 use Rattle.command_words.specs.Lines.{words_line}
 use Rattle.exploration_texts.specs.Lines.{condition_text}
 use Rattle.round_check.specs.declared.fault.CheckFault.{CheckFault}
@@ -71,6 +72,11 @@ run_line run.NoMemory = memory_line
 run_line run.NoThread = codes "refused run 5\n"
 run_line run.Unmatched = codes "refused run 6\n"
 
+-- why a run isn't drawn
+abbrev pub many_events : List ℕ
+many_events =
+    codes "a run of more than 400 events is drawn for some rounds only; give --rounds A-B"
+
 -- the line of a refusal, where it isn't `clap`'s own text
 abbrev pub line_of : Refusal → Option (List ℕ)
 line_of (Words fault) = words_line fault
@@ -83,6 +89,7 @@ line_of (Schedule fault) = Some (schedule_line fault)
 line_of (Library fault) = Some (library_line fault)
 line_of NoSuchProgram = Some (codes "refused library 3\n")
 line_of (Run fault) = Some (run_line fault)
+line_of TooManyEvents = Some (codes "refused picture: " ++ many_events ++ codes "\n")
 line_of Write = Some (codes "refused write\n")
 line_of NoMemory = Some memory_line
 line_of NodeNoMemory = Some memory_line

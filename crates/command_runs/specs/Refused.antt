@@ -16,8 +16,9 @@ use Rattle.command_runs.specs.InLockstep.{AreTerms}
 use Rattle.command_runs.specs.Lines.{status_of}
 use Rattle.command_runs.specs.Served.{AsksForHelp, IsCheckedSource, IsHeader, IsOfKind}
 use Rattle.command_runs.specs.Served.{IsOmissionText, IsProgramOf, IsThreadSetup, Prints}
-use Rattle.command_runs.specs.Served.{IsPaced, SaysLines, file_name, start_of, terms_by}
+use Rattle.command_runs.specs.Served.{IsPaced, IsShownOf, SaysLines, file_name, start_of, terms_by}
 use Rattle.command_runs.specs.Texts.{Files}
+use Rattle.command_runs.specs.Unshown.{IsUnshown}
 use Rattle.schedule_text.specs.Bytes.{IsLongText, IsNoText, IsText}
 use Rattle.schedule_text.specs.declared.source.TextFault.{TextFault}
 use Rattle.schedule_text.specs.declared.source.TextFault.TheVariants as text
@@ -29,8 +30,10 @@ use Rattle.command_words.specs.Given.{Explains, Means}
 use Rattle.command_words.specs.declared.values.Source.{Source}
 use Rattle.command_words.specs.declared.values.Source.TheVariants.{File, Library}
 use Rattle.command_words.specs.declared.words.Words.{Words}
-use Rattle.command_words.specs.declared.words.Words.TheVariants.{Check, Explore, Judge, Lockstep}
-use Rattle.command_words.specs.declared.words.Words.TheVariants.{Realise, Rounds, Run, Threads}
+use Rattle.command_words.specs.declared.drawing.Drawing.{Drawing}
+use Rattle.command_words.specs.declared.words.Words.TheVariants.{Check, Draw, Explore, Judge}
+use Rattle.command_words.specs.declared.words.Words.TheVariants.{Lockstep, Realise, Rounds, Run}
+use Rattle.command_words.specs.declared.words.Words.TheVariants.{Show, Threads}
 use Rattle.command_words.specs.declared.exploring.Exploring.{Exploring}
 use Rattle.exploration_texts.specs.Conditions.{IsConditionFor, IsFaultFor}
 use Rattle.exploration_texts.specs.declared.condition.ConditionFault.{ConditionFault}
@@ -208,6 +211,22 @@ IsNotRun p s k events correct (refusal.Run fault) =
 IsNotRun p s k events correct refusal.NoMemory = ⊤
 IsNotRun p s k events correct _ = ⊥
 
+-- the numbers of a run and of its picture are within their limits
+pub record IsDrawable (p : ProgramTree) (s : Setup) (k : PlanKind) (d : Drawing) : Type 0 where
+  pub setup : IsLawful p.values s
+  pub plan : IsPlan k
+  pub shown : IsShownOf s d
+
+-- why a run isn't drawn: a bad setup, else the first event that names what the setup hasn't; or it
+-- has too many events, of whose number nothing more is said
+abbrev pub IsNotDrawn : ProgramTree → Setup → PlanKind → List Event → Drawing → Refusal → Type 0
+IsNotDrawn p s k events d (refusal.Run run.BadSetup) = ¬ (IsDrawable p s k d)
+IsNotDrawn p s k events d (refusal.Run fault) =
+    (¬ ¬ (IsDrawable p s k d)) × IsUnknownAt s events fault
+IsNotDrawn p s k events d refusal.TooManyEvents = IsDrawable p s k d
+IsNotDrawn p s k events d refusal.NoMemory = ⊤
+IsNotDrawn p s k events d _ = ⊥
+
 -- a number of a run by threads is past its limits
 abbrev pub IsBadForThreads : ProgramTree → Setup → PlanKind → List Stop → Type 0
 IsBadForThreads p s k stops = ¬ (IsFitForThreads p.values s stops × IsPlan k)
@@ -296,6 +315,12 @@ IsRefusedInTurn kind NotRun source files file r =
 abbrev pub IsUnanswered : Source → Files → Option (List ℕ) → List ℕ → Refusal → Type 0
 IsUnanswered source files file correct r =
     IsRefusedInTurn kinds.Schedule (λ p s k events r. IsNotRun p s k events correct r)
+    source files file r
+
+-- why a source's run by the schedule in a file isn't drawn
+abbrev pub IsUndrawn : Source → Files → Option (List ℕ) → Drawing → Refusal → Type 0
+IsUndrawn source files file d r =
+    IsRefusedInTurn kinds.Schedule (λ p s k events r. IsNotDrawn p s k events d r)
     source files file r
 
 -- why a source isn't run by threads under the setup in a file
@@ -395,6 +420,9 @@ IsUnchecked source files r = IsNotOpened source files r ⊎ IsNotOffered source 
 -- why a command isn't served, where it isn't for the output
 abbrev pub IsUnserved : Words → Files → Refusal → Type 0
 IsUnserved (Check source) files r = IsUnchecked source files r
+IsUnserved (Show source) files r = IsUnshown source files r
+IsUnserved (Draw source schedule drawing) files r =
+    IsUndrawn source files (files schedule.now) drawing r
 IsUnserved (Run source schedule told) files r = IsUnanswered source files (files schedule.now) [] r
 IsUnserved (Threads source setup trace told) files r =
     IsUnthreaded source files (files setup.now) r

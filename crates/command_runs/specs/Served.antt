@@ -1,7 +1,7 @@
 -- What the program writes, as a relation of its words to the files on the desk.
 use Rattle.std.specs.Borrow.{Bor}
-use Rattle.std.specs.Prelude.{◌≡◌, ◌++◌, ◌⊎◌, ⊤, ℕ, Bool, List, None, Option, Some, IfSome}
-use Rattle.std.specs.Prelude.{[], codes, length, true}
+use Rattle.std.specs.Prelude.{◌≡◌, ◌<◌, ◌≤◌, ◌++◌, ◌⊎◌, ⊤, ℕ, All, Bool, List, None, Option, Some}
+use Rattle.std.specs.Prelude.{IfSome, [], codes, length, true}
 use Rattle.std.specs.Global.{Vec}
 use Rattle.std.specs.Prelude.{if◌then◌else◌}
 use Rattle.std.specs.Fmt.{decimal}
@@ -29,8 +29,8 @@ use Rattle.command_runs.specs.InChanges.{Terms}
 use Rattle.command_runs.specs.InLockstep.{IsLockstepText, IsWritten}
 use Rattle.command_runs.specs.InOmissions.{ShowsOmitting, realised_by}
 use Rattle.command_runs.specs.InRounds.{IsFound, ShowsFailure, outcome_of}
-use Rattle.command_runs.specs.Library.{Offers}
-use Rattle.command_runs.specs.Texts.{Files}
+use Rattle.command_runs.specs.Library.{Offers, OffersText}
+use Rattle.command_runs.specs.Texts.{Files, HoldsWhole}
 use Rattle.schedule_text.specs.Bytes.{IsText}
 use Rattle.clap.specs.Words.{IsAmong, fault_of}
 use Rattle.clap.specs.declared.error.ErrorKind.TheVariants as kind
@@ -41,8 +41,10 @@ use Rattle.command_words.specs.declared.exploring.Exploring.{Exploring}
 use Rattle.command_words.specs.declared.values.Source.{Source}
 use Rattle.command_words.specs.declared.values.Source.TheVariants.{File, Library}
 use Rattle.command_words.specs.declared.words.Words.{Words}
-use Rattle.command_words.specs.declared.words.Words.TheVariants.{Check, Explore, Judge, Lockstep}
-use Rattle.command_words.specs.declared.words.Words.TheVariants.{Realise, Rounds, Run, Threads}
+use Rattle.command_words.specs.declared.drawing.Drawing.{Drawing}
+use Rattle.command_words.specs.declared.words.Words.TheVariants.{Check, Draw, Explore, Judge}
+use Rattle.command_words.specs.declared.words.Words.TheVariants.{Lockstep, Realise, Rounds, Run}
+use Rattle.command_words.specs.declared.words.Words.TheVariants.{Show, Threads}
 use Rattle.exploration_texts.specs.Lines.{answers_text}
 use Rattle.exploration_texts.specs.Told.{AreAnswers, all_hold}
 use Rattle.exploration_texts.specs.declared.told.Told.{Told}
@@ -77,6 +79,11 @@ abbrev pub IsProgramOf : Source → Files → (nodes faults : ℕ) → ProgramTr
 IsProgramOf (File name) files nodes faults p =
     IfSome (files (file_name name.now)) (λ text. IsCheckedSource text p)
 IsProgramOf (Library name values) files nodes faults p = Offers name.now values nodes faults p
+
+-- the text of a source: the file's, or that of the library's program
+abbrev pub ShowsSource : Source → Files → List ℕ → Type 0
+ShowsSource (File name) files text = HoldsWhole max_text (files (file_name name.now)) text
+ShowsSource (Library name values) files text = OffersText name.now values text
 
 -- a source that was opened: the program of its file, or what it names of the library
 abbrev pub Opens : Source → Files → Opened → Type 0
@@ -134,6 +141,19 @@ abbrev pub ReportsRun : Source → Files → Option (List ℕ) → Report → Ty
 ReportsRun source files file report =
     IfSome file (λ text. (s : Setup) × (k : PlanKind) × (events : List Event) × (p : ProgramTree)
     × IsSchedule text s k events × IsProgramOf source files s.nodes s.faults p
+    × IsReportOf (start_of k s.nodes) p s events report)
+
+-- a picture's nodes are the run's, and its rounds begin in the run
+pub record IsShownOf (s : Setup) (d : Drawing) : Type 0 where
+  pub nodes : All (λ n. n < s.nodes) d.nodes.items
+  pub rounds : IfSome d.rounds (λ r. r.first ≤ s.rounds)
+
+-- the source's run under the schedule in a file has a report, and the picture shows a part of it
+abbrev pub DrawsRun : Source → Files → Option (List ℕ) → Drawing → Type 0
+DrawsRun source files file d =
+    IfSome file (λ text. (s : Setup) × (k : PlanKind) × (events : List Event) × (p : ProgramTree)
+    × (report : Report) × IsSchedule text s k events
+    × IsProgramOf source files s.nodes s.faults p × IsShownOf s d
     × IsReportOf (start_of k s.nodes) p s events report)
 
 -- the verdict on the source's run under the schedule in a file
@@ -257,10 +277,13 @@ terms_by correct delta gst delays orders ticks changes = record {
 }
 
 -- what a command prints, where these are the files before it and after it; a program is checked as
--- for one node without faults
+-- for one node without faults; of the text of a picture nothing is said
 abbrev pub Prints : Words → (files after : Files) → List ℕ → Type 0
 Prints (Check source) files after text =
     (p : ProgramTree) × IsProgramOf source files 1 0 p × (text ≡ summary_text p)
+Prints (Show source) files after text = ShowsSource source files text
+Prints (Draw source schedule drawing) files after text =
+    DrawsRun source files (files schedule.now) drawing
 Prints (Run source schedule told) files after text =
     (report : Report) × ReportsRun source files (files schedule.now) report
     × (text ≡ told_text report told)

@@ -15,8 +15,10 @@ use Rattle.command_runs.specs.Refused.{Fault, IsBadForThreads, IsExplorable, IsE
 use Rattle.command_runs.specs.Refused.{IsOpened as IsOpenedSource, IsUnanswered, IsUnexplored}
 use Rattle.command_runs.specs.Refused.{IsUnmade, IsUnthreaded, IsUntraced}
 use Rattle.command_runs.specs.Refused.{StartsThreads, fault_in, of_text, omission_fault}
-use Rattle.command_runs.specs.Served.{Answered, AnswersRun, IsHeader, IsProgramOf, IsThreadSetup}
-use Rattle.command_runs.specs.Served.{MakesLockstep, ReportsThreads, answer_text, told_text}
+use Rattle.command_runs.specs.Explained.{IsReportOf}
+use Rattle.command_runs.specs.Served.{Answered, AnswersRun, IsHeader, IsProgramOf, IsShownOf}
+use Rattle.command_runs.specs.Served.{IsThreadSetup, MakesLockstep, ReportsThreads, answer_text}
+use Rattle.command_runs.specs.Served.{told_text}
 use Rattle.command_runs.specs.Texts.{Files}
 use Rattle.schedule_text.specs.Bytes.{BeginsUtf8}
 use Rattle.command_runs.specs.declared.asking.Answer.{Answer as RunAnswer}
@@ -28,6 +30,7 @@ use Rattle.command_runs.specs.declared.sources.Opened.{Opened}
 use Rattle.command_runs.specs.declared.sources.Opened.TheVariants as opened
 use Rattle.command_runs.specs.declared.texts.Text.{Text}
 use Rattle.command_runs.specs.declared.texts.Text.TheVariants as text
+use Rattle.command_words.specs.declared.drawing.Drawing.{Drawing}
 use Rattle.command_words.specs.declared.exploring.Exploring.{Exploring}
 use Rattle.command_words.specs.declared.values.Source.{Source}
 use Rattle.exploration_texts.specs.Conditions.{IsFaultFor}
@@ -139,6 +142,15 @@ IsNotRunAs p s events correct (refusal.Run fault) =
 IsNotRunAs p s events correct refusal.NoMemory = ⊤
 IsNotRunAs p s events correct _ = ⊥
 
+-- why a run isn't drawn under a plan
+abbrev pub IsNotDrawnAs : ProgramTree → Setup → List Event → Drawing → Refusal → Type 0
+IsNotDrawnAs p s events d (refusal.Run run.BadSetup) = ¬ (IsLawful p.values s × IsShownOf s d)
+IsNotDrawnAs p s events d (refusal.Run fault) =
+    (¬ ¬ (IsLawful p.values s × IsShownOf s d)) × IsUnknownAt s events fault
+IsNotDrawnAs p s events d refusal.TooManyEvents = IsLawful p.values s × IsShownOf s d
+IsNotDrawnAs p s events d refusal.NoMemory = ⊤
+IsNotDrawnAs p s events d _ = ⊥
+
 -- the text that a reader goes on with is no schedule, and this refusal tells why
 abbrev pub IsBadSchedule : Setup → Reading → Refusal → Type 0
 IsBadSchedule s r refused =
@@ -163,6 +175,13 @@ abbrev pub IsAnswered : (start receives : ℕ → ℕ) → ProgramTree → Setup
     → RunAnswer → Type 0
 IsAnswered start receives p s r q a =
     (events : List Event) × IsReadAs s r events × Answered start receives p s events q a
+
+-- the run of the schedule that a reader was opened on has a report, and the picture shows a part
+-- of it
+abbrev pub IsDrawnAs : (start : ℕ → ℕ) → ProgramTree → Setup → Reading → Drawing → Type 0
+IsDrawnAs start p s r d =
+    (events : List Event) × (report : Report) × IsReadAs s r events × IsShownOf s d
+    × IsReportOf start p s events report
 
 -- `out` gained the answer to a question on a run
 abbrev pub TellsAnswer : Source → Files → Option (List ℕ) → Question

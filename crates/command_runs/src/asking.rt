@@ -97,7 +97,7 @@ fn open_schedule<D: Desk>(
 
 /// A refusal of what doesn't depend on a schedule's events: where its text is no schedule, the
 /// refusal is of that.
-fn refusal_after<S: TextSource + Drop>(
+pub(crate) fn refusal_after<S: TextSource + Drop>(
     alloc: Global,
     reader: ScheduleReader<S>,
     refusal: Refusal,
@@ -138,7 +138,7 @@ fn answer_by<S: TextSource + Drop>(
 }
 
 /// The refusal of a setup.
-fn bad_setup<S: TextSource + Drop>(alloc: Global, schedule: OpenedSchedule<S>) -> Refusal
+pub(crate) fn bad_setup<S: TextSource + Drop>(alloc: Global, schedule: OpenedSchedule<S>) -> Refusal
     ensures { IsToldAfter schedule.reader (refusal.Run RunFault.BadSetup) result }
 {
     refusal_after(alloc, schedule.reader, Refusal::Run(RunFault::BadSetup))

@@ -4,6 +4,7 @@
 mod asking;
 mod changes;
 mod desk;
+mod drawing;
 mod explained;
 mod exploring;
 mod idle;
@@ -15,6 +16,7 @@ mod omitting;
 mod outcome;
 mod refusal;
 mod run;
+mod showing;
 mod sources;
 mod texts;
 mod threads;

@@ -33,12 +33,18 @@ pub enum Refusal {
     /// The library has no program of the name.
     NoSuchProgram,
     Run(RunFault),
+    /// The run has more events than are drawn at once.
+    TooManyEvents,
     /// Standard output takes no more, or a trace can't be written, or is a file that is read.
     Write,
     NoMemory,
     /// The thread of a node ended out of memory, so that its run isn't whole.
     NodeNoMemory,
 }
+
+/// Why a run isn't drawn.
+const MANY_EVENTS: &str =
+    "a run of more than 400 events is drawn for some rounds only; give --rounds A-B";
 
 impl Refusal {
     /// The exit status.
@@ -75,6 +81,7 @@ impl fmt::Display for Refusal {
             Refusal::Library(fault) => write_library(*fault, f),
             Refusal::NoSuchProgram => writeln!(f, "refused library 3"),
             Refusal::Run(fault) => write_run(*fault, f),
+            Refusal::TooManyEvents => writeln!(f, "refused picture: {}", MANY_EVENTS),
             Refusal::Write => writeln!(f, "refused write"),
             Refusal::NoMemory | Refusal::NodeNoMemory => write_no_memory(f),
         }

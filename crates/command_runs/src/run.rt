@@ -15,12 +15,14 @@ ghost use Rattle.command_runs.specs.Stages.{TellsAnswer, TellsLockstep, TellsThr
 
 use crate::asking::{Answer, Question, Run};
 use crate::desk::Desk;
+use crate::drawing::draw;
 use crate::explained::Terms;
 use crate::exploring::{Exploration, Found};
 use crate::lockstep::{Paced, Pacing};
 use crate::omitting::Omitting;
 use crate::outcome::Outcome;
 use crate::refusal::Refusal;
+use crate::showing::show_source;
 use crate::sources::Opened;
 use crate::threads::{ThreadRun, Threaded};
 use crate::traces::{write_shown, write_trace};
@@ -136,6 +138,7 @@ fn carry_out<'a, R: Threads + Wait + Sync, D: Desk, O: Write>(
 {
     match command {
         Words::Check { source } => check_source(alloc, source, desk, out),
+        Words::Show { source } => show_source(alloc, source, desk, out),
         Words::Run {
             source,
             schedule,
@@ -143,6 +146,14 @@ fn carry_out<'a, R: Threads + Wait + Sync, D: Desk, O: Write>(
         } => {
             let run = Run { source, schedule };
             answer(alloc, run, Question::Report { decided }, desk, out)
+        }
+        Words::Draw {
+            source,
+            schedule,
+            drawing,
+        } => {
+            let run = Run { source, schedule };
+            draw(alloc, run, &drawing, desk, out)
         }
         Words::Threads {
             source,
@@ -458,7 +469,7 @@ fn write_answer<O: Write>(answer: &Answer, out: &mut O) -> io::Result<()>
 }
 
 /// Whether all was written, with what the writer still held; `Write` where it wasn't.
-fn written<O: Write>(done: io::Result<()>, out: &mut O) -> Result<Outcome, Refusal>
+pub(crate) fn written<O: Write>(done: io::Result<()>, out: &mut O) -> Result<Outcome, Refusal>
     ensures outcome { IfOk result (λ o. o ≡ Outcome.Done) }
     ensures done { OnOk result (IsOk done) }
     ensures refused { IfErr result (λ r. r ≡ Refusal.Write) }

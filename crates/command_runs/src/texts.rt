@@ -1,8 +1,10 @@
 //! Texts of files, within their limits.
-ghost use Rattle.std.specs.Prelude.{◌≡◌, ℕ, Err, List, None, IfOk, IfSome};
+ghost use Rattle.std.specs.Prelude.{◌≡◌, ℕ, Err, List, None, IfErr, IfOk, IfSome, string_bytes};
+ghost use Rattle.command_runs.specs.Texts.{HasNoTextIn, HoldsNoWhole, HoldsWhole, IsTextIn};
 ghost use Rattle.command_runs.specs.Texts.{IsTextOf};
 
 use crate::desk::{Desk, DeskFault};
+use schedule_text::begin_utf8;
 use std::alloc::Global;
 
 /// What a file has.
@@ -12,6 +14,15 @@ pub enum Text {
     Whole(Vec<u8>),
     /// It is longer than the limit; these are its first bytes, one more than the limit.
     Longer(Vec<u8>),
+}
+
+/// Why a file has no text within its limit.
+#[derive(Clone, Copy, Debug, PartialEq, Eq)]
+pub enum Unfit {
+    /// It can't be read, or isn't UTF-8.
+    NoText,
+    TooLong,
+    NoMemory,
 }
 
 impl Text {
@@ -34,5 +45,39 @@ impl Text {
         } else {
             Ok(Text::Whole(bytes))
         }
+    }
+
+    /// The text, if it's whole and UTF-8.
+    fn into_string(self) -> Result<String, Unfit>
+        ensures whole { IfOk result (λ text. IsTextIn self (string_bytes text)) }
+        ensures refused { IfErr result (HasNoTextIn self) }
+    {
+        match self {
+            Text::Whole(bytes) => match String::from_utf8(bytes) {
+                Ok(text) => Ok(text),
+                Err(_) => Err(Unfit::NoText),
+            },
+            Text::Longer(bytes) if begin_utf8(&bytes) => Err(Unfit::TooLong),
+            Text::Longer(_) => Err(Unfit::NoText),
+        }
+    }
+}
+
+/// Reads the whole text of a file, up to its limit.
+pub fn read_whole<D: Desk>(
+    alloc: Global,
+    name: &str,
+    limit: usize,
+    desk: &mut D,
+) -> Result<String, Unfit>
+    ensures held { IfOk result (λ text.
+        HoldsWhole limit (D.files desk.old name.now) (string_bytes text)) }
+    ensures refused { IfErr result (HoldsNoWhole limit (D.files desk.old name.now)) }
+    ensures written { D.written desk.new ≡ D.written desk.old }
+{
+    match Text::read(alloc, name, limit, desk) {
+        Ok(text) => text.into_string(),
+        Err(DeskFault::Failed) => Err(Unfit::NoText),
+        Err(DeskFault::NoMemory) => Err(Unfit::NoMemory),
     }
 }

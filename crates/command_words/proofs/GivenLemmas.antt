@@ -24,7 +24,8 @@ use Rattle.clap.specs.declared.parser.matches.ArgMatches.TheViews.{out-ArgMatche
 use Rattle.clap.specs.declared.parser.matches.SubCommand.{SubCommand}
 use Rattle.clap.proofs.WalkLemmas.{first_value-rows}
 use Rattle.command_words.specs.Commands.{roundc_app}
-use Rattle.command_words.specs.Given.{Explains, FailsByValue, IsMistake}
+use Rattle.command_words.specs.Given.{Explains, FailsByLockstep, FailsByOmissions, FailsByRun}
+use Rattle.command_words.specs.Given.{FailsByTerms, FailsByValue, IsMistake}
 use Rattle.command_words.specs.declared.words.WordsFault.{WordsFault}
 use Rattle.command_words.specs.declared.words.WordsFault.TheVariants as fault
 
@@ -87,59 +88,68 @@ pub ok_always : {T E P : Type 0} (r : Result T E) → P → OnOk r P
 ok_always (Ok x) p = p
 ok_always (Err e) p = tt
 
+-- no value of a command has a fault that `clap` tells
+by_no_run : (rows : List Row) (e : Error) → ¬ (FailsByRun rows (fault.Refused e))
+by_no_run rows e h = elim h [ inl source ↦ source | inr file ↦ file ]
+
+by_no_terms : (rows : List Row) (e : Error) → ¬ (FailsByTerms rows (fault.Refused e))
+by_no_terms rows e h =
+    elim h [ inl list ↦ list | inr value ↦ elim value [ inl delta ↦ delta | inr gst ↦ gst ] ]
+
+by_no_omissions : (rows : List Row) (e : Error) → ¬ (FailsByOmissions rows (fault.Refused e))
+by_no_omissions rows e h = elim h [
+  | inl source ↦ source
+  | inr file ↦ elim file [ inl header ↦ header | inr omissions ↦ omissions ]
+]
+
+by_no_lockstep : (rows : List Row) (e : Error) → ¬ (FailsByLockstep rows (fault.Refused e))
+by_no_lockstep rows e h = elim h [
+  | inl source ↦ source
+  | inr more ↦ elim more [
+    | inl file ↦ file
+    | inr more ↦ elim more [
+      | inl terms ↦ by_no_terms rows e terms
+      | inr more ↦ elim more [
+        | inl delays ↦ delays
+        | inr more ↦ elim more [
+          | inl orders ↦ orders
+          | inr more ↦ elim more [
+            | inl ticks ↦ ticks
+            | inr changes ↦ elim changes [ inl stops ↦ stops | inr delays ↦ delays ]
+          ]
+        ]
+      ]
+    ]
+  ]
+]
+
 -- what the command lacks explains the fault, where `clap` found no mistake
 pub lack_explained : (words : List Text) (name : Text) (rows : List Row) (e : WordsFault)
     → fault_of roundc_app words ≡ []
     → subcommand_of roundc_app words ≡ Some (name, rows) → FailsByValue name rows e
     → Explains words e
 lack_explained words name rows (fault.Refused e) none is lack = absurd (elim lack [
-  | inl check ↦ check.1
+  | inl alone ↦ elim alone [ inl check ↦ check.1 | inr show ↦ show.1 ]
   | inr more ↦ elim more [
-    | inl run ↦ elim run.1 [ inl source ↦ source | inr file ↦ file ]
+    | inl schedule ↦ elim schedule [
+      | inl run ↦ by_no_run rows e run.1
+      | inr draw ↦ elim draw.1 [
+        | inl run ↦ by_no_run rows e run
+        | inr drawing ↦ elim drawing [ inl range ↦ range | inr nodes ↦ nodes ]
+      ]
+    ]
     | inr more ↦ elim more [
       | inl threads ↦ elim threads.1
           [ inl source ↦ source | inr file ↦ elim file [ inl setup ↦ setup | inr trace ↦ trace ] ]
       | inr more ↦ elim more [
-        | inl judge ↦ elim judge.1 [
-          | inl run ↦ elim run [ inl source ↦ source | inr file ↦ file ]
-          | inr terms ↦ elim terms
-              [ inl list ↦ list | inr value ↦ elim value [ inl delta ↦ delta | inr gst ↦ gst ] ]
-        ]
+        | inl judge ↦ elim judge.1
+            [ inl run ↦ by_no_run rows e run | inr terms ↦ by_no_terms rows e terms ]
         | inr more ↦ elim more [
-          | inl lockstep ↦ elim lockstep.1 [
-            | inl source ↦ source
-            | inr more ↦ elim more [
-              | inl file ↦ file
-              | inr more ↦ elim more [
-                | inl terms ↦ elim terms [
-                  | inl list ↦ list
-                  | inr value ↦ elim value [ inl delta ↦ delta | inr gst ↦ gst ]
-                ]
-                | inr more ↦ elim more [
-                  | inl delays ↦ delays
-                  | inr more ↦ elim more [
-                    | inl orders ↦ orders
-                    | inr more ↦ elim more [
-                      | inl ticks ↦ ticks
-                      | inr changes ↦ elim changes [ inl stops ↦ stops | inr delays ↦ delays ]
-                    ]
-                  ]
-                ]
-              ]
-            ]
-          ]
+          | inl lockstep ↦ by_no_lockstep rows e lockstep.1
           | inr more ↦ elim more [
-            | inl realise ↦ elim realise.1 [
-              | inl source ↦ source
-              | inr file ↦ elim file
-                  [ inl header ↦ header | inr omissions ↦ omissions ]
-            ]
+            | inl realise ↦ by_no_omissions rows e realise.1
             | inr more ↦ elim more [
-              | inl rounds ↦ elim rounds.1 [
-                | inl source ↦ source
-                | inr file ↦ elim file
-                    [ inl header ↦ header | inr omissions ↦ omissions ]
-              ]
+              | inl rounds ↦ by_no_omissions rows e rounds.1
               | inr more ↦ elim more [
                 | inl explore ↦ elim explore.1 [
                   | inl source ↦ source
@@ -167,6 +177,7 @@ lack_explained words name rows fault.Faults none is lack = (none, (name, rows, i
 lack_explained words name rows fault.Clear none is lack = inl (none, (name, rows, is, lack))
 lack_explained words name rows fault.Hears none is lack = inl (none, (name, rows, is, lack))
 lack_explained words name rows fault.Checks none is lack = (none, (name, rows, is, lack))
+lack_explained words name rows fault.Range none is lack = inl (none, (name, rows, is, lack))
 lack_explained words name rows fault.NoMemory none is lack = tt
 
 -- what the code makes of an error explains the refusal
@@ -188,6 +199,7 @@ mistake_explained words error fault.Faults kinds is = absurd is
 mistake_explained words error fault.Clear kinds is = inr is
 mistake_explained words error fault.Hears kinds is = inr is
 mistake_explained words error fault.Checks kinds is = absurd is
+mistake_explained words error fault.Range kinds is = inr is
 mistake_explained words error fault.NoMemory kinds is = tt
 
 or_else_right : (a b : Kinds) → or_else a b ≡ [] → b ≡ []

@@ -14,10 +14,13 @@ abbrev pub text_rule : Text → Rule
 text_rule name =
     record (new_rule name) { long = Some name; value_names = 1; required = true }
 
+-- `--NAME`, which stands there or not
+abbrev pub flag_rule : Text → Rule
+flag_rule name = record (new_rule name) { long = Some name; action = Some SetTrue }
+
 -- `--decided`, which stands there or not
 abbrev pub decided_rule : Rule
-decided_rule =
-    record (new_rule (codes "decided")) { long = Some (codes "decided"); action = Some SetTrue }
+decided_rule = flag_rule (codes "decided")
 
 -- `run SOURCE --schedule FILE [--decided]`
 abbrev pub run_app : App
@@ -35,6 +38,10 @@ threads_app =
 abbrev pub check_app : App
 check_app = with_rule (new_app (codes "check")) source_rule
 
+-- `show SOURCE`
+abbrev pub show_app : App
+show_app = with_rule (new_app (codes "show")) source_rule
+
 -- `judge SOURCE --schedule FILE --correct LIST --delta D --gst G`
 abbrev pub judge_app : App
 judge_app =
@@ -45,6 +52,13 @@ judge_app =
 -- `--NAME VALUE`, which may be left out
 abbrev pub optional_rule : Text → Rule
 optional_rule name = record (new_rule name) { long = Some name; value_names = 1 }
+
+-- `draw SOURCE --schedule FILE [--rounds RANGE] [--nodes LIST] [--html]`
+abbrev pub draw_app : App
+draw_app =
+    with_rule (with_rule (with_rule (with_rule (with_rule (new_app (codes "draw")) source_rule)
+    (text_rule (codes "schedule"))) (optional_rule (codes "rounds")))
+    (optional_rule (codes "nodes"))) (flag_rule (codes "html"))
 
 -- `lockstep SOURCE --header FILE --correct LIST --delta D --gst G`
 abbrev pub required_lockstep_app : App
@@ -114,9 +128,9 @@ bare_app = let new = new_app (codes "roundc") in record new {
 -- the whole command line
 abbrev pub roundc_app : App
 roundc_app = with_subcommand (with_subcommand (with_subcommand (with_subcommand (with_subcommand
-    (with_subcommand (with_subcommand (with_subcommand bare_app check_app.top) run_app.top)
-    threads_app.top) judge_app.top) lockstep_app.top) realise_app.top) rounds_app.top)
-    explore_app.top
+    (with_subcommand (with_subcommand (with_subcommand (with_subcommand (with_subcommand bare_app
+    check_app.top) show_app.top) run_app.top) draw_app.top) threads_app.top) judge_app.top)
+    lockstep_app.top) realise_app.top) rounds_app.top) explore_app.top
 
 -- what a parse reads of the command is this, and none of its arguments is global
 abbrev pub IsCommandOf : App → Command → Type 0

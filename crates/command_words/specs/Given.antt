@@ -8,13 +8,16 @@ use Rattle.clap.specs.declared.error.Error.{Error}
 use Rattle.clap.specs.declared.error.kind.ErrorKind.TheVariants.{OutOfMemory}
 use Rattle.command_words.specs.Changes.{FailsByChanges, GivesChanges}
 use Rattle.command_words.specs.Commands.{roundc_app}
-use Rattle.command_words.specs.Exploring.{FailsByExploring, GivesExploring}
-use Rattle.command_words.specs.Values.{IsNoList, ListText, NumberText, SourceText, is_negative}
-use Rattle.command_words.specs.Values.{max_delta}
+use Rattle.command_words.specs.Exploring.{FailsByExploring, GivesExploring, HasNoValue}
+use Rattle.command_words.specs.Values.{IsNoList, ListText, NumberText, RangeText, SourceText}
+use Rattle.command_words.specs.Values.{is_negative, max_delta}
+use Rattle.command_words.specs.declared.drawing.Drawing.{Drawing}
+use Rattle.command_words.specs.declared.drawing.RoundRange.{RoundRange}
 use Rattle.command_words.specs.declared.values.Source.{Source}
 use Rattle.command_words.specs.declared.words.Words.{Words}
-use Rattle.command_words.specs.declared.words.Words.TheVariants.{Check, Explore, Judge, Lockstep}
-use Rattle.command_words.specs.declared.words.Words.TheVariants.{Realise, Rounds, Run, Threads}
+use Rattle.command_words.specs.declared.words.Words.TheVariants.{Check, Draw, Explore, Judge}
+use Rattle.command_words.specs.declared.words.Words.TheVariants.{Lockstep, Realise, Rounds, Run}
+use Rattle.command_words.specs.declared.words.Words.TheVariants.{Show, Threads}
 use Rattle.command_words.specs.declared.words.WordsFault.{WordsFault}
 use Rattle.command_words.specs.declared.words.WordsFault.TheVariants.{Refused, Missing, NoMemory}
 use Rattle.command_words.specs.declared.words.WordsFault.TheVariants as fault
@@ -53,18 +56,40 @@ abbrev pub GivesTerms : List Row → List ℕ → ℕ → ℕ → Type 0
 GivesTerms rows correct delta gst =
     GivesList (codes "correct") rows correct × GivesDelta rows delta × GivesGst rows gst
 
+-- the flag of this name stands there
+abbrev pub HasFlag : Text → List Row → Type 0
+HasFlag name rows = first_of name rows ≡ Some (codes "true")
+
 -- `--decided` stands there
-abbrev pub HasFlag : List Row → Type 0
-HasFlag rows = first_of (codes "decided") rows ≡ Some (codes "true")
+abbrev pub IsDecidedAsked : List Row → Type 0
+IsDecidedAsked rows = HasFlag (codes "decided") rows
+
+-- the option has this range, or isn't there
+abbrev pub GivesRange : List Row → Option RoundRange → Type 0
+GivesRange rows None = first_of (codes "rounds") rows ≡ None
+GivesRange rows (Some range) =
+    (text : Text) × (first_of (codes "rounds") rows ≡ Some text) × RangeText text range
+
+-- what the options of `draw` say; with no `--nodes` the list is empty
+pub record GivesDrawing (rows : List Row) (d : Drawing) : Type 0 where
+  pub rounds : GivesRange rows d.rounds
+  pub nodes : GivesTable (codes "nodes") rows d.nodes.items
+  pub html : IsTrue d.html ↔ HasFlag (codes "html") rows
 
 -- the command of this name with these matches is what the words say
 abbrev pub Gives : Text → List Row → Words → Type 0
 Gives name rows (Check source) = (name ≡ codes "check") × GivesSource rows source
+Gives name rows (Show source) = (name ≡ codes "show") × GivesSource rows source
 Gives name rows (Run source schedule decided) = (name ≡ codes "run") × GivesSource rows source
-    × (first_of (codes "schedule") rows ≡ Some schedule.now) × (IsTrue decided ↔ HasFlag rows)
+    × (first_of (codes "schedule") rows ≡ Some schedule.now)
+    × (IsTrue decided ↔ IsDecidedAsked rows)
+Gives name rows (Draw source schedule drawing) = (name ≡ codes "draw")
+    × GivesSource rows source × (first_of (codes "schedule") rows ≡ Some schedule.now)
+    × GivesDrawing rows drawing
 Gives name rows (Threads source setup trace decided) = (name ≡ codes "threads")
     × GivesSource rows source × (first_of (codes "setup") rows ≡ Some setup.now)
-    × (first_of (codes "trace") rows ≡ Some trace.now) × (IsTrue decided ↔ HasFlag rows)
+    × (first_of (codes "trace") rows ≡ Some trace.now)
+    × (IsTrue decided ↔ IsDecidedAsked rows)
 Gives name rows (Judge source schedule correct delta gst) = (name ≡ codes "judge")
     × GivesSource rows source × (first_of (codes "schedule") rows ≡ Some schedule.now)
     × GivesTerms rows correct.items delta gst
@@ -79,7 +104,8 @@ Gives name rows (Realise source header omissions) = (name ≡ codes "realise")
     × (first_of (codes "omissions") rows ≡ Some omissions.now)
 Gives name rows (Rounds source header omissions decided) = (name ≡ codes "rounds")
     × GivesSource rows source × (first_of (codes "header") rows ≡ Some header.now)
-    × (first_of (codes "omissions") rows ≡ Some omissions.now) × (IsTrue decided ↔ HasFlag rows)
+    × (first_of (codes "omissions") rows ≡ Some omissions.now)
+    × (IsTrue decided ↔ IsDecidedAsked rows)
 Gives name rows (Explore source header exploring) = (name ≡ codes "explore")
     × GivesSource rows source × (first_of (codes "header") rows ≡ Some header.now)
     × GivesExploring rows exploring
@@ -138,9 +164,22 @@ FailsByGst rows fault.Gst =
     (text : Text) × (first_of (codes "gst") rows ≡ Some text) × ((n : ℕ) → ¬ (NumberText text n))
 FailsByGst rows _ = ⊥
 
+-- the fault of RANGE: it has a text that is that of no range
+abbrev pub FailsByRange : List Row → WordsFault → Type 0
+FailsByRange rows fault.Range = HasNoValue (codes "rounds") RangeText rows
+FailsByRange rows _ = ⊥
+
+-- the fault of an option of `draw`
+abbrev pub FailsByDrawing : List Row → WordsFault → Type 0
+FailsByDrawing rows fault = FailsByRange rows fault ⊎ FailsByTable (codes "nodes") rows fault
+
 -- the fault of a value of `run`
 abbrev pub FailsByRun : List Row → WordsFault → Type 0
 FailsByRun rows fault = FailsBySource rows fault ⊎ FailsByFile (codes "schedule") rows fault
+
+-- the fault of a value of `draw`
+abbrev pub FailsByDraw : List Row → WordsFault → Type 0
+FailsByDraw rows fault = FailsByRun rows fault ⊎ FailsByDrawing rows fault
 
 -- the fault of a value of `threads`
 abbrev pub FailsByThreads : List Row → WordsFault → Type 0
@@ -179,17 +218,20 @@ FailsByExplore rows fault = FailsBySource rows fault
 -- the fault of a command's values; a command of another name lacks all
 abbrev pub FailsByValue : Text → List Row → WordsFault → Type 0
 FailsByValue name rows fault =
-    ((name ≡ codes "check") × FailsBySource rows fault)
-    ⊎ (((name ≡ codes "run") × FailsByRun rows fault)
+    (((name ≡ codes "check") × FailsBySource rows fault)
+    ⊎ ((name ≡ codes "show") × FailsBySource rows fault))
+    ⊎ ((((name ≡ codes "run") × FailsByRun rows fault)
+    ⊎ ((name ≡ codes "draw") × FailsByDraw rows fault))
     ⊎ (((name ≡ codes "threads") × FailsByThreads rows fault)
     ⊎ (((name ≡ codes "judge") × FailsByJudge rows fault)
     ⊎ (((name ≡ codes "lockstep") × FailsByLockstep rows fault)
     ⊎ (((name ≡ codes "realise") × FailsByOmissions rows fault)
     ⊎ (((name ≡ codes "rounds") × FailsByOmissions rows fault)
     ⊎ (((name ≡ codes "explore") × FailsByExplore rows fault)
-    ⊎ (((name ≢ codes "check") × (name ≢ codes "run") × (name ≢ codes "threads")
-    × (name ≢ codes "judge") × (name ≢ codes "lockstep") × (name ≢ codes "realise")
-    × (name ≢ codes "rounds") × (name ≢ codes "explore")) × (fault ≡ Missing)))))))))
+    ⊎ (((name ≢ codes "check") × (name ≢ codes "show") × (name ≢ codes "run")
+    × (name ≢ codes "draw") × (name ≢ codes "threads") × (name ≢ codes "judge")
+    × (name ≢ codes "lockstep") × (name ≢ codes "realise") × (name ≢ codes "rounds")
+    × (name ≢ codes "explore")) × (fault ≡ Missing)))))))))
 
 -- `clap` finds no mistake in the words, and a value of the command that they name has the fault
 abbrev pub HasBadValue : List Text → WordsFault → Type 0
@@ -209,7 +251,8 @@ has_negative option (word ∷ rest) =
 -- a number below 0 follows an option that has a list
 abbrev pub has_negative_list : List Text → Bool
 has_negative_list words = has_negative (codes "--correct") words
-    || (has_negative (codes "--delays") words || has_negative (codes "--orders") words)
+    || (has_negative (codes "--delays") words || (has_negative (codes "--orders") words
+    || has_negative (codes "--nodes") words))
 
 -- a number below 0 is among the n words after the option
 abbrev pub has_negative_among : Text → ℕ → List Text → Bool
@@ -237,6 +280,7 @@ Explains words fault.Gst = HasBadNumber (codes "--gst") words fault.Gst
 Explains words fault.Ticks = HasBadNumber (codes "--ticks") words fault.Ticks
 Explains words fault.Clear = HasBadNumber (codes "--clear") words fault.Clear
 Explains words fault.Hears = HasBadNumber (codes "--hears") words fault.Hears
+Explains words fault.Range = HasBadNumber (codes "--rounds") words fault.Range
 Explains words fault.Change =
     HasBadValue words fault.Change ⊎ (has_negative_change words ≡ true)
 Explains words NoMemory = ⊤
@@ -251,6 +295,7 @@ IsMistake words error fault.Gst = has_negative (codes "--gst") words ≡ true
 IsMistake words error fault.Ticks = has_negative (codes "--ticks") words ≡ true
 IsMistake words error fault.Clear = has_negative (codes "--clear") words ≡ true
 IsMistake words error fault.Hears = has_negative (codes "--hears") words ≡ true
+IsMistake words error fault.Range = has_negative (codes "--rounds") words ≡ true
 IsMistake words error fault.Change = has_negative_change words ≡ true
 IsMistake words error NoMemory = kind_of error ≡ OutOfMemory
 IsMistake words error _ = ⊥

@@ -4,6 +4,7 @@ use Rattle.command_words.specs.declared.words.WordsFault.{WordsFault}
 use Rattle.command_words.specs.declared.words.WordsFault.TheVariants.{Refused, Missing, Source}
 use Rattle.command_words.specs.declared.words.WordsFault.TheVariants.{List as BadList, Delta, Gst}
 use Rattle.command_words.specs.declared.words.WordsFault.TheVariants.{Ticks, Change, Inputs}
+use Rattle.command_words.specs.declared.words.WordsFault.TheVariants.{Range}
 use Rattle.command_words.specs.declared.words.WordsFault.TheVariants.{Faults, Clear}
 use Rattle.command_words.specs.declared.words.WordsFault.TheVariants.{Hears, Checks, NoMemory}
 
@@ -25,4 +26,6 @@ words_line Clear = Some (codes "error: C is a number of 1 to 4294967295\n")
 words_line Hears = Some (codes "error: M is a number of 0 to 4294967295\n")
 words_line Checks = Some (codes
     "error: LIST is `agreement`, `validity`, `final` or `termination` with commas between them\n")
+words_line Range = Some (codes
+    "error: RANGE is A-B, two numbers of 1 to 4294967295 with A <= B\n")
 words_line NoMemory = Some (codes "no memory\n")

@@ -1,10 +1,11 @@
--- The texts of SOURCE, LIST and numbers, which `clap` passes on as they were written.
-use Rattle.std.specs.Prelude.{◌≡◌, ◌≢◌, ◌++◌, ◌∷◌, ◌==◌, ◌&&◌, ◌||◌, ◌<◌, ◌^◌, [], ℕ, Bool, IsTrue}
-use Rattle.std.specs.Prelude.{List, false, min, ⊤}
+-- The texts of SOURCE, LIST, RANGE and numbers, which `clap` passes on as they were written.
+use Rattle.std.specs.Prelude.{◌≡◌, ◌≢◌, ◌++◌, ◌∷◌, ◌==◌, ◌&&◌, ◌||◌, ◌<◌, ◌≤◌, ◌^◌, [], ℕ, Bool}
+use Rattle.std.specs.Prelude.{IsTrue, List, false, min, ⊤}
 use Rattle.std.specs.Char.{is_ascii_alphabetic, is_ascii_alphanumeric, is_ascii_digit}
 use Rattle.std.specs.List.{list_all, slice_split}
 use Rattle.std.specs.Str.Parse.{IsNumeral, digits_value}
 use Rattle.clap.specs.Words.{Text}
+use Rattle.command_words.specs.declared.drawing.RoundRange.{RoundRange}
 use Rattle.command_words.specs.declared.values.Source.{Source}
 use Rattle.command_words.specs.declared.words.WordsFault.{WordsFault}
 use Rattle.command_words.specs.declared.words.WordsFault.TheVariants as fault
@@ -47,6 +48,18 @@ pub record NumberText (text : Text) (n : ℕ) : Type 0 where
   pub digits : IsNumeral 10 text
   pub value : n ≡ digits_value 10 text
   pub small : n < 2 ^ 32
+
+-- `-`
+abbrev pub dash : ℕ
+dash = 45
+
+abbrev pub is_dash : ℕ → Bool
+is_dash b = b == dash
+
+-- two numbers of 1 on with `-` between them, of which the first is no larger than the last
+abbrev pub RangeText : Text → RoundRange → Type 0
+RangeText text r = (first : Text) × (last : Text) × (text ≡ first ++ dash ∷ last)
+    × NumberText first r.first × NumberText last r.last × (1 ≤ r.first) × (r.first ≤ r.last)
 
 -- the delay bound is at most this
 abbrev pub max_delta : ℕ

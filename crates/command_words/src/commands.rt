@@ -2,13 +2,13 @@
 ghost use Rattle.std.specs.Prelude.{◌≡◌, IfOk, codes, false, length};
 ghost use Rattle.clap.specs.Words.{rule_of};
 ghost use Rattle.command_words.specs.Commands.{IsCommandOf, bare_app, check_app, decided_rule};
-ghost use Rattle.command_words.specs.Commands.{explore_app, explore_by_header_app};
+ghost use Rattle.command_words.specs.Commands.{draw_app, explore_app, explore_by_header_app};
 ghost use Rattle.command_words.specs.Commands.{paced_lockstep_app, repeated_rule};
-ghost use Rattle.command_words.specs.Commands.{explore_some_runs_app};
+ghost use Rattle.command_words.specs.Commands.{explore_some_runs_app, flag_rule};
 ghost use Rattle.command_words.specs.Commands.{judge_app, lockstep_app, optional_rule};
 ghost use Rattle.command_words.specs.Commands.{realise_app, required_lockstep_app, roundc_app};
-ghost use Rattle.command_words.specs.Commands.{rounds_app, run_app, source_rule, text_rule};
-ghost use Rattle.command_words.specs.Commands.{threads_app};
+ghost use Rattle.command_words.specs.Commands.{rounds_app, run_app, show_app, source_rule};
+ghost use Rattle.command_words.specs.Commands.{text_rule, threads_app};
 
 use clap::{Arg, ArgAction, Command};
 use std::alloc::{AllocError, Global};
@@ -96,15 +96,27 @@ fn schedule_arg<'a>(alloc: Global) -> Arg<'a>
     )
 }
 
+/// `--NAME`, which stands there or not.
+fn flag_arg<'a>(alloc: Global, name: &'a str, help: &'a str) -> Arg<'a>
+    ensures rule { rule_of result ≡ flag_rule name.entry.now }
+    ensures local { result.global ≡ false }
+{
+    Arg::new(alloc, name)
+        .long(name)
+        .action(ArgAction::SetTrue)
+        .help(help)
+}
+
 /// `--decided`.
 fn decided_arg<'a>(alloc: Global) -> Arg<'a>
     ensures rule { rule_of result ≡ decided_rule }
     ensures local { result.global ≡ false }
 {
-    Arg::new(alloc, "decided")
-        .long("decided")
-        .action(ArgAction::SetTrue)
-        .help("Adds a line that says what all decisions come to")
+    flag_arg(
+        alloc,
+        "decided",
+        "Adds a line that says what all decisions come to",
+    )
 }
 
 /// `check SOURCE`.
@@ -113,6 +125,15 @@ fn check_command<'a>(alloc: Global) -> Result<Command<'a>, AllocError>
 {
     Command::new(alloc, "check")
         .about("Reads a source and says what it declares")
+        .arg(source_arg(alloc))
+}
+
+/// `show SOURCE`.
+fn show_command<'a>(alloc: Global) -> Result<Command<'a>, AllocError>
+    ensures { IfOk result (IsCommandOf show_app) }
+{
+    Command::new(alloc, "show")
+        .about("Prints the text of a source, also of a program of the library")
         .arg(source_arg(alloc))
 }
 
@@ -214,6 +235,29 @@ fn run_command<'a>(alloc: Global) -> Result<Command<'a>, AllocError>
         .arg(source_arg(alloc))?
         .arg(schedule_arg(alloc))?
         .arg(decided_arg(alloc))
+}
+
+/// `draw SOURCE --schedule FILE [--rounds RANGE] [--nodes LIST] [--html]`.
+fn draw_command<'a>(alloc: Global) -> Result<Command<'a>, AllocError>
+    ensures { IfOk result (IsCommandOf draw_app) }
+{
+    Command::new(alloc, "draw")
+        .about("Draws the run of a schedule, as an SVG picture")
+        .arg(source_arg(alloc))?
+        .arg(schedule_arg(alloc))?
+        .arg(optional_arg(
+            alloc,
+            "rounds",
+            "RANGE",
+            "The rounds that are drawn, as 3-5; all by default",
+        ))?
+        .arg(optional_arg(
+            alloc,
+            "nodes",
+            "LIST",
+            "The nodes that are drawn, as 0,2,3; all by default",
+        ))?
+        .arg(flag_arg(alloc, "html", "Writes an HTML page that has the picture"))
 }
 
 /// `--setup FILE`.
@@ -380,7 +424,9 @@ pub(crate) fn roundc_command<'a>(alloc: Global) -> Result<Command<'a>, AllocErro
 {
     bare_command(alloc)?
         .subcommand(check_command(alloc)?)?
+        .subcommand(show_command(alloc)?)?
         .subcommand(run_command(alloc)?)?
+        .subcommand(draw_command(alloc)?)?
         .subcommand(threads_command(alloc)?)?
         .subcommand(judge_command(alloc)?)?
         .subcommand(lockstep_command(alloc)?)?

@@ -2,7 +2,9 @@
 //!
 //! ```text
 //! roundc check SOURCE
+//! roundc show SOURCE
 //! roundc run SOURCE --schedule FILE [--decided]
+//! roundc draw SOURCE --schedule FILE [--rounds RANGE] [--nodes LIST] [--html]
 //! roundc threads SOURCE --setup FILE --trace FILE [--decided]
 //! roundc judge SOURCE --schedule FILE --correct LIST --delta D --gst G
 //! roundc lockstep SOURCE --header FILE --correct LIST --delta D --gst G [--delays LIST]
@@ -16,18 +18,21 @@
 //! SOURCE is a file's name, or `@NAME:VALUES`, a program of the library. FILE is a file's name, or
 //! `-` for standard input: what `-` means is left to the caller, who opens the file. LIST is
 //! numbers with commas, or for `--check` names of properties. INPUTS are `header` or `any`, FAULTS
-//! `none`, `omission` or `crash`. D is a number of 1 to 1,024, and all others are numbers of 32 bits,
-//! C of `--clear` of 1 on. EXPR is any text. What two dots follow may be there several times.
+//! `none`, `omission` or `crash`. D is a number of 1 to 1,024, and all others are numbers of 32
+//! bits, C of `--clear` of 1 on. RANGE is `A-B`, two such numbers of 1 on with A no larger than B.
+//! EXPR is any text. What two dots follow may be there several times.
 #![tactic(auto)]
 
 mod changes;
 mod commands;
+mod drawing;
 mod exploring;
 mod negative;
 mod values;
 mod words;
 
 pub use changes::{Changes, NodeStop, OwnDelay};
+pub use drawing::{Drawing, RoundRange};
 pub use exploring::{Checks, Exploring, FaultChoice, InputChoice};
 pub use values::Source;
 pub use words::{Words, WordsFault, read_words};

@@ -43,6 +43,7 @@ pub(crate) fn has_negative_list(words: &[&str]) -> bool
     has_negative("--correct", words)
         || has_negative("--delays", words)
         || has_negative("--orders", words)
+        || has_negative("--nodes", words)
 }
 
 /// Whether a number below 0 is among so many words that follow the option.

@@ -3,7 +3,7 @@ ghost use Rattle.std.specs.Prelude.{◌≡◌, ◌≢◌, ◌⊎◌, ◌↔◌, 
 ghost use Rattle.std.specs.Prelude.{codes, map, option_map};
 ghost use Rattle.clap.specs.Words.{fault_of, first_of, found_of, kind_of, rows_of};
 ghost use Rattle.command_words.specs.Commands.{roundc_app};
-ghost use Rattle.command_words.specs.Given.{Explains, FailsByDelta, FailsByExplore};
+ghost use Rattle.command_words.specs.Given.{Explains, FailsByDelta, FailsByDraw, FailsByExplore};
 ghost use Rattle.command_words.specs.Given.{FailsByFile, FailsByGst};
 ghost use Rattle.command_words.specs.Given.{FailsByJudge, FailsByList, FailsByLockstep};
 ghost use Rattle.command_words.specs.Given.{FailsByOmissions};
@@ -11,13 +11,14 @@ ghost use Rattle.command_words.specs.Given.{FailsBySource, FailsByTable, FailsBy
 ghost use Rattle.command_words.specs.Given.{FailsByTicks};
 ghost use Rattle.command_words.specs.Given.{FailsByValue, Gives, GivesDelta, GivesGst, GivesList};
 ghost use Rattle.command_words.specs.Given.{GivesSource, GivesTable, GivesTicks, HasFlag};
-ghost use Rattle.command_words.specs.Given.{IsMistake, Means};
+ghost use Rattle.command_words.specs.Given.{IsDecidedAsked, IsMistake, Means};
 ghost use Rattle.command_words.specs.Given.{begins_negative, has_negative, has_negative_list};
 ghost use Rattle.command_words.specs.Values.{is_negative};
 ghost use Rattle.command_words.specs.declared.words.WordsFault.TheVariants.{NoMemory};
 
 use crate::changes::{Changes, changes_of};
 use crate::commands::roundc_command;
+use crate::drawing::{Drawing, drawing_of};
 use crate::exploring::{Exploring, exploring_of};
 use crate::negative::{has_negative, has_negative_change, has_negative_list};
 use crate::values::{MAX_DELTA, Source, read_list, read_number, read_source};
@@ -33,12 +34,23 @@ pub enum Words<'a> {
     Check {
         source: Source<'a>,
     },
+    /// `show SOURCE`.
+    Show {
+        source: Source<'a>,
+    },
     /// `run SOURCE --schedule FILE [--decided]`; `schedule` is FILE as it was written, `-`
     /// included.
     Run {
         source: Source<'a>,
         schedule: &'a str,
         decided: bool,
+    },
+    /// `draw SOURCE --schedule FILE [--rounds RANGE] [--nodes LIST] [--html]`; `schedule` is as in
+    /// `Run`.
+    Draw {
+        source: Source<'a>,
+        schedule: &'a str,
+        drawing: Drawing,
     },
     /// `threads SOURCE --setup FILE --trace FILE [--decided]`; `setup` and `trace` are each FILE as
     /// it was written, `-` included.
@@ -128,6 +140,9 @@ pub enum WordsFault {
     Hears,
     /// A LIST of `--check` that isn't one or more names of properties with commas between them.
     Checks,
+    /// A RANGE that isn't two numbers of 1 to the largest of 32 bits with `-` between them, or
+    /// whose first is larger than its last; also one that begins with a number below 0.
+    Range,
     /// Memory ran out. Nothing is known of the words.
     NoMemory,
 }
@@ -171,6 +186,12 @@ impl fmt::Display for WordsFault {
                      between them"
                 )
             }
+            WordsFault::Range => {
+                writeln!(
+                    f,
+                    "error: RANGE is A-B, two numbers of 1 to 4294967295 with A <= B"
+                )
+            }
             WordsFault::NoMemory => writeln!(f, "no memory"),
         }
     }
@@ -205,6 +226,7 @@ fn refusal(error: clap::Error, words: &[&str]) -> WordsFault
         _ if has_negative("--ticks", words) => WordsFault::Ticks,
         _ if has_negative("--clear", words) => WordsFault::Clear,
         _ if has_negative("--hears", words) => WordsFault::Hears,
+        _ if has_negative("--rounds", words) => WordsFault::Range,
         _ if has_negative_change(words) => WordsFault::Change,
         _ => WordsFault::Refused(error),
     }
@@ -264,7 +286,11 @@ fn correct_of(alloc: Global, matches: &ArgMatches<'_>) -> Result<Vec<u32>, Words
 }
 
 /// The value of a LIST that may be left out.
-fn table_of(alloc: Global, matches: &ArgMatches<'_>, id: &str) -> Result<Vec<u32>, WordsFault>
+pub(crate) fn table_of(
+    alloc: Global,
+    matches: &ArgMatches<'_>,
+    id: &str,
+) -> Result<Vec<u32>, WordsFault>
     ensures ok { IfOk result (λ list.
         GivesTable id.now (rows_of (found_of matches.now)) list.items) }
     ensures err { IfErr result (FailsByTable id.now (rows_of (found_of matches.now))) }
@@ -289,14 +315,21 @@ fn ticks_of(matches: &ArgMatches<'_>) -> Result<Option<u32>, WordsFault>
     }
 }
 
-/// Whether `--decided` stands there.
-fn is_decided(matches: &ArgMatches<'_>) -> bool
-    ensures { IsTrue result ↔ HasFlag (rows_of (found_of matches.now)) }
+/// Whether the flag of a name stands there.
+pub(crate) fn has_flag(matches: &ArgMatches<'_>, id: &str) -> bool
+    ensures { IsTrue result ↔ HasFlag id.now (rows_of (found_of matches.now)) }
 {
-    match matches.get_str("decided") {
+    match matches.get_str(id) {
         Some(text) => text == "true",
         None => false,
     }
+}
+
+/// Whether `--decided` stands there.
+fn is_decided(matches: &ArgMatches<'_>) -> bool
+    ensures { IsTrue result ↔ IsDecidedAsked (rows_of (found_of matches.now)) }
+{
+    has_flag(matches, "decided")
 }
 
 /// The value of D.
@@ -318,6 +351,18 @@ fn gst_of(matches: &ArgMatches<'_>) -> Result<u32, WordsFault>
 {
     let text = text_of(matches, "gst")?;
     read_number(text).ok_or(WordsFault::Gst)
+}
+
+/// The values of the command `draw`.
+fn draw_of<'a>(alloc: Global, matches: &ArgMatches<'a>) -> Result<Words<'a>, WordsFault>
+    ensures ok { IfOk result (Gives (codes "draw") (rows_of (found_of matches.now))) }
+    ensures err { IfErr result (FailsByDraw (rows_of (found_of matches.now))) }
+{
+    Ok(Words::Draw {
+        source: source_of(matches)?,
+        schedule: text_of(matches, "schedule")?,
+        drawing: drawing_of(alloc, matches)?,
+    })
 }
 
 /// The values of the command `threads`.
@@ -416,11 +461,15 @@ fn command_of<'a>(
         "check" => Ok(Words::Check {
             source: source_of(matches)?,
         }),
+        "show" => Ok(Words::Show {
+            source: source_of(matches)?,
+        }),
         "run" => Ok(Words::Run {
             source: source_of(matches)?,
             schedule: text_of(matches, "schedule")?,
             decided: is_decided(matches),
         }),
+        "draw" => draw_of(alloc, matches),
         "threads" => threads_of(matches),
         "judge" => judge_of(alloc, matches),
         "lockstep" => lockstep_of(alloc, matches),

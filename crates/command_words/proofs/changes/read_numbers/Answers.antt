@@ -1,4 +1,4 @@
-use Rattle.std.proofs.Common.{◌<◌, Bor, [], arith, get_or, length, map, sym, subst, ◌≡◌}
+use Rattle.std.proofs.Common.{◌<◌, Bor, [], arith, get_or, length, map}
 use Rattle.clap.specs.Words.{Text}
 use Rattle.command_words.proofs.ChangeLemmas.{length-texts, text_at}
 use Rattle.command_words.proofs.ListLemmas.{read_all, read_none, read_one}

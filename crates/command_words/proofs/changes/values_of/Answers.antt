@@ -1,4 +1,4 @@
-use Rattle.std.proofs.Common.{List, [], ap, subst, sym}
+use Rattle.std.proofs.Common.{List, [], subst}
 use Rattle.std.specs.Prelude.{IfErr, IfOk}
 use Rattle.clap.specs.Words.{Text}
 use Rattle.command_words.specs.Changes.{IsNoNumbers}

@@ -1,0 +1,261 @@
+//! The picture of the run of a schedule.
+ghost use Rattle.std.specs.Prelude.{◌≡◌, ◌≤◌, ◌↔◌, ◌⊎◌, ℕ, IfErr, IfNone, IfOk, IfSome, IsTrue};
+ghost use Rattle.std.specs.Prelude.{OnOk, Some, string_bytes};
+ghost use Rattle.command_runs.specs.Refused.{IsMissing, IsNotDrawn, IsRefusedCommand, IsSilent};
+ghost use Rattle.command_runs.specs.Refused.{IsUndrawn};
+ghost use Rattle.command_runs.specs.Served.{DrawsRun, IsShownOf, Serves, start_of};
+ghost use Rattle.command_runs.specs.Stages.{IsDrawnAs, IsNotDrawnAs, StopsSchedule};
+ghost use Rattle.command_runs.specs.Texts.{HoldsWhole};
+ghost use Rattle.round_meaning.specs.Setups.{IsLawful};
+ghost use Rattle.schedule_text.specs.Readers.{IsOpened};
+ghost use Rattle.schedule_text.specs.Texts.{max_text};
+ghost use Rattle.schedule_text.specs.declared.kind.Kind.TheVariants as kinds;
+
+use crate::asking::{OpenedSchedule, Run, bad_setup, refusal_after};
+use crate::desk::Desk;
+use crate::explained::{explained_run, nodes_in};
+use crate::memory_desk::MemoryFile;
+use crate::outcome::Outcome;
+use crate::refusal::Refusal;
+use crate::run::written;
+use crate::sources::Opened;
+use crate::texts::{Unfit, read_whole};
+use adversary::{MAX_TEXT, RunFault, ScheduleFault};
+use command_words::{Drawing, RoundRange, Source, Words};
+use omission_explainer::Report;
+use round_check::Checked;
+use round_lang::NoMemory;
+use round_meaning::Setup;
+use run_picture::{PictureFault, View, write_picture};
+use schedule_text::{ScheduleReader, TextSource};
+use slot_plans::{Growing, Known, Plan, PlanKind};
+use std::alloc::Global;
+use std::io::Write;
+use std::mem;
+use step_book::Book;
+
+/// Draws the run of a schedule.
+#[tactic(auto, using(crate::proofs::Telling::silent_same))]
+pub(crate) fn draw<'a, D: Desk, O: Write>(
+    alloc: Global,
+    run: Run<'a>,
+    drawing: &Drawing,
+    desk: &mut D,
+    out: &mut O,
+) -> Result<Outcome, Refusal>
+    ensures done { IfOk result (λ o. o ≡ Outcome.Done) }
+    ensures served { OnOk result (Serves
+        (Words.Draw run.entry.source run.entry.schedule drawing.now) (D.files desk.old)
+        (D.files desk.new) (O.contents out.old) (O.contents out.new)) }
+    ensures refused { IfErr result (IsRefusedCommand
+        (Words.Draw run.entry.source run.entry.schedule drawing.now) (D.files desk.old)) }
+    ensures silent { IfErr result (IsSilent (O.contents out.old) (O.contents out.new)) }
+    ensures written { D.written desk.new ≡ D.written desk.old }
+{
+    let picture = run.picture(alloc, drawing, desk)?;
+    written(out.write_all(picture.as_slice()), out)
+}
+
+/// What a picture is made of, beside the run: the words for its title, the text of the schedule,
+/// and what is drawn.
+#[derive(Clone, Copy)]
+pub struct Sheet<'a> {
+    pub run: Run<'a>,
+    pub text: &'a str,
+    pub drawing: &'a Drawing,
+}
+
+impl<'a> Run<'a> {
+    /// Runs the schedule and draws what is asked for, as the text of a picture or of a page.
+    pub fn picture<D: Desk>(
+        &self,
+        alloc: Global,
+        drawing: &Drawing,
+        desk: &mut D,
+    ) -> Result<Vec<u8>, Refusal>
+        ensures drawn { IfOk result (λ _picture. DrawsRun self.now.source (D.files desk.old)
+            (D.files desk.old self.now.schedule.now) drawing.now) }
+        ensures refused { IfErr result (IsUndrawn self.now.source (D.files desk.old)
+            (D.files desk.old self.now.schedule.now) drawing.now) }
+        ensures written { D.written desk.new ≡ D.written desk.old }
+    {
+        let opened = Opened::open(alloc, self.source, desk)?;
+        let text = schedule_in(alloc, self.schedule, desk)?;
+        let schedule = open_text(alloc, text.as_str())?;
+        match opened.program(alloc, schedule.setup.nodes, schedule.setup.faults) {
+            Ok(program) => {
+                let sheet = Sheet {
+                    run: *self,
+                    text: text.as_str(),
+                    drawing,
+                };
+                draw_by(alloc, &program, schedule, sheet)
+            }
+            Err(refusal) => Err(refusal_after(alloc, schedule.reader, refusal)),
+        }
+    }
+}
+
+/// The text of the schedule in a file.
+fn schedule_in<D: Desk>(alloc: Global, name: &str, desk: &mut D) -> Result<String, Refusal>
+    ensures held { IfOk result (λ text.
+        HoldsWhole max_text (D.files desk.old name.now) (string_bytes text)) }
+    ensures refused { IfErr result (IsMissing kinds.Schedule (D.files desk.old name.now)) }
+    ensures written { D.written desk.new ≡ D.written desk.old }
+{
+    match read_whole(alloc, name, MAX_TEXT, desk) {
+        Ok(text) => Ok(text),
+        Err(Unfit::NoText) => Err(Refusal::File),
+        Err(Unfit::TooLong) => Err(Refusal::Schedule(ScheduleFault::TooLong)),
+        Err(Unfit::NoMemory) => Err(Refusal::NoMemory),
+    }
+}
+
+/// Opens the schedule that a text is.
+fn open_text(alloc: Global, text: &str) -> Result<OpenedSchedule<MemoryFile>, Refusal>
+    ensures opened { IfOk result (λ o. IsOpened text.now o.setup o.plan o.reader) }
+    ensures refused { IfErr result (IsMissing kinds.Schedule (Some text.now)) }
+{
+    let file = MemoryFile::of(alloc, text.as_bytes())?;
+    let (reader, setup, plan) = ScheduleReader::open(alloc, file)?;
+    Ok(OpenedSchedule {
+        setup,
+        plan,
+        reader,
+    })
+}
+
+/// Draws a schedule's run under its plan.
+fn draw_by<S: TextSource + Drop>(
+    alloc: Global,
+    program: &Checked,
+    schedule: OpenedSchedule<S>,
+    sheet: Sheet<'_>,
+) -> Result<Vec<u8>, Refusal>
+    ensures drawn { let plan = schedule.plan in let s = schedule.setup in
+        IfOk result (λ _picture. IsDrawnAs (start_of plan s.nodes) program.now s
+        schedule.reader sheet.entry.drawing.now) }
+    ensures refused { let plan = schedule.plan in let s = schedule.setup in
+        IfErr result (StopsSchedule (λ events r. IsNotDrawn program.now s plan events
+        sheet.entry.drawing.now r) s schedule.reader) }
+{
+    match schedule.plan {
+        PlanKind::Known(delta) => match Known::new(schedule.setup.nodes, delta) {
+            Some(plan) => draw_of(alloc, program, schedule, plan, sheet),
+            None => Err(bad_setup(alloc, schedule)),
+        },
+        PlanKind::Growing => match Growing::new(schedule.setup.nodes) {
+            Some(plan) => draw_of(alloc, program, schedule, plan, sheet),
+            None => Err(bad_setup(alloc, schedule)),
+        },
+    }
+}
+
+fn draw_of<P: Plan, S: TextSource + Drop>(
+    alloc: Global,
+    program: &Checked,
+    schedule: OpenedSchedule<S>,
+    plan: P,
+    sheet: Sheet<'_>,
+) -> Result<Vec<u8>, Refusal>
+    requires { P.nodes plan ≡ schedule.setup.nodes }
+    ensures drawn { IfOk result (λ _picture. IsDrawnAs (P.start plan) program.now schedule.setup
+        schedule.reader sheet.entry.drawing.now) }
+    ensures refused { let s = schedule.setup in IfErr result (StopsSchedule
+        (λ events r. IsNotDrawnAs program.now s events sheet.entry.drawing.now r) s
+        schedule.reader) }
+{
+    let OpenedSchedule { setup, reader, .. } = schedule;
+    let Some(view) = view_of(sheet.drawing, &setup) else {
+        return Err(refusal_after(alloc, reader, Refusal::Run(RunFault::BadSetup)));
+    };
+    let (report, journal) = explained_run(alloc, program, &setup, plan, reader)?;
+    let picture = draw_report(alloc, &report, journal.book(), sheet, &view);
+    // A command ends with its picture: the system takes the run's memory back as a whole.
+    mem::forget(journal);
+    picture
+}
+
+/// What is drawn of a run, if the nodes are the run's and the rounds begin in it.
+fn view_of(drawing: &Drawing, setup: &Setup) -> Option<View>
+    ensures some { IfSome result (λ _view. IsShownOf setup.now drawing.now) }
+    ensures none { IfNone result ((values : ℕ)
+        → ¬ (IsLawful values setup.now × IsShownOf setup.now drawing.now)) }
+{
+    let listed = nodes_in(drawing.nodes.as_slice(), setup.nodes)?;
+    if !begins_by(drawing.rounds, setup.rounds) {
+        return None;
+    }
+    let nodes = if drawing.nodes.is_empty() {
+        None
+    } else {
+        Some(listed)
+    };
+    Some(View {
+        rounds: shown_rounds(drawing.rounds),
+        nodes,
+        html: drawing.html,
+    })
+}
+
+/// Whether a range, if there is one, begins no later than in this round.
+fn begins_by(rounds: Option<RoundRange>, last: u32) -> bool
+    ensures { IsTrue result ↔ IfSome rounds (λ r. r.first ≤ last) }
+{
+    match rounds {
+        Some(range) => range.first <= last,
+        None => true,
+    }
+}
+
+fn shown_rounds(rounds: Option<RoundRange>) -> Option<run_picture::RoundRange> {
+    match rounds {
+        Some(RoundRange { first, last }) => Some(run_picture::RoundRange { first, last }),
+        None => None,
+    }
+}
+
+/// The text of a picture, made whole before any of it goes out.
+fn draw_report<P: Plan>(
+    alloc: Global,
+    report: &Report,
+    book: &Book<P>,
+    sheet: Sheet<'_>,
+    view: &View,
+) -> Result<Vec<u8>, Refusal>
+    ensures { IfErr result (λ r. (r ≡ Refusal.NoMemory) ⊎ (r ≡ Refusal.TooManyEvents)) }
+{
+    let title = title_of(alloc, sheet.run)?;
+    let mut text = Vec::new(alloc);
+    match write_picture(
+        alloc,
+        report,
+        book,
+        sheet.text,
+        title.as_str(),
+        view,
+        &mut text,
+    ) {
+        Ok(()) => Ok(text),
+        Err(PictureFault::TooManyEvents) => Err(Refusal::TooManyEvents),
+        Err(PictureFault::NoMemory) => Err(Refusal::NoMemory),
+        // What is written to memory fails only for want of it.
+        Err(PictureFault::Write) => Err(Refusal::NoMemory),
+    }
+}
+
+/// The source and the schedule, as they are named.
+fn title_of<'a>(alloc: Global, run: Run<'a>) -> Result<String, NoMemory> {
+    let mut title = String::new(alloc);
+    match run.source {
+        Source::File(name) => write!(title, "{name}")?,
+        Source::Library { name, values } => write!(title, "@{name}:{values}")?,
+    }
+    let schedule = if run.schedule == "-" {
+        "standard input"
+    } else {
+        run.schedule
+    };
+    write!(title, ", {schedule}")?;
+    Ok(title)
+}
