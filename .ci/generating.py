@@ -286,6 +286,23 @@ class Generator:
                 lines.append(f"step {node}")
         return lines
 
+    def bursts(self, nodes, rounds, delta):
+        """Writes events in which one node after the other takes many steps at once, so that
+        messages come rounds too early and too late."""
+        taken, lines, flight = [0] * nodes, [], []
+        for _ in range(self.random.randrange(4, 16)):
+            node, is_calm = self.random.randrange(nodes), self.often(0.3)
+            for _ in range(self.random.randrange(1, 5 * (nodes + 2))):
+                sent = self.slot(taken[node], nodes, rounds, delta)
+                flight += [(node, sent[1], sent[0], 0)] if sent else []
+                taken[node] += 1
+                lines.append(f"step {node}")
+                if flight and not is_calm and self.often(0.3):
+                    lines.append(self.network_event(flight, 0.2))
+            for _ in range(self.random.randrange(1 + len(flight))):
+                lines.append(self.network_event(flight, 0.2) if flight else "step 0")
+        return lines
+
     def slot(self, step, nodes, rounds, delta):
         """Returns the round and destination of a send step, or None where it's none."""
         for number in range(1, rounds + 1):
@@ -302,6 +319,8 @@ class Generator:
         if kind == "copy":
             copy = self.random.randrange(1, 4)
             flight.append((sender, to, number, copy))
+        elif self.often(0.06):
+            copy = self.random.randrange(4)  # (one that needn't have been made)
         elif not self.often(0.05):
             flight.pop(place)
         tail = f" {copy}" if copy or self.often(0.1) else ""
@@ -350,6 +369,12 @@ class Generator:
         nodes, rounds = self.one([1, 2, 3, 3, 4, 5]), self.one([1, 1, 2, 3, 4, 5])
         inputs = [self.random.randrange(values) for _ in range(nodes)]
         return nodes, self.one([0, 0, 0, 1, 1, 2]), inputs, rounds, self.one([1, 1, 2, 3, None])
+
+    def long_setup(self, values):
+        """Chooses the numbers of a run of few nodes and some more rounds."""
+        nodes, rounds = self.one([1, 2, 2, 3]), self.one([5, 6, 8, 9])
+        inputs = [self.random.randrange(values) for _ in range(nodes)]
+        return nodes, self.one([0, 1]), inputs, rounds, self.one([1, 1, 2, None])
 
     def spoiled(self, lines, head, others):
         """Returns the bytes of a text's lines, now and then with a fault."""
@@ -484,6 +509,36 @@ class Generator:
         command = self.one(kinds)
         options = getattr(self, f"{command}_options")(files)
         return Given([command, *self.ordered(source, options)], files)
+
+    def why_case(self):
+        """Makes a command with `why` in front of it; half of them are runs without a fault."""
+        if self.often(0.5):
+            given = self.case()
+            return Given(["why", *given.words], given.files)
+        files = {}
+        if self.often(0.5):
+            self.values = self.one([2, 2, 3, 4, 64])
+            source = f"@{self.one(['gather', 'count_votes'])}:{self.values}"
+        else:
+            source, text = "s.rounds", self.spaced(PIECES.findall(self.program()))
+            files["s.rounds"] = text.encode()
+        files["-"] = self.lost_messages()
+        decided = ["--decided"] * self.often(0.2)
+        return Given(["why", "run", source, "--schedule", "-", *decided], files)
+
+    def lost_messages(self):
+        """Returns the bytes of a schedule without a fault."""
+        if self.often(0.4):
+            setup = self.long_setup(self.values)
+            events = self.bursts(setup[0], setup[3], setup[4])
+        else:
+            setup, count = self.setup(self.values), self.random.randrange(self.one([20, 100, 400]))
+            events = self.events(setup[0], setup[3], setup[4], count)
+        lines = self.header(*setup) + events
+        for _ in range(self.one([0, 0, 1, 5])):
+            lines.insert(self.random.randrange(len(lines) + 1), self.one(["", "# é", "#step 0"]))
+        ending = self.one(["\n", "\n", "\r\n"])
+        return (ending.join(lines) + self.one(["", "\n"])).encode()
 
     def check_options(self, files):
         return []

@@ -4,7 +4,7 @@ use crate::program::program_for;
 use adversary::RunFault;
 use command_runs::Refusal;
 use command_words::Source;
-use schedule_text::read_threads;
+use schedule_text::{ScheduleFault, read_threads};
 use std::alloc::Global;
 
 /// The refusal of a source or a thread setup, if there is one.
@@ -22,9 +22,12 @@ pub(crate) fn refused_before_threads(
     let Some(text) = file.text() else {
         return Err(Refusal::File);
     };
+    if file.is_long() {
+        return Err(Refusal::Schedule(ScheduleFault::TooLong));
+    }
     let setup = read_threads(alloc, text)?.setup;
     let program = program_for(alloc, source, files, setup.nodes, setup.faults)?;
-    match files.header(alloc) {
+    match files.header(alloc)? {
         Some(header) if header.fault(program.program().values()).is_some() => {
             Err(Refusal::Run(RunFault::BadSetup))
         }

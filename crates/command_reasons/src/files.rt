@@ -1,13 +1,22 @@
 //! The files that a command reads.
 ghost use Rattle.std.specs.Prelude.{◌≡◌};
 
-use crate::run_causes::Header;
-use command_runs::{Desk, DeskFault, MemoryDesk, Refusal};
+use crate::header::Header;
+use command_runs::{Desk, DeskFault, Refusal};
 use command_words::{Source, Words};
 use round_lang::{MAX_TEXT as MAX_SOURCE, NoMemory};
 use schedule_text::{MAX_TEXT as MAX_SCHEDULE, ScheduleFault};
 use std::alloc::Global;
-use std::io::Write;
+use std::io::{ErrorKind, Write};
+
+/// A desk that remembers what the system said when a file couldn't be read or written.
+pub trait TellingDesk: Desk {
+    /// What the system said the last time, if it's known.
+    fn failure(&self) -> Option<ErrorKind>;
+}
+
+/// How many files a command reads at most: the source's, the run's and that of the omissions.
+pub(crate) const MAX_FILES: usize = 3;
 
 /// What a file is read as.
 #[derive(Clone, Copy, PartialEq, Eq, Debug)]
@@ -26,12 +35,14 @@ struct NamedFile<'a> {
     name: &'a str,
 }
 
-/// A file and its first bytes, one more than its limit at most; `None` if it can't be read.
+/// A file and its first bytes, one more than its limit at most; `None` if it can't be read, and then
+/// what the system said of that, if it's known.
 #[derive(Drop)]
 pub(crate) struct ReadFile<'a> {
     pub kind: FileKind,
     pub name: &'a str,
     pub bytes: Option<Vec<u8>>,
+    pub failure: Option<ErrorKind>,
 }
 
 /// The files of a command, each read once.
@@ -42,7 +53,7 @@ pub(crate) struct CommandFiles<'a> {
 
 impl<'a> CommandFiles<'a> {
     /// Reads the files of a command.
-    pub(crate) fn read<D: Desk>(
+    pub(crate) fn read<D: TellingDesk>(
         alloc: Global,
         command: &Words<'a>,
         desk: &mut D,
@@ -53,25 +64,25 @@ impl<'a> CommandFiles<'a> {
         let mut files = Vec::new(alloc);
         for file in names.as_slice() {
             let bytes = read_file(alloc, *file, desk)?;
+            let failure = if bytes.is_none() {
+                desk.failure()
+            } else {
+                None
+            };
             let read = ReadFile {
                 kind: file.kind,
                 name: file.name,
                 bytes,
+                failure,
             };
             add(&mut files, read)?;
         }
         Ok(CommandFiles { files })
     }
 
-    /// A desk that has the files that can be read, and no others.
-    pub(crate) fn desk(&self, alloc: Global) -> Result<MemoryDesk, Refusal> {
-        let mut desk = MemoryDesk::new(alloc);
-        for file in self.files.as_slice() {
-            if let Some(bytes) = &file.bytes {
-                desk.write(file.name, bytes.as_slice())?;
-            }
-        }
-        Ok(desk)
+    /// The files in the order in which they were read.
+    pub(crate) fn as_slice(&self) -> &[ReadFile<'a>] {
+        &self.files
     }
 
     /// Tells of the first file that can't be read or isn't UTF-8, and whether there is one.
@@ -97,7 +108,7 @@ impl<'a> CommandFiles<'a> {
         out: &mut O,
     ) -> Result<bool, Refusal> {
         for file in self.files.as_slice() {
-            if file.kind != FileKind::Source && file.is_refused(alloc, fault) {
+            if file.kind != FileKind::Source && file.is_refused(alloc, fault)? {
                 file.tell_line(alloc, fault, out)?;
                 return Ok(true);
             }
@@ -105,12 +116,15 @@ impl<'a> CommandFiles<'a> {
         Ok(false)
     }
 
-    /// The header of the run, if its file is read.
-    pub(crate) fn header(&self, alloc: Global) -> Option<Header<'_>> {
-        let file = self.files.iter().find(|file| {
+    /// The header of the run, if there is one and it can be read.
+    pub(crate) fn header(&self, alloc: Global) -> Result<Option<Header<'_>>, Refusal> {
+        let found = self.files.iter().find(|file| {
             file.kind != FileKind::Source && file.kind != FileKind::Omissions
-        })?;
-        Header::read(alloc, file)
+        });
+        match found {
+            Some(file) => Header::read(alloc, file),
+            None => Ok(None),
+        }
     }
 
     /// The file of a kind, if the command reads one.
@@ -125,7 +139,7 @@ fn add<T: Drop>(list: &mut Vec<T>, item: T) -> Result<(), NoMemory> {
 }
 
 /// The most bytes of a file that its command takes.
-fn limit_of(kind: FileKind) -> usize {
+pub(crate) fn limit_of(kind: FileKind) -> usize {
     match kind {
         FileKind::Source => MAX_SOURCE,
         _ => MAX_SCHEDULE,
@@ -174,7 +188,9 @@ fn names_of<'a>(alloc: Global, command: &Words<'a>) -> Result<Vec<NamedFile<'a>>
 pub(crate) fn source_of<'a>(command: &Words<'a>) -> Source<'a> {
     match command {
         Words::Check { source } => *source,
+        Words::Show { source } => *source,
         Words::Run { source, .. } => *source,
+        Words::Draw { source, .. } => *source,
         Words::Threads { source, .. } => *source,
         Words::Judge { source, .. } => *source,
         Words::Lockstep { source, .. } => *source,
@@ -187,8 +203,9 @@ pub(crate) fn source_of<'a>(command: &Words<'a>) -> Source<'a> {
 /// The file with the header of a command's run.
 fn run_file_of<'a>(command: &Words<'a>) -> Option<NamedFile<'a>> {
     let (kind, name) = match command {
-        Words::Check { .. } => return None,
+        Words::Check { .. } | Words::Show { .. } => return None,
         Words::Run { schedule, .. } => (FileKind::Schedule, *schedule),
+        Words::Draw { schedule, .. } => (FileKind::Schedule, *schedule),
         Words::Threads { setup, .. } => (FileKind::Setup, *setup),
         Words::Judge { schedule, .. } => (FileKind::Schedule, *schedule),
         Words::Lockstep { header, .. } => (FileKind::Header, *header),

@@ -1,20 +1,34 @@
 //! Why a command refuses, in words and with the place: what `roundc why` prints.
 #![tactic(auto)]
 
+mod asked;
 mod before_threads;
+mod byte_source;
+mod condition;
+mod decision_lines;
 mod explain;
 mod files;
+mod header;
+mod held_desk;
+mod help;
 mod library;
+mod line_faults;
 mod located;
+mod named_faults;
+mod nesting;
 mod options;
 mod program;
-mod reason_line;
+mod refusals;
+mod report_reasons;
 mod run_causes;
 mod run_reasons;
 mod schedule_forms;
 mod sentence;
-mod significant;
 mod source;
 mod texts;
+mod trace_faults;
+mod verdict_lines;
+mod word_fault;
 
 pub use explain::explain_words;
+pub use files::TellingDesk;

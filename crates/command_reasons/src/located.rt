@@ -1,7 +1,7 @@
 //! A part of a file's text, and a sentence about it.
 use command_runs::Refusal;
-use fault_places::{excerpt_of, place_of};
-use round_lang::Span;
+use fault_places::{Excerpt, excerpt_of, place_of};
+use round_lang::{NoMemory, Span};
 use std::alloc::Global;
 use std::io::Write;
 use std::{fmt, io};
@@ -14,7 +14,7 @@ pub(crate) struct Located<'a> {
     pub span: Span,
 }
 
-impl Located<'_> {
+impl<'a> Located<'a> {
     /// Writes the place and the sentence, and below them the line of the part with `^` under it.
     pub(crate) fn tell<S: fmt::Display, O: Write>(
         &self,
@@ -22,13 +22,62 @@ impl Located<'_> {
         sentence: &S,
         out: &mut O,
     ) -> Result<(), Refusal> {
+        self.excerpt(alloc)?.tell(sentence, out)
+    }
+
+    /// The part with its line. To tell a sentence about it takes no more memory.
+    pub(crate) fn excerpt(&self, alloc: Global) -> Result<LocatedExcerpt<'a>, NoMemory> {
         let excerpt = excerpt_of(alloc, self.text, self.span)?;
-        let place = place_of(self.text, self.span.first);
-        writeln!(out, "{}:{}: {}", self.name, place, sentence).map_err(unwritten)?;
-        writeln!(out, "    {}", excerpt.line.as_str()).map_err(unwritten)?;
-        writeln!(out, "    {}", excerpt.carets.as_str()).map_err(unwritten)?;
+        Ok(LocatedExcerpt {
+            located: *self,
+            excerpt,
+        })
+    }
+}
+
+/// A part of a file's text, and its line.
+#[derive(Drop)]
+pub(crate) struct LocatedExcerpt<'a> {
+    located: Located<'a>,
+    excerpt: Excerpt,
+}
+
+impl LocatedExcerpt<'_> {
+    /// Writes the place and the sentence, and below them the line of the part with `^` under it.
+    pub(crate) fn tell<S: fmt::Display, O: Write>(
+        &self,
+        sentence: &S,
+        out: &mut O,
+    ) -> Result<(), Refusal> {
+        let Located { name, text, span } = self.located;
+        let place = place_of(text, span.first);
+        writeln!(out, "{name}:{place}: {sentence}").map_err(unwritten)?;
+        let line = Shown(self.excerpt.line.as_str());
+        writeln!(out, "    {line}").map_err(unwritten)?;
+        writeln!(out, "    {}", self.excerpt.carets.as_str()).map_err(unwritten)
+    }
+}
+
+/// A line as a terminal shows it: with `?` for each control character but the tab.
+#[derive(Clone, Copy)]
+struct Shown<'a>(&'a str);
+
+impl fmt::Display for Shown<'_> {
+    fn fmt<W: fmt::Write>(&self, f: &mut fmt::Formatter<W>) -> fmt::Result {
+        for character in self.0.chars() {
+            if is_hidden(character) {
+                write!(f, "?")?;
+            } else {
+                write!(f, "{character}")?;
+            }
+        }
         Ok(())
     }
+}
+
+/// Whether a terminal would take the character for an order.
+fn is_hidden(character: char) -> bool {
+    (character < ' ' && character != '\t') || ('\u{7f}' <= character && character <= '\u{9f}')
 }
 
 /// A writer's fault as a refusal.

@@ -1,9 +1,10 @@
 //! Why what the options say gives no run.
+use crate::header::Header;
 use crate::located::unwritten;
-use crate::run_causes::{Header, message_fault};
+use crate::named_faults::message_fault;
 use crate::sentence::Sentence;
 use command_runs::Refusal;
-use command_words::{NodeStop, OwnDelay, Words};
+use command_words::{NodeStop, OwnDelay, RoundRange, Words};
 use lockstep_runs::MAX_ENTRIES;
 use round_meaning::Setup;
 use std::io::Write;
@@ -29,14 +30,20 @@ pub(crate) fn tell_option<O: Write>(
 /// The option whose value the run can't have, and what is said of it.
 fn option_fault(command: &Words<'_>, setup: &Setup) -> Option<OptionFault> {
     match command {
-        Words::Judge { correct, .. } => list_fault(correct.as_slice(), setup.nodes),
+        Words::Draw { drawing, .. } => {
+            list_fault("--nodes", drawing.nodes.as_slice(), setup.nodes).or(rounds_fault(
+                drawing.rounds,
+                setup.rounds,
+            ))
+        }
+        Words::Judge { correct, .. } => { list_fault("--correct", correct.as_slice(), setup.nodes) }
         Words::Lockstep {
             correct,
             delays,
             orders,
             changes,
             ..
-        } => list_fault(correct.as_slice(), setup.nodes)
+        } => list_fault("--correct", correct.as_slice(), setup.nodes)
             .or(table_fault("--delays", delays.len()))
             .or(table_fault("--orders", orders.len()))
             .or(stop_fault(changes.stops.as_slice(), correct.as_slice(), setup.nodes))
@@ -46,9 +53,20 @@ fn option_fault(command: &Words<'_>, setup: &Setup) -> Option<OptionFault> {
     }
 }
 
-fn list_fault(correct: &[u32], nodes: u32) -> Option<OptionFault> {
-    let node = correct.iter().find(|node| **node >= nodes)?;
-    Some(("--correct", Sentence::NoNode { node: *node, nodes }))
+/// What is said of the first node of a list that the run hasn't.
+fn list_fault(option: &'static str, list: &[u32], nodes: u32) -> Option<OptionFault> {
+    let node = list.iter().find(|node| **node >= nodes)?;
+    Some((option, Sentence::NoNode { node: *node, nodes }))
+}
+
+/// What is said of a range that begins behind the last round.
+fn rounds_fault(range: Option<RoundRange>, rounds: u32) -> Option<OptionFault> {
+    let round = range?.first;
+    if round > rounds {
+        Some(("--rounds", Sentence::NoRound { round, rounds }))
+    } else {
+        None
+    }
 }
 
 fn table_fault(option: &'static str, entries: usize) -> Option<OptionFault> {

@@ -4,7 +4,7 @@ use algorithm_library::{count_votes, dls1, gather};
 use command_runs::Refusal;
 use command_words::Source;
 use round_check::{Checked, check};
-use round_lang::parse;
+use round_lang::{LangFault, parse};
 use std::alloc::Global;
 
 /// The program of a source whose file was read, for a run on so many nodes.
@@ -23,6 +23,9 @@ pub(crate) fn program_for(
             let Some(text) = file.text() else {
                 return Err(Refusal::File);
             };
+            if file.is_long() {
+                return Err(Refusal::Source(LangFault::TooLong));
+            }
             Ok(check(alloc, parse(alloc, text)?)?)
         }
         Source::Library { name, values } => match name {

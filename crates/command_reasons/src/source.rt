@@ -1,9 +1,11 @@
 //! Why a source is no program.
 use crate::files::{CommandFiles, FileKind};
 use crate::located::unwritten;
+use crate::nesting::{Reading, too_deep_at};
+use crate::refusals::unless_refused;
 use crate::sentence::Sentence;
 use command_runs::Refusal;
-use fault_places::{FaultPlace, expected_at, fault_place};
+use fault_places::{Double, FaultPlace, expected_at, fault_place};
 use round_check::CheckFault;
 use round_lang::{LangFault, Span, parse};
 use std::alloc::Global;
@@ -25,7 +27,8 @@ pub(crate) fn tell_source<O: Write>(
     match fault {
         LangFault::BadToken(span) | LangFault::Unexpected(span) => {
             let expected = expected_at(alloc, text, span.first)?;
-            file.located(text, span).tell(alloc, &expected, out)?;
+            file.located(text, expected.place(span))
+                .tell(alloc, &expected, out)?;
             if let Some(mistake) = expected.mistake() {
                 writeln!(out, "{mistake}").map_err(unwritten)?;
             }
@@ -34,7 +37,12 @@ pub(crate) fn tell_source<O: Write>(
             let sentence = limit_sentence(text, span);
             file.located(text, span).tell(alloc, &sentence, out)?;
         }
-        LangFault::TooDeep => file.tell_whole(&Sentence::TooDeep, out)?,
+        LangFault::TooDeep => match too_deep_at(alloc, text, Reading::Program)? {
+            Some(span) => file
+                .located(text, span)
+                .tell(alloc, &Sentence::TooDeep, out)?,
+            None => file.tell_whole(&Sentence::TooDeep, out)?,
+        },
         LangFault::TooLong => file.tell_whole(&Sentence::TooLongSource, out)?,
         LangFault::NoMemory => return Err(Refusal::NoMemory),
     }
@@ -42,7 +50,7 @@ pub(crate) fn tell_source<O: Write>(
 }
 
 /// What is said of a number, a name or a list that passes its limit.
-fn limit_sentence(text: &str, span: Span) -> Sentence<'static> {
+pub(crate) fn limit_sentence(text: &str, span: Span) -> Sentence<'static> {
     let before = match text.get(..span.first) {
         Some(before) => before.trim_end(),
         None => "",
@@ -77,16 +85,20 @@ pub(crate) fn tell_check<O: Write>(
     let Some(text) = file.text() else {
         return Ok(false);
     };
-    let Ok(program) = parse(alloc, text) else {
+    let Some(program) = unless_refused(parse(alloc, text))? else {
         return Ok(false);
     };
     let Some(found) = fault_place(alloc, text, &program, fault)? else {
         return Ok(false);
     };
-    file.located(text, span_of(&found))
-        .tell(alloc, &found, out)?;
-    if let Some((span, sentence)) = other_of(&found) {
-        file.located(text, span).tell(alloc, &sentence, out)?;
+    let excerpt = file.located(text, span_of(&found)).excerpt(alloc)?;
+    match other_of(&found) {
+        None => excerpt.tell(&found, out)?,
+        Some((span, sentence)) => {
+            let other = file.located(text, span).excerpt(alloc)?;
+            excerpt.tell(&found, out)?;
+            other.tell(&sentence, out)?;
+        }
     }
     Ok(true)
 }
@@ -112,8 +124,17 @@ fn other_of(found: &FaultPlace<'_>) -> Option<(Span, Sentence<'static>)> {
             let nearest = (*nearest)?;
             Some((nearest.span, Sentence::NearestName))
         }
-        FaultPlace::DoubleName { other, .. } => Some((other.span, Sentence::FirstMeaning)),
+        FaultPlace::DoubleName { other, double, .. } => Some((other.span, first_of(*double))),
         FaultPlace::FieldCount { message, .. } => Some((*message, Sentence::FieldsHere)),
         _ => None,
+    }
+}
+
+/// What is said of where what is there twice stands first.
+fn first_of(double: Double) -> Sentence<'static> {
+    match double {
+        Double::Input => Sentence::FirstOfKind("input"),
+        Double::Decide => Sentence::FirstOfKind("decide"),
+        _ => Sentence::FirstMeaning,
     }
 }

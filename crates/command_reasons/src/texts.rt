@@ -1,23 +1,38 @@
 //! What is wrong with the text of a file.
-use crate::files::{FileKind, ReadFile};
+use crate::files::{FileKind, ReadFile, limit_of};
+use crate::line_faults::BadLine;
 use crate::located::{Located, unwritten};
 use crate::schedule_forms::forms_at;
 use crate::sentence::Sentence;
-use crate::significant::TextLines;
+use crate::word_fault::word_span;
 use command_runs::Refusal;
 use omission_texts::read_omissions;
+use reason_texts::TextLines;
 use round_lang::Span;
-use schedule_text::{ScheduleFault, read_header};
+use schedule_text::{ScheduleFault, begin_utf8, read_header};
 use std::alloc::Global;
 use std::io::Write;
 use std::str::from_utf8;
 
 impl ReadFile<'_> {
-    /// The file's text, if it was read and is UTF-8.
+    /// The file's text, if it was read and is UTF-8; of a longer one than its command takes, its
+    /// beginning.
     pub(crate) fn text(&self) -> Option<&str> {
+        let bytes = self.bytes.as_ref()?.as_slice();
+        match from_utf8(bytes) {
+            Ok(text) => Some(text),
+            Err(error) if self.is_long() && begin_utf8(bytes) => {
+                from_utf8(bytes.get(..error.valid_up_to())?).ok()
+            }
+            Err(_) => None,
+        }
+    }
+
+    /// Whether the file is longer than its command takes.
+    pub(crate) fn is_long(&self) -> bool {
         match &self.bytes {
-            Some(bytes) => from_utf8(bytes.as_slice()).ok(),
-            None => None,
+            Some(bytes) => bytes.len() > limit_of(self.kind),
+            None => false,
         }
     }
 
@@ -37,9 +52,12 @@ impl ReadFile<'_> {
         out: &mut O,
     ) -> Result<bool, Refusal> {
         let Some(bytes) = &self.bytes else {
-            self.tell_whole(&Sentence::Unread, out)?;
+            self.tell_whole(&Sentence::Unread(self.failure), out)?;
             return Ok(true);
         };
+        if self.text().is_some() {
+            return Ok(false);
+        }
         let Err(error) = from_utf8(bytes.as_slice()) else {
             return Ok(false);
         };
@@ -69,20 +87,21 @@ impl ReadFile<'_> {
     }
 
     /// Whether the text of the file, a header or an omission file, is refused for this fault.
-    pub(crate) fn is_refused(&self, alloc: Global, fault: ScheduleFault) -> bool {
+    pub(crate) fn is_refused(&self, alloc: Global, fault: ScheduleFault) -> Result<bool, Refusal> {
         let Some(text) = self.text() else {
-            return fault == ScheduleFault::TooLong;
+            return Ok(false);
         };
-        match self.kind {
-            FileKind::Header => match read_header(alloc, text) {
-                Ok(_) => false,
-                Err(found) => found == fault,
-            },
-            FileKind::Omissions => match read_omissions(alloc, text) {
-                Ok(_) => false,
-                Err(found) => found == fault,
-            },
-            _ => true,
+        if self.is_long() {
+            return Ok(fault == ScheduleFault::TooLong);
+        }
+        let found = match self.kind {
+            FileKind::Header => read_header(alloc, text).err(),
+            FileKind::Omissions => read_omissions(alloc, text).err(),
+            _ => Some(fault),
+        };
+        match found {
+            Some(ScheduleFault::NoMemory) => Err(Refusal::NoMemory),
+            found => Ok(found == Some(fault)),
         }
     }
 
@@ -103,14 +122,43 @@ impl ReadFile<'_> {
             return self.tell_whole(&Sentence::TooLong, out);
         };
         let (before, line) = TextLines::new(alloc, text)?.numbered(number as usize);
-        let forms = forms_at(self.kind, before);
-        let sentence = if is_large {
-            Sentence::NumberTooLarge
+        let (span, sentence) = if is_large {
+            (large_number(text, line.span), Sentence::NumberTooLarge)
         } else if line.span.first == text.len() {
-            Sentence::EndsBefore(forms)
+            (line.span, Sentence::EndsBefore(forms_at(self.kind, before)))
         } else {
-            Sentence::Expected(forms)
+            self.bad_line(text, line.span, before).fault()
         };
-        self.located(text, line.span).tell(alloc, &sentence, out)
+        self.located(text, span).tell(alloc, &sentence, out)
+    }
+
+    /// A line of the file's text that can't be read.
+    fn bad_line<'b>(&self, text: &'b str, span: Span, before: usize) -> BadLine<'b> {
+        BadLine {
+            kind: self.kind,
+            bytes: text.as_bytes().get(span.first..span.after).unwrap_or(&[]),
+            span,
+            before,
+        }
+    }
+}
+
+/// Where the first number of a line stands that is too large; the line if there is none.
+fn large_number(text: &str, line: Span) -> Span {
+    let bytes = text.as_bytes().get(line.first..line.after).unwrap_or(&[]);
+    for (place, word) in bytes.split(|byte| *byte == b' ').enumerate() {
+        let is_number = word.iter().all(|byte| byte.is_ascii_digit());
+        if is_number && is_large(word) {
+            return word_span(bytes, place, line);
+        }
+    }
+    line
+}
+
+/// Whether digits make a number above the largest of 32 bits.
+fn is_large(digits: &[u8]) -> bool {
+    match from_utf8(digits) {
+        Ok(digits) => !digits.is_empty() && digits.parse::<u32>().is_err(),
+        Err(_) => false,
     }
 }

@@ -41,6 +41,9 @@ fn run<R: Threads + Wait + Sync>(
     let mut desk = HostDesk::new(rt, err, alloc);
     let mut out = BufWriter::with_capacity(alloc, PRINTED_AT_ONCE, rt.stdout())?;
     let status = match words.as_slice() {
+        ["help", "why"] => {
+            explain_words(starter, alloc, &["help"], &mut desk, &mut out, &mut err)
+        }
         ["why", command @ ..] => {
             explain_words(starter, alloc, command, &mut desk, &mut out, &mut err)
         }

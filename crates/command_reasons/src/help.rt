@@ -1,0 +1,22 @@
+//! What `roundc why --help` prints.
+
+/// How the command is used.
+pub(crate) const HELP: &str = "\
+Says why a command is refused, and where, or why a run came out as it did
+
+Usage: roundc why COMMAND ..
+
+COMMAND .. are the words of any other command, as `check my.rounds` or
+`run @gather:2 --schedule my.schedule`. It's carried out, but it writes no file, and of `threads`
+the setup is read and no thread is started.
+
+  refused       the file, the line and the column (FILE:LINE:COLUMN), the line itself with ^ under
+                the part that is wrong, and what could stand there or what's wrong with it
+  run           behind each row of the report that omits messages, what became of each copy; behind
+                the report the releases, drops and copies that did nothing, 100 at most
+  run --decided the two rows that decided differently, or the nodes that took a decision back
+  judge         the first step that breaks lockstep, the first receive that comes before a message
+                is released whose bound is over, and why no round is clear
+
+The status is 0 if it could be told, and else that of the command.
+";
