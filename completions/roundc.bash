@@ -3,9 +3,11 @@
 # What a value completes with: that of an option, or of the argument at a place.
 _roundc_choices() {
     case $1 in
-        ' 1') choices='check run threads judge lockstep realise rounds explore help' ;;
+        ' 1') choices='check show run draw threads judge lockstep realise rounds explore help' ;;
         'check 1' | \
+        'show 1' | \
         'run 1' | \
+        'draw 1' | \
         'threads 1' | \
         'judge 1' | \
         'lockstep 1' | \
@@ -13,6 +15,7 @@ _roundc_choices() {
         'rounds 1' | \
         'explore 1') choices='@gather: @count_votes: @dls1:' files=yes ;;
         'run --schedule' | \
+        'draw --schedule' | \
         'threads --setup' | \
         'threads --trace' | \
         'judge --schedule' | \
@@ -26,7 +29,7 @@ _roundc_choices() {
         'explore --trace') files=yes ;;
         'explore --inputs') choices='header any' ;;
         'explore --faults') choices='none omission crash' ;;
-        'help 1') choices='check run threads judge lockstep realise rounds explore' ;;
+        'help 1') choices='check show run draw threads judge lockstep realise rounds explore' ;;
         *) return 1 ;;
     esac
 }
@@ -34,8 +37,10 @@ _roundc_choices() {
 _roundc_options() {
     case $1 in
         '' | \
-        'check') options='-h --help -V --version' ;;
+        'check' | \
+        'show') options='-h --help -V --version' ;;
         'run') options='--schedule --decided -h --help -V --version' ;;
+        'draw') options='--schedule --rounds --nodes --html -h --help -V --version' ;;
         'threads') options='--setup --trace --decided -h --help -V --version' ;;
         'judge') options='--schedule --correct --delta --gst -h --help -V --version' ;;
         'lockstep') options='--header --correct --delta --gst --delays --orders --ticks --stop --omissions --delay -h --help -V --version' ;;
@@ -50,6 +55,9 @@ _roundc_options() {
 _roundc_takes_value() {
     case $1 in
         'run --schedule' | \
+        'draw --schedule' | \
+        'draw --rounds' | \
+        'draw --nodes' | \
         'threads --setup' | \
         'threads --trace' | \
         'judge --schedule' | \
@@ -85,7 +93,9 @@ _roundc_takes_value() {
 _roundc_is_command() {
     case $1 in
         'check' | \
+        'show' | \
         'run' | \
+        'draw' | \
         'threads' | \
         'judge' | \
         'lockstep' | \

@@ -1,7 +1,7 @@
 # Completions of roundc for fish, made by .ci/manual from what `roundc help` says.
 
 # The options that take a value.
-set -g __roundc_valued --always --check --clear --correct --delay --delays --delta --faults --gst --header --hears --inputs --omissions --orders --schedule --setup --stop --ticks --trace
+set -g __roundc_valued --always --check --clear --correct --delay --delays --delta --faults --gst --header --hears --inputs --nodes --omissions --orders --rounds --schedule --setup --stop --ticks --trace
 
 # The words of the line behind `roundc`, without options and their values.
 function __roundc_words
@@ -30,7 +30,9 @@ end
 complete -c roundc -f
 
 complete -c roundc -n "__roundc_at '' 0" -a check -d 'Reads a source and says what it declares'
+complete -c roundc -n "__roundc_at '' 0" -a show -d 'Prints the text of a source, also of a program of the library'
 complete -c roundc -n "__roundc_at '' 0" -a run -d 'Runs a schedule and reports each completed round'
+complete -c roundc -n "__roundc_at '' 0" -a draw -d 'Draws the run of a schedule, as an SVG picture'
 complete -c roundc -n "__roundc_at '' 0" -a threads -d 'Runs a program by a thread for each node, and explains the run'
 complete -c roundc -n "__roundc_at '' 0" -a judge -d 'Says whether a schedule keeps lockstep and the delay bound'
 complete -c roundc -n "__roundc_at '' 0" -a lockstep -d 'Writes the schedule of a run in lockstep'
@@ -45,11 +47,23 @@ complete -c roundc -n "__roundc_at 'check'" -s h -l help -d 'Print help'
 complete -c roundc -n "__roundc_at 'check'" -s V -l version -d 'Print version'
 complete -c roundc -n "__roundc_at 'check' 0" -F -a '@gather: @count_votes: @dls1:'
 
+complete -c roundc -n "__roundc_at 'show'" -s h -l help -d 'Print help'
+complete -c roundc -n "__roundc_at 'show'" -s V -l version -d 'Print version'
+complete -c roundc -n "__roundc_at 'show' 0" -F -a '@gather: @count_votes: @dls1:'
+
 complete -c roundc -n "__roundc_at 'run'" -l schedule -r -F -d 'The schedule\'s file, or - for standard input'
 complete -c roundc -n "__roundc_at 'run'" -l decided -d 'Adds a line that says what all decisions come to'
 complete -c roundc -n "__roundc_at 'run'" -s h -l help -d 'Print help'
 complete -c roundc -n "__roundc_at 'run'" -s V -l version -d 'Print version'
 complete -c roundc -n "__roundc_at 'run' 0" -F -a '@gather: @count_votes: @dls1:'
+
+complete -c roundc -n "__roundc_at 'draw'" -l schedule -r -F -d 'The schedule\'s file, or - for standard input'
+complete -c roundc -n "__roundc_at 'draw'" -l rounds -r -x -d 'The rounds that are drawn, as 3-5; all by default'
+complete -c roundc -n "__roundc_at 'draw'" -l nodes -r -x -d 'The nodes that are drawn, as 0,2,3; all by default'
+complete -c roundc -n "__roundc_at 'draw'" -l html -d 'Writes an HTML page that has the picture'
+complete -c roundc -n "__roundc_at 'draw'" -s h -l help -d 'Print help'
+complete -c roundc -n "__roundc_at 'draw'" -s V -l version -d 'Print version'
+complete -c roundc -n "__roundc_at 'draw' 0" -F -a '@gather: @count_votes: @dls1:'
 
 complete -c roundc -n "__roundc_at 'threads'" -l setup -r -F -d 'The thread setup\'s file, or - for standard input'
 complete -c roundc -n "__roundc_at 'threads'" -l trace -r -F -d 'The file that the run\'s schedule is written to'
@@ -105,4 +119,4 @@ complete -c roundc -n "__roundc_at 'explore'" -s h -l help -d 'Print help'
 complete -c roundc -n "__roundc_at 'explore'" -s V -l version -d 'Print version'
 complete -c roundc -n "__roundc_at 'explore' 0" -F -a '@gather: @count_votes: @dls1:'
 
-complete -c roundc -n "__roundc_at 'help' 0" -a 'check run threads judge lockstep realise rounds explore'
+complete -c roundc -n "__roundc_at 'help' 0" -a 'check show run draw threads judge lockstep realise rounds explore'
