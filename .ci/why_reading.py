@@ -333,10 +333,10 @@ def in_source(name, text, cause):
 
 def in_lines(options, files, cause):
     """Tells of the first text of lines that is too long, or has a line at fault."""
-    name = next(options[it] for it in reading.READERS if it in options)
+    name, is_list = next(options[it] for it in reading.READERS if it in options), False
     try:
         reading.opened({it: options[it] for it in options if it != "omissions"}, files)
-        name = options["omissions"]
+        name, is_list = options["omissions"], True
     except Refused:
         pass
     if cause == "schedule 3":
@@ -348,7 +348,6 @@ def in_lines(options, files, cause):
         words = line_of(text, number).split(" ")
         large = (at for at, it in enumerate(words) if it.isdigit() and int(it) > LARGEST)
         return word_in(name, text, number, next(large, 0))
-    is_list = "omissions" in options and name == options["omissions"]
     return f"{name}:{number}:{bad_column(line_of(text, number), is_list)}: "
 
 
