@@ -198,10 +198,13 @@ def pace_lines(copies, events, correct):
 
 def bound_lines(run, copies, correct, delta, gst):
     found = sorted(overdue(run, correct, delta, gst))
-    return [] if not found else [
-        f"    bound: node {to}'s receive in its step {received_step} at {copies.at(received)} lacks "
-        f"node {sender}'s message of round {number}, sent in step {step} at {copies.at(sent)}"
-        for received, sent, sender, to, number, step, received_step in found[:1]
+    if not found:
+        return []
+    received, sent, sender, to, number, step, received_step = found[0]
+    return [
+        f"    bound: node {to}'s receive in its step {received_step} at {copies.at(received)} "
+        f"lacks node {sender}'s message of round {number}, sent in step {step} at "
+        f"{copies.at(sent)}"
     ]
 
 
