@@ -60,8 +60,11 @@ impl Arrow {
     fn ending_by_fate(&self) -> Ending {
         match self.copy.fate {
             Fate::Flying => Ending::Flying,
-            Fate::Dropped(_) => Ending::Dropped,
-            Fate::Waiting { released: _ } => Ending::Waiting,
+            Fate::Dropped { dropped: _, row: _ } => Ending::Dropped,
+            Fate::Waiting {
+                released: _,
+                row: _,
+            } => Ending::Waiting,
             Fate::Received {
                 released: _,
                 received: _,

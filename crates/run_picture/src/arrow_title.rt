@@ -88,8 +88,11 @@ impl ArrowTitle<'_> {
         self.write_made(f)?;
         match self.arrow.copy.fate {
             Fate::Flying => write!(f, "never released"),
-            Fate::Dropped(dropped) => write!(f, "dropped at line {}", self.line(dropped)),
-            Fate::Waiting { released } => {
+            Fate::Dropped { dropped, row: _ } => {
+                let dropped = self.line(dropped);
+                write!(f, "dropped at line {dropped}")
+            }
+            Fate::Waiting { released, row: _ } => {
                 let released = self.line(released);
                 write!(f, "released at line {released}, and never received")
             }

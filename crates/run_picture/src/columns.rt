@@ -3,7 +3,8 @@ use round_meaning::NodeSet;
 
 /// The columns of a picture, which are given to steps in the order of the trace. Steps that follow
 /// each other share a column if they are of different nodes, and none of them takes a message that
-/// was sent or copied in it: so time never goes back, neither along a lane nor along an arrow.
+/// was sent or copied in it: so time never goes back, neither along a lane nor along an arrow. A
+/// column also begins if a gap between two columns has no room for the end of one more arrow.
 ///
 /// Places are counted in half columns: a column's is even, and between two columns it's odd.
 #[derive(Clone, Copy)]
@@ -22,13 +23,11 @@ impl Columns {
         }
     }
 
-    /// The place of the next step, which is of this node. `latest` is where the last of the messages
-    /// that it takes was made, if it takes any.
+    /// The place of the next step, which is of this node. `latest` is where the last of the
+    /// messages that it takes was made, if it takes any.
     pub(crate) fn step(&mut self, node: u32, latest: Option<u32>) -> u32 {
         if self.is_full || self.filled.contains(node) || self.is_reached(latest) {
-            self.column = self.column.saturating_add(1);
-            self.filled = NodeSet::empty();
-            self.is_full = false;
+            self.begin_column();
         }
         self.filled = self.filled.with(node);
         self.here()
@@ -40,6 +39,13 @@ impl Columns {
             self.is_full = true;
         }
         self.between()
+    }
+
+    /// Begins a column.
+    pub(crate) fn begin_column(&mut self) {
+        self.column = self.column.saturating_add(1);
+        self.filled = NodeSet::empty();
+        self.is_full = false;
     }
 
     /// The place of an event of the network.

@@ -16,8 +16,8 @@ struct Counts {
     silent: usize,
 }
 
-/// Writes what is drawn in words: what came of the messages, and the rounds and the decisions of each
-/// node.
+/// Writes what is drawn in words: what came of the messages, and the rounds and the decisions of
+/// each node.
 pub(crate) fn write_description<O: Write>(drawing: &Drawing, out: &mut O) -> io::Result<()> {
     writeln!(
         out,

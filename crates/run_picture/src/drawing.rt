@@ -13,8 +13,8 @@ use slot_plans::Plan;
 use std::alloc::Global;
 use step_book::Book;
 
-/// A node that is shown: its input, how many steps it took and how many rounds it closed, and whether
-/// it stops in a round that is shown and that it doesn't close.
+/// A node that is shown: its input, how many steps it took and how many rounds it closed, and
+/// whether it stops in a round that is shown and that it doesn't close.
 #[derive(Clone, Copy)]
 pub(crate) struct Lane {
     pub node: u32,

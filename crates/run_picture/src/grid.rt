@@ -4,15 +4,17 @@ use round_lang::NoMemory;
 use std::alloc::Global;
 
 /// Half the height of a round's band.
-pub(crate) const BAND: u32 = 18;
+pub(crate) const BAND: u32 = 21;
 
-/// The distance between two lanes.
-const LANE: u32 = 78;
+/// The distance between two lanes. From a lane up to the one above it there are half the band, a
+/// flag, the ends of arrows from above, those of arrows from below to the lane above, and half of
+/// its band.
+const LANE: u32 = 102;
 
 /// What lies before the first column, and above the middle of the first lane.
 const LEFT: u32 = 104;
 
-const TOP: u32 = 96;
+const TOP: u32 = 88;
 
 /// The least width of a picture: that of its heading and of a row of its legend.
 const LEAST_WIDTH: u32 = 720;
@@ -95,7 +97,7 @@ fn half_width(last: u32) -> u32 {
     match last {
         0..=50 => 13,
         51..=120 => 10,
-        _ => 7,
+        _ => 8,
     }
 }
 

@@ -1,5 +1,6 @@
 //! What happened in a run, event by event, as it's drawn.
 use crate::columns::Columns;
+use crate::crowd::End;
 use crate::lane::Track;
 use crate::messages::{Fate, MadeCopy, Messages, Sent};
 use crate::moment::Moment;
@@ -175,7 +176,7 @@ impl History {
         let Some(copy) = self.messages.copy(name) else {
             return;
         };
-        if let Fate::Waiting { released } = copy.fate {
+        if let Fate::Waiting { released, row: _ } = copy.fate {
             let fate = Fate::Received {
                 released,
                 received,
@@ -186,16 +187,22 @@ impl History {
     }
 
     fn add_release<P: Plan>(&mut self, book: &Book<P>, name: Name, place: usize) {
-        let released = self.network_moment(place);
         if self.has_effect(book) {
-            self.end_flight(name, Fate::Waiting { released });
+            let row = if self.is_left(book, name.to) {
+                self.row(name, End::Ring)
+            } else {
+                0
+            };
+            let released = self.network_moment(place);
+            self.end_flight(name, Fate::Waiting { released, row });
         }
     }
 
     fn add_drop<P: Plan>(&mut self, book: &Book<P>, name: Name, place: usize) {
-        let dropped = self.network_moment(place);
         if self.has_effect(book) {
-            self.end_flight(name, Fate::Dropped(dropped));
+            let row = self.row(name, End::Cross);
+            let dropped = self.network_moment(place);
+            self.end_flight(name, Fate::Dropped { dropped, row });
         }
     }
 
@@ -212,6 +219,40 @@ impl History {
         if let Some(copy) = self.messages.copy(name) {
             self.messages.note(name, MadeCopy { fate, ..copy });
         }
+    }
+
+    /// Whether a node takes no receive any more.
+    fn is_left<P: Plan>(&self, book: &Book<P>, node: u32) -> bool {
+        if node >= book.setup().nodes {
+            return false;
+        }
+        match self.tracks.get(node as usize) {
+            Some(track) => track.receives >= book.mail(node).receives(),
+            None => false,
+        }
+    }
+
+    /// Whether a copy is drawn.
+    fn is_drawn(&self, name: Name) -> bool {
+        self.view.shows_node(name.to) && self.messages.copy(name).is_some()
+    }
+
+    /// The row in which the arrow of a copy ends that no receive takes. If no row is left, a column
+    /// begins, so that no end covers another.
+    fn row(&mut self, name: Name, end: End) -> u32 {
+        if !self.is_drawn(name) {
+            return 0;
+        }
+        let is_above = name.from < name.to;
+        let Some(track) = self.tracks.get_mut(name.to as usize) else {
+            return 0;
+        };
+        if let Some(row) = track.crowd.row(self.columns.between(), is_above, end) {
+            return row;
+        }
+        self.columns.begin_column();
+        let row = track.crowd.row(self.columns.between(), is_above, end);
+        row.unwrap_or(0)
     }
 
     fn network_moment(&self, place: usize) -> Moment {

@@ -1,4 +1,5 @@
 //! What is drawn on the lane of a node.
+use crate::crowd::Crowd;
 use crate::moment::Moment;
 use crate::step::{Step, Work};
 use round_lang::NoMemory;
@@ -28,6 +29,7 @@ pub(crate) struct Track {
     pub last: Option<Moment>,
     pub steps: Vec<Step>,
     pub bands: Vec<Band>,
+    pub crowd: Crowd,
 }
 
 impl Track {
@@ -39,6 +41,7 @@ impl Track {
             last: None,
             steps: Vec::new(alloc),
             bands: Vec::new(alloc),
+            crowd: Crowd::new(),
         }
     }
 

@@ -21,12 +21,13 @@ enum Sign {
     Heard,
     NotInTime,
     Dropped,
-    Left,
+    Flying,
+    Waiting,
     Open,
     Made,
 }
 
-const SIGNS: [Sign; 13] = [
+const SIGNS: [Sign; 14] = [
     Sign::Send,
     Sign::Silence,
     Sign::Receive,
@@ -37,7 +38,8 @@ const SIGNS: [Sign; 13] = [
     Sign::Heard,
     Sign::NotInTime,
     Sign::Dropped,
-    Sign::Left,
+    Sign::Flying,
+    Sign::Waiting,
     Sign::Open,
     Sign::Made,
 ];
@@ -108,9 +110,13 @@ fn is_shown(sign: Sign, drawing: &Drawing) -> bool {
     match sign {
         Sign::Stop => drawing.lanes.iter().any(|lane| lane.stops),
         Sign::Decision => !drawing.flags.is_empty(),
-        Sign::Heard | Sign::NotInTime | Sign::Dropped | Sign::Left | Sign::Open | Sign::Made => {
-            drawing.arrows.iter().any(|arrow| is_arrow(sign, arrow))
-        }
+        Sign::Heard
+        | Sign::NotInTime
+        | Sign::Dropped
+        | Sign::Flying
+        | Sign::Waiting
+        | Sign::Open
+        | Sign::Made => { drawing.arrows.iter().any(|arrow| is_arrow(sign, arrow)) }
         Sign::Send | Sign::Silence | Sign::Receive | Sign::End | Sign::Idle => {
             has_step(sign, drawing)
         }
@@ -122,7 +128,8 @@ fn is_arrow(sign: Sign, arrow: &Arrow) -> bool {
         Sign::Heard => arrow.standing == Standing::Heard,
         Sign::NotInTime => matches!(arrow.ending(), Ending::Late | Ending::Early),
         Sign::Dropped => arrow.ending() == Ending::Dropped,
-        Sign::Left => matches!(arrow.ending(), Ending::Flying | Ending::Waiting),
+        Sign::Flying => arrow.ending() == Ending::Flying,
+        Sign::Waiting => arrow.ending() == Ending::Waiting,
         Sign::Open => arrow.standing == Standing::Open,
         Sign::Made => arrow.name.copy > 0,
         _ => false,
@@ -167,7 +174,7 @@ fn drawn(sign: Sign) -> &'static str {
             "<path class=\"lane\" d=\"M0 0h28\"/><path class=\"send\" d=\"M11 0h6l-3 -8z\"/>",
         Sign::Silence => {
             "<path class=\"lane\" d=\"M0 0h28\"/>\
-             <circle class=\"silence\" cx=\"14\" cy=\"-7\" r=\"3\"/>"
+             <circle class=\"silence\" cx=\"14\" cy=\"-6\" r=\"3\"/>"
         }
         Sign::Receive => {
             "<path class=\"lane\" d=\"M0 0h28\"/><path class=\"receive\" d=\"M11 0h6l-3 8z\"/>"
@@ -184,13 +191,17 @@ fn drawn(sign: Sign) -> &'static str {
              <g class=\"stop\"><path d=\"M14 -9v18\"/></g>"
         }
         Sign::Decision => {
-            "<g class=\"flag\"><path d=\"M26 8v-16h-22l5 6l-5 6h22\"/>\
-             <text x=\"13\" y=\"3\">1</text></g>"
+            "<g class=\"flag\"><path d=\"M4 9v-17h21l-4 8l4 8h-21\"/>\
+             <text x=\"13\" y=\"4\">1</text></g>"
         }
         Sign::Heard => "<g class=\"heard\"><path class=\"taken\" d=\"M0 0h28\"/></g>",
         Sign::NotInTime => "<g class=\"missed\"><path class=\"late\" d=\"M0 0h28\"/></g>",
         Sign::Dropped => "<g class=\"missed\"><path class=\"dropped\" d=\"M0 0h22\"/></g>",
-        Sign::Left => "<g class=\"missed\"><path class=\"flying\" d=\"M0 0h24\"/></g>",
+        Sign::Flying => {
+            "<g class=\"missed\"><path class=\"flying\" d=\"M0 0h14\"/>\
+             <circle class=\"ring\" cx=\"21\" r=\"7\"/><text class=\"to\" x=\"21\" y=\"4\">1</text></g>"
+        }
+        Sign::Waiting => "<g class=\"missed\"><path class=\"waiting\" d=\"M0 0h24\"/></g>",
         Sign::Open => "<g class=\"open\"><path class=\"taken\" d=\"M0 0h28\"/></g>",
         Sign::Made => {
             "<g class=\"heard\"><path class=\"taken\" d=\"M0 4Q14 -6 28 4\"/>\
@@ -211,7 +222,8 @@ fn meaning(sign: Sign) -> &'static str {
         Sign::Heard => "heard in its round",
         Sign::NotInTime => "received too late or too early",
         Sign::Dropped => "dropped",
-        Sign::Left => "never released or received",
+        Sign::Flying => "to node 1, never released",
+        Sign::Waiting => "released, never received",
         Sign::Open => "its round isn't closed",
         Sign::Made => "a copy that the network made",
     }

@@ -9,6 +9,7 @@
 mod arrow;
 mod arrow_title;
 mod columns;
+mod crowd;
 mod described;
 mod drawing;
 mod escaped;

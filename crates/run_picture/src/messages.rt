@@ -9,10 +9,16 @@ use step_machine::Name;
 pub(crate) enum Fate {
     /// It's still in flight.
     Flying,
-    Dropped(Moment),
-    /// It was released, and no receive took it.
+    /// The network lost it. Its arrow ends in this row before the receiver's lane.
+    Dropped {
+        dropped: Moment,
+        row: u32,
+    },
+    /// It was released, and no receive took it. Its arrow ends in this row before the receiver's
+    /// lane.
     Waiting {
         released: Moment,
+        row: u32,
     },
     /// It was released, and taken by a receive of this round.
     Received {
@@ -55,8 +61,8 @@ impl Sent {
     }
 }
 
-/// The messages of each sender, by round and then by receiver. A node sends to all nodes in turn, so
-/// those of one sender have no gap.
+/// The messages of each sender, by round and then by receiver. A node sends to all nodes in turn,
+/// so those of one sender have no gap.
 #[derive(Drop)]
 pub(crate) struct Messages {
     nodes: usize,

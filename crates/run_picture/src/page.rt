@@ -26,8 +26,8 @@ const MAX_EVENTS: usize = 400;
 /// lines events are told. The title may be any text. Equal runs give equal pictures.
 ///
 /// The arrows of class `heard` whose `data-message` is `J I R C`, a sender, a receiver, a round and
-/// the number of a copy, are those of the nodes J that the report's row of round R and node I has as
-/// heard.
+/// the number of a copy, are those of the nodes J that the report's row of round R and node I has
+/// as heard.
 pub fn write_picture<P: Plan, O: Write>(
     alloc: Global,
     report: &Report,

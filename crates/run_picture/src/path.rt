@@ -61,15 +61,23 @@ impl fmt::Display for ArrowPath {
 /// The line of a message to oneself.
 fn hanging(grid: &Grid, arrow: &Arrow, start: Point) -> ArrowPath {
     let deeper = arrow.name.copy.saturating_mul(8);
-    let (x, depth) = match arrow.copy.fate {
-        Fate::Received { received, .. } => (grid.x(received.at), 9),
-        Fate::Dropped(dropped) => (grid.x(dropped.at), 20),
-        Fate::Waiting { released } => (grid.x(released.at), 16),
-        Fate::Flying => (start.x.saturating_add(18), 16),
-    };
-    let end = Point {
-        x,
-        y: start.y.saturating_add(depth),
+    let end = match arrow.copy.fate {
+        Fate::Received { received, .. } => Point {
+            x: grid.x(received.at),
+            y: start.y.saturating_add(11),
+        },
+        Fate::Dropped { dropped, row } => Point {
+            x: grid.x(dropped.at),
+            y: row_before(start.y, start.y, row),
+        },
+        Fate::Waiting { released, row } => Point {
+            x: grid.x(released.at),
+            y: row_before(start.y, start.y, row),
+        },
+        Fate::Flying => Point {
+            x: start.x.saturating_add(grid.half()),
+            y: start.y.saturating_add(18).saturating_add(deeper),
+        },
     };
     let pull = Point {
         x: middle(start, end).x,
@@ -83,41 +91,61 @@ fn hanging(grid: &Grid, arrow: &Arrow, start: Point) -> ArrowPath {
 }
 
 /// Where the arrow of a message to another node ends, whose lane this is. What isn't received ends
-/// before the lane, and the ends of the copies from different senders lie apart.
+/// before the lane.
 fn end_of(grid: &Grid, arrow: &Arrow, start: Point, lane: u32) -> Point {
-    let apart = (arrow.name.from % 4).saturating_mul(3);
     match arrow.copy.fate {
         Fate::Received { received, .. } => Point {
             x: grid.x(received.at),
-            y: short_of(start.y, lane, 7),
+            y: beside_mark(start.y, lane),
         },
-        Fate::Dropped(dropped) => Point {
+        Fate::Dropped { dropped, row } => Point {
             x: grid.x(dropped.at),
-            y: short_of(start.y, lane, apart.saturating_add(22)),
+            y: row_before(start.y, lane, row),
         },
-        Fate::Waiting { released } => Point {
+        Fate::Waiting { released, row } => Point {
             x: grid.x(released.at),
-            y: short_of(start.y, lane, apart.saturating_add(14)),
+            y: row_before(start.y, lane, row),
         },
         Fate::Flying => stub(grid, start, lane, arrow.name.copy),
     }
 }
 
-/// Where the arrow of a copy ends that is still in flight: not far from its sender.
-fn stub(grid: &Grid, start: Point, lane: u32, copy: u32) -> Point {
-    let columns = copy.saturating_add(3);
-    Point {
-        x: columns.saturating_mul(grid.half()).saturating_add(start.x),
-        y: short_of(lane, start.y, 30),
+/// The height at which the arrow of a message ends that is received: the mark of a receive stands
+/// below the lane.
+fn beside_mark(from: u32, lane: u32) -> u32 {
+    if from < lane {
+        lane.saturating_sub(5)
+    } else {
+        lane.saturating_add(11)
     }
 }
 
-/// So much before a height, on the side of the one from which it's reached.
-fn short_of(from: u32, to: u32, gap: u32) -> u32 {
-    if from < to {
-        to.saturating_sub(gap)
+/// The height of the ends in a row before a lane, on the side of the height from which it's
+/// reached. Above a lane they stand above the flags.
+fn row_before(from: u32, lane: u32, row: u32) -> u32 {
+    let apart = row.saturating_mul(10);
+    if from < lane {
+        lane.saturating_sub(45).saturating_sub(apart)
     } else {
-        to.saturating_add(gap)
+        lane.saturating_add(27).saturating_add(apart)
+    }
+}
+
+/// Where the arrow of a copy ends that is still in flight: not far from its sender, and at another
+/// height than the ends of other copies of its message. Above the lane they stand above the flags.
+fn stub(grid: &Grid, start: Point, lane: u32, copy: u32) -> Point {
+    let apart = copy.saturating_mul(15);
+    let y = if lane < start.y {
+        start.y.saturating_sub(50).saturating_sub(apart)
+    } else {
+        start.y.saturating_add(32).saturating_add(apart)
+    };
+    Point {
+        x: start
+            .x
+            .saturating_add(grid.half())
+            .saturating_add(grid.half()),
+        y,
     }
 }
 

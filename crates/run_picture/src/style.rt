@@ -6,7 +6,7 @@ pub(crate) const STYLE: &str = "\
 text{font-family:sans-serif;font-size:12px;fill:#1b1b1b}
 .heading{font-size:16px;font-weight:bold}
 .note{fill:#5a5a5a;font-size:11px}
-.number{fill:#5a5a5a;font-size:10px}
+.number{fill:#5a5a5a;font-size:11px}
 .page{fill:#fff}
 .odd{fill:#dce6f2}
 .even{fill:#eef2f7}
@@ -22,21 +22,23 @@ text{font-family:sans-serif;font-size:12px;fill:#1b1b1b}
 .heard path{stroke:#0062ad}
 .missed path,.spare path{stroke:#6f6f6f;stroke-dasharray:5 3}
 .open path{stroke:#7d4fa0;stroke-dasharray:1.5 2.5}
-.heard .made,.missed .made,.spare .made,.open .made{font-size:10px;font-weight:bold}
+.heard .made,.missed .made,.spare .made,.open .made{font-size:11px;font-weight:bold}
+.to{font-size:10px;text-anchor:middle}
 .heard .taken{marker-end:url(#heard)}
 .open .taken{marker-end:url(#open)}
 .late,.early{marker-end:url(#late)}
 .dropped{marker-end:url(#dropped)}
-.flying,.waiting{marker-end:url(#left)}
+.waiting{marker-end:url(#left)}
+.many .heard .line{stroke-width:0.8;stroke-opacity:0.6;marker-end:url(#small)}
 .heard-head{fill:#0062ad}
 .late-head{fill:#6f6f6f}
 .open-head{fill:#7d4fa0}
 .cross{fill:none;stroke:#c2410c;stroke-width:2.2}
 .ring{fill:#fff;stroke:#6f6f6f;stroke-width:1.3}
 .flag path{fill:#00705a;stroke:#00705a}
-.flag text{fill:#fff;font-weight:bold}
+.flag text{fill:#fff;font-weight:bold;text-anchor:middle}
 g .hit{fill:none;stroke-opacity:0;stroke-width:9;stroke-dasharray:none;marker-end:none}
-g:hover>.line{stroke-width:3}
+g:hover>.line,.many g:hover>.line{stroke-width:3;stroke-opacity:1}
 @media (prefers-color-scheme:dark){
 text{fill:#ececec}
 .note,.number{fill:#b0b0b0}
@@ -66,6 +68,8 @@ text{fill:#ececec}
 pub(crate) const MARKERS: &str = "\
 <marker id=\"heard\" markerUnits=\"userSpaceOnUse\" markerWidth=\"9\" markerHeight=\"8\" \
 refX=\"8\" refY=\"4\" orient=\"auto\"><path class=\"heard-head\" d=\"M0 0.5L9 4L0 7.5z\"/></marker>
+<marker id=\"small\" markerUnits=\"userSpaceOnUse\" markerWidth=\"6\" markerHeight=\"5\" \
+refX=\"5\" refY=\"2.5\" orient=\"auto\"><path class=\"heard-head\" d=\"M0 0.5L6 2.5L0 4.5z\"/></marker>
 <marker id=\"late\" markerUnits=\"userSpaceOnUse\" markerWidth=\"9\" markerHeight=\"8\" \
 refX=\"8\" refY=\"4\" orient=\"auto\"><path class=\"late-head\" d=\"M0 0.5L9 4L0 7.5z\"/></marker>
 <marker id=\"open\" markerUnits=\"userSpaceOnUse\" markerWidth=\"9\" markerHeight=\"8\" \

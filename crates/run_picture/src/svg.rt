@@ -9,6 +9,9 @@ use crate::svg_lanes::{Words, write_lanes, write_steps};
 use std::io;
 use std::io::Write;
 
+/// The most characters of a title for which a picture is made wider.
+const MAX_HEADING: usize = 400;
+
 /// Writes the element. What stands later lies above what stands before it: rounds, arrows, steps.
 pub(crate) fn write_svg<O: Write>(
     drawing: &Drawing,
@@ -16,7 +19,7 @@ pub(crate) fn write_svg<O: Write>(
     title: &str,
     out: &mut O,
 ) -> io::Result<()> {
-    let width = drawing.grid.width();
+    let width = drawing.grid.width().max(heading_width(title));
     let legend = legend_height(drawing);
     let height = drawing.grid.bottom().saturating_add(legend);
     write!(
@@ -44,6 +47,12 @@ pub(crate) fn write_svg<O: Write>(
     write_flags(drawing, out)?;
     write_legend(drawing, out)?;
     writeln!(out, "</svg>")
+}
+
+/// The width of a title as a heading, if its characters are as wide as most.
+fn heading_width(title: &str) -> u32 {
+    let count = title.chars().count().min(MAX_HEADING);
+    10 * count as u32 + 32
 }
 
 /// Writes the title, the description, the style sheet and the ends of arrows.

@@ -36,15 +36,39 @@ impl fmt::Display for Ending {
     }
 }
 
+/// How many lanes there are at most if arrows are drawn at full strength.
+const FEW_LANES: usize = 6;
+
+/// Writes the arrows: those of heard messages first, so that the others lie above them.
 pub(crate) fn write_arrows<O: Write>(
     drawing: &Drawing,
     lines: &TextLines,
     out: &mut O,
 ) -> io::Result<()> {
+    let class = if drawing.lanes.len() > FEW_LANES {
+        "many"
+    } else {
+        "few"
+    };
+    writeln!(out, "<g class=\"{class}\">")?;
+    write_standing(drawing, lines, true, out)?;
+    write_standing(drawing, lines, false, out)?;
+    writeln!(out, "</g>")
+}
+
+/// Writes the arrows of the copies that are heard, or all others.
+fn write_standing<O: Write>(
+    drawing: &Drawing,
+    lines: &TextLines,
+    are_heard: bool,
+    out: &mut O,
+) -> io::Result<()> {
     for arrow in &drawing.arrows {
-        if let Some(path) = ArrowPath::new(&drawing.grid, arrow) {
-            let title = ArrowTitle { arrow, lines };
-            write_arrow(&title, &path, out)?;
+        if (arrow.standing == Standing::Heard) == are_heard {
+            if let Some(path) = ArrowPath::new(&drawing.grid, arrow) {
+                let title = ArrowTitle { arrow, lines };
+                write_arrow(&title, &path, out)?;
+            }
         }
     }
     Ok(())
@@ -67,6 +91,9 @@ fn write_arrow<O: Write>(title: &ArrowTitle<'_>, path: &ArrowPath, out: &mut O) 
     writeln!(out, "<title>{title}</title>")?;
     writeln!(out, "<path class=\"line {ending}\" d=\"{path}\"/>")?;
     write!(out, "<path class=\"hit\" d=\"{path}\"/>")?;
+    if ending == Ending::Flying {
+        write_ring(*to, path.end, out)?;
+    }
     if *copy > 0 {
         let Point { x, y } = path.label();
         write!(
@@ -77,28 +104,42 @@ fn write_arrow<O: Write>(title: &ArrowTitle<'_>, path: &ArrowPath, out: &mut O) 
     writeln!(out, "</g>")
 }
 
+/// Writes the open end of a copy that is still in flight, with the node to which it was sent.
+fn write_ring<O: Write>(to: u32, end: Point, out: &mut O) -> io::Result<()> {
+    let Point { x, y } = end;
+    let low = y.saturating_add(4);
+    write!(
+        out,
+        "<circle class=\"ring\" cx=\"{x}\" cy=\"{y}\" r=\"7\"/>\
+         <text class=\"to\" x=\"{x}\" y=\"{low}\">{to}</text>"
+    )
+}
+
 pub(crate) fn write_flags<O: Write>(drawing: &Drawing, out: &mut O) -> io::Result<()> {
+    let grid = &drawing.grid;
     for flag in &drawing.flags {
-        if let Some(y) = drawing.grid.y(flag.node) {
-            let x = drawing.grid.x(flag.at);
+        if let Some(y) = grid.y(flag.node) {
+            let x = grid.x(flag.at).saturating_add(grid.half());
             write_flag(flag, Point { x, y }, out)?;
         }
     }
     Ok(())
 }
 
-fn write_flag<O: Write>(flag: &Flag, foot: Point, out: &mut O) -> io::Result<()> {
+/// Writes a flag, which stands on the bar at the end of a round of the lane with this height.
+fn write_flag<O: Write>(flag: &Flag, end: Point, out: &mut O) -> io::Result<()> {
     let Flag { node, round, .. } = flag;
-    let Point { x, y } = foot;
-    let top = y.saturating_sub(BAND).saturating_sub(20);
+    let x = end.x.saturating_sub(1);
+    let foot = end.y.saturating_sub(BAND);
+    let top = foot.saturating_sub(17);
     writeln!(
         out,
         "<g class=\"flag\" data-decision=\"{node} {round}\"><title>{flag}</title>"
     )?;
-    write!(out, "<path d=\"M{x} {y}V{top}h-22l5 8l-5 8h22\"/>")?;
+    write!(out, "<path d=\"M{x} {foot}V{top}h21l-4 8l4 8h-21\"/>")?;
     write_value(
         flag.value,
-        x.saturating_sub(16),
+        end.x.saturating_add(8),
         top.saturating_add(12),
         out,
     )?;

@@ -13,6 +13,12 @@ use std::io::Write;
 use std::{fmt, io};
 use step_machine::Name;
 
+/// How far to the right a band begins that is labelled with its node too, and the width that it
+/// has to have.
+const FAR: u32 = 900;
+
+const BROAD: u32 = 100;
+
 /// What is said of events and rounds: the lines of the schedule, and the report.
 #[derive(Clone, Copy)]
 pub(crate) struct Words<'a> {
@@ -43,7 +49,7 @@ pub(crate) fn write_lanes<O: Write>(
     Ok(())
 }
 
-/// Writes the steps of all lanes, and where nodes stop.
+/// Writes the steps of all lanes, the numbers of rounds, and where nodes stop.
 pub(crate) fn write_steps<O: Write>(
     drawing: &Drawing,
     words: &Words<'_>,
@@ -51,6 +57,9 @@ pub(crate) fn write_steps<O: Write>(
 ) -> io::Result<()> {
     for lane in &drawing.lanes {
         if let Some(track) = drawing.track(lane.node) {
+            for band in &track.bands {
+                write_number(&drawing.grid, lane, band, out)?;
+            }
             for step in &track.steps {
                 write_step(drawing, words, lane, step, out)?;
             }
@@ -84,11 +93,21 @@ fn write_band<O: Write>(
         out,
         "<rect class=\"{class}\" x=\"{x}\" y=\"{top}\" width=\"{width}\" height=\"{height}\"/>"
     )?;
-    let (x, y) = (x.saturating_add(2), top.saturating_sub(4));
-    writeln!(
-        out,
-        "<text class=\"number\" x=\"{x}\" y=\"{y}\">{round}</text></g>"
-    )
+    write!(out, "</g>")
+}
+
+/// Writes the number of a round into its band, and that of the node where its name may be out of
+/// sight.
+fn write_number<O: Write>(grid: &Grid, lane: &Lane, band: &Band, out: &mut O) -> io::Result<()> {
+    let (node, round) = (lane.node, band.round);
+    let start = grid.x(band.first.at).saturating_sub(grid.half());
+    let end = grid.x(band.last.at).saturating_add(grid.half());
+    let (x, y) = (start.saturating_add(2), lane.y.saturating_sub(BAND - 9));
+    write!(out, "<text class=\"number\" x=\"{x}\" y=\"{y}\">{round}")?;
+    if start > FAR && end.saturating_sub(start) > BROAD {
+        write!(out, ", node {node}")?;
+    }
+    writeln!(out, "</text>")
 }
 
 fn band_class(words: &Words<'_>, lane: &Lane, band: &Band) -> &'static str {
@@ -203,7 +222,7 @@ fn write_step<O: Write>(
             "<path class=\"send\" d=\"M{left} {y}h6l-3 -8z\">\n{title}</path>"
         ),
         Work::Silence(_) => {
-            let up = y.saturating_sub(7);
+            let up = y.saturating_sub(6);
             writeln!(
                 out,
                 "<circle class=\"silence\" cx=\"{x}\" cy=\"{up}\" r=\"3\">\n{title}</circle>"

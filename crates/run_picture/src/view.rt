@@ -13,8 +13,8 @@ pub struct RoundRange {
 /// or all nodes.
 ///
 /// With a range it shows the steps, the messages and the bands of these rounds, and a message
-/// belongs to its round, whenever it comes. With a set it shows these nodes and the messages between
-/// them.
+/// belongs to its round, whenever it comes. With a set it shows these nodes and the messages
+/// between them.
 #[derive(Clone, Copy)]
 pub struct View {
     pub rounds: Option<RoundRange>,
