@@ -101,8 +101,10 @@ def program_complaint(program, text):
     found = run(program, ["brief"], text)
     if not fault:
         return None if found == "a program\n" else f"wanted a program, found {found}"
-    first, after, words = fault
+    first, after, words, declared = fault
     wanted = f'{place_of(text, first)} "{text[first:after].decode()}" '
+    if declared:
+        words += f"see {place_of(text, declared.first)}\n"
     fits = found.startswith(wanted) and words in found
     return None if fits else f"wanted {wanted}.. {words}\nfound {found}"
 

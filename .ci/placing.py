@@ -98,7 +98,7 @@ class Placed(language.Parser):
         else:
             self.variables.append((name, made))
             if made.value:
-                self.sites.append((made.value, "initial", [], made.type))
+                self.sites.append((made.value, "initial", [], made.type, None))
         return made
 
     def field(self, others):
@@ -117,13 +117,14 @@ class Placed(language.Parser):
         self.listed(self.field)
         self.fields.append(own)
         self.expect("send", "when")
-        self.sites.append((self.expression(0), "send", own, "bool"))
+        self.sites.append((self.expression(0), "send", own, "bool", None))
         self.expect(":")
         first = self.here().first
         sent = self.listed(lambda _: self.expression(0))
         self.counts.append((first, self.tokens[self.at - 1].after, len(sent), len(own)))
         for place, tree in enumerate(sent):
-            self.sites.append((tree, "send", own, own[place][1] if place < len(own) else None))
+            name, wanted = own[place] if place < len(own) else (None, None)
+            self.sites.append((tree, "send", own, wanted, name))
         self.expect("on", "message", ":")
         self.assigned("message", own)
         self.expect("end", ":")
@@ -135,8 +136,9 @@ class Placed(language.Parser):
             self.name()
             self.expect(":=")
             self.targets.append(target)
-            types = {name.text: it.type for name, it in reversed(self.variables)}
-            self.sites.append((self.expression(0), part, own, types.get(target.text)))
+            declared = {name.text: (it.type, name) for name, it in reversed(self.variables)}
+            wanted = declared.get(target.text, (None, None))
+            self.sites.append((self.expression(0), part, own, *wanted))
             self.expect(";")
 
     def spanned(self, read, *arguments):
@@ -166,6 +168,11 @@ def span(tree):
     return getattr(tree, "span", None) or (span(tree.parts[0])[0], span(tree.parts[-1])[1])
 
 
+def bare(tree):
+    """Returns an expression without the brackets round it."""
+    return bare(tree.parts[0]) if tree.form == "brackets" else tree
+
+
 # What is said of an operand of a wrong type, by the form, the type that it wants and the other.
 ADVICE = {
     ("+", "num", "set"): 'sets are joined by "union"',
@@ -187,8 +194,8 @@ class Faults:
         self.inputs = [name for name, it in placed.variables if it.kind == "input"]
         self.all_fields = {name.text for own in placed.fields for name, _ in own}
 
-    def note(self, first, after, words=""):
-        self.found.append((first, after, words))
+    def note(self, first, after, words="", declared=None):
+        self.found.append((first, after, words, declared))
 
     def first(self):
         """Returns the first place of the first cause, or None."""
@@ -214,7 +221,7 @@ class Faults:
             for name, _ in own:
                 if name.text in self.types:
                     self.note(name.first, name.after, "name of a variable")
-        for tree, _, own, _ in self.placed.sites:
+        for tree, _, own, *_ in self.placed.sites:
             self.rebound(tree, {*self.types, *(name.text for name, _ in own)})
 
     def rebound(self, tree, taken):
@@ -259,7 +266,7 @@ class Faults:
         for it in [*self.placed.targets, *self.placed.decides]:
             if it.text not in known:
                 self.note(it.first, it.after, self.asked(it.text, variables))
-        for site, place, own, _ in self.placed.sites:
+        for site, place, own, *_ in self.placed.sites:
             for tree, bound in self.names(site):
                 if tree.form == "name" and tree.name not in {*bound, *known}:
                     first = span(tree)[0]
@@ -283,7 +290,7 @@ class Faults:
         for it in [*self.placed.targets, *self.placed.decides]:
             if it.text in self.all_fields:
                 self.note(it.first, it.after, "set and decided")
-        for site, place, own, _ in self.placed.sites:
+        for site, place, own, *_ in self.placed.sites:
             for tree, bound in self.names(site):
                 if self.is_misplaced(tree, bound, place, {name.text for name, _ in own}):
                     self.note(*span(tree))
@@ -306,25 +313,29 @@ class Faults:
                 self.note(first, after, counts + (" is sent\n" if sent == 1 else "s are sent\n"))
 
     def wrong_types(self):
+        variables = {name.text: (it.type, name) for name, it in reversed(self.placed.variables)}
         for name in self.placed.decides:
-            if self.types[name.text] != "set":
-                self.note(name.first, name.after, f"a set, and this is a {self.types[name.text]}")
-        for tree, place, own, wanted in self.placed.sites:
-            names = {name.text: of for name, of in own} if place == "message" else {}
-            self.want(tree, self.type_of(tree, {**self.types, **names}), wanted)
+            found, declared = variables[name.text]
+            if found != "set":
+                self.note(name.first, name.after, f"a set, and this is a {found}\n", declared)
+        for tree, place, own, wanted, wanting in self.placed.sites:
+            fields = {name.text: (of, name) for name, of in own} if place == "message" else {}
+            names = {**variables, **fields}
+            self.want(tree, self.type_of(tree, names), wanted, names, wanting=wanting)
 
-    def want(self, tree, found, wanted, form=""):
+    def want(self, tree, found, wanted, names, form="", wanting=None):
         if found and wanted and found != wanted:
             advice = ADVICE.get((form, wanted, found))
             told = f"; {advice}\n" if advice else "\n"
-            self.note(*span(tree), f"a {wanted}, and this is a {found}{told}")
+            declared = names[bare(tree).name][1] if bare(tree).form == "name" else wanting
+            self.note(*span(tree), f"a {wanted}, and this is a {found}{told}", declared)
         return found == wanted
 
     def type_of(self, tree, names):
         if tree.form == "name":
-            return names[tree.name]
+            return names[tree.name][0]
         if tree.form in ("set of", "row of"):
-            names = {**names, tree.name: "num"}
+            names = {**names, tree.name: ("num", tree.binder)}
         parts = [self.type_of(it, names) for it in tree.parts]
         if tree.form == "brackets":
             return parts[0]
@@ -334,7 +345,7 @@ class Faults:
             wanted, result = ["bool", parts[1], parts[1]], parts[1]
         else:
             wanted, result = language.SIGNATURES[tree.form]
-        fits = [self.want(*it, tree.form) for it in zip(tree.parts, parts, wanted)]
+        fits = [self.want(*it, names, tree.form) for it in zip(tree.parts, parts, wanted)]
         return result if all(fits) and None not in parts else None
 
 

@@ -105,8 +105,11 @@ def reasons(copies, message):
     if slot is None:
         return [f"node {message[0]} never took the step that sends it"]
     told = [f"sent at {copies.at(slot)}, {fate(copies, message, 0)}"]
-    made = [it for it in (1, 2, 3) if copies.made_at(message, it) is not None]
-    return told + [f"copy {it} {fate(copies, message, it)}" for it in made]
+    for copy in (1, 2, 3):
+        made = copies.made_at(message, copy)
+        if made is not None:
+            told.append(f"copy {copy}, made at {copies.at(made)}, {fate(copies, message, copy)}")
+    return told
 
 
 def reason_lines(copies, row):

@@ -35,8 +35,8 @@ struct NamedFile<'a> {
     name: &'a str,
 }
 
-/// A file and its first bytes, one more than its limit at most; `None` if it can't be read, and then
-/// what the system said of that, if it's known.
+/// A file and its first bytes, one more than its limit at most; `None` if it can't be read, and
+/// then what the system said of that, if it's known.
 #[derive(Drop)]
 pub(crate) struct ReadFile<'a> {
     pub kind: FileKind,

@@ -19,8 +19,8 @@ pub(crate) struct BadLine<'a> {
 pub(crate) type PartFault = (Span, Sentence<'static>);
 
 impl BadLine<'_> {
-    /// What is wrong with the line, and where: the first of the common mistakes, or else which forms
-    /// may stand there.
+    /// What is wrong with the line, and where: the first of the common mistakes, or else which
+    /// forms may stand there.
     pub(crate) fn fault(&self) -> PartFault {
         if let Some(found) = self.hidden_fault() {
             return found;
@@ -34,8 +34,8 @@ impl BadLine<'_> {
         (self.span, Sentence::Expected(self.forms()))
     }
 
-    /// A fault that is hard to see: a byte order mark, a blank or a tab too many, or a comment behind
-    /// other words.
+    /// A fault that is hard to see: a byte order mark, a blank or a tab too many, or a comment
+    /// behind other words.
     fn hidden_fault(&self) -> Option<PartFault> {
         if self.bytes.starts_with(&[0xef, 0xbb, 0xbf]) {
             return Some((part_of(self.span, 0, 3), Sentence::ByteOrderMark));

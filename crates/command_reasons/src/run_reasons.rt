@@ -112,9 +112,10 @@ impl OpenedRun<'_> {
         let told = ToldReport {
             report: &report,
             book: journal.book(),
-            lines: &TextLines::new(alloc, self.schedule)?,
+            schedule: self.schedule,
+            decided,
         };
-        told.tell(alloc, decided, out)?;
+        told.tell(alloc, out)?;
         // The command ends with this: the system takes the run's memory back as a whole.
         mem::forget(journal);
         mem::forget(report);

@@ -90,8 +90,8 @@ pub(crate) enum Sentence<'a> {
     NoCondition,
     /// A number, a name or a list passes this limit.
     Limit(&'a str),
-    /// The declared name that a name may stand for.
-    NearestName,
+    /// Where a name that has to do with the fault is declared.
+    DeclaredHere,
     /// Where a name has its first meaning.
     FirstMeaning,
     /// Where the first declaration of its kind stands, `input` or `decide`.
@@ -194,11 +194,11 @@ impl fmt::Display for Sentence<'_> {
             Sentence::NoVariable => write!(f, "this name isn't a variable of the program"),
             Sentence::NoCondition => write!(
                 f,
-                "this isn't a condition on a node's state: its types don't fit, it's no bool, or it \
-                 says what only a message has"
+                "this isn't a condition on a node's state: its types don't fit, it's no bool, or \
+                 it says what only a message has"
             ),
             Sentence::Limit(limit) => write!(f, "{limit}"),
-            Sentence::NearestName => write!(f, "this name is declared here"),
+            Sentence::DeclaredHere => write!(f, "this name is declared here"),
             Sentence::FirstMeaning => write!(f, "the name has its first meaning here"),
             Sentence::FirstOfKind(kind) => write!(f, "the first \"{kind}\" stands here"),
             Sentence::FieldsHere => write!(f, "the message's fields stand here"),

@@ -5,7 +5,7 @@ use crate::nesting::{Reading, too_deep_at};
 use crate::refusals::unless_refused;
 use crate::sentence::Sentence;
 use command_runs::Refusal;
-use fault_places::{Double, FaultPlace, expected_at, fault_place};
+use fault_places::{Double, Related, expected_at, fault_place};
 use round_check::CheckFault;
 use round_lang::{LangFault, Span, parse};
 use std::alloc::Global;
@@ -91,50 +91,26 @@ pub(crate) fn tell_check<O: Write>(
     let Some(found) = fault_place(alloc, text, &program, fault)? else {
         return Ok(false);
     };
-    let excerpt = file.located(text, span_of(&found)).excerpt(alloc)?;
-    match other_of(&found) {
+    let excerpt = file.located(text, found.span()).excerpt(alloc)?;
+    match found.related() {
         None => excerpt.tell(&found, out)?,
-        Some((span, sentence)) => {
-            let other = file.located(text, span).excerpt(alloc)?;
+        Some(related) => {
+            let other = file.located(text, related.span()).excerpt(alloc)?;
             excerpt.tell(&found, out)?;
-            other.tell(&sentence, out)?;
+            other.tell(&sentence_of(&related), out)?;
         }
     }
     Ok(true)
 }
 
-/// Where the fault is.
-fn span_of(found: &FaultPlace<'_>) -> Span {
-    match found {
-        FaultPlace::UnknownName { name, .. } => name.span,
-        FaultPlace::DoubleName { name, .. } => name.span,
-        FaultPlace::WrongType { part, .. } => *part,
-        FaultPlace::FieldCount { sent, .. } => *sent,
-        FaultPlace::NotAllowedHere { word, .. } => *word,
-        FaultPlace::NoInput { end } => *end,
-        FaultPlace::NoDecision { end } => *end,
-        FaultPlace::MissingRound { number, .. } => *number,
-    }
-}
-
-/// Another place that the fault has to do with.
-fn other_of(found: &FaultPlace<'_>) -> Option<(Span, Sentence<'static>)> {
-    match found {
-        FaultPlace::UnknownName { nearest, .. } => {
-            let nearest = (*nearest)?;
-            Some((nearest.span, Sentence::NearestName))
-        }
-        FaultPlace::DoubleName { other, double, .. } => Some((other.span, first_of(*double))),
-        FaultPlace::FieldCount { message, .. } => Some((*message, Sentence::FieldsHere)),
-        _ => None,
-    }
-}
-
-/// What is said of where what is there twice stands first.
-fn first_of(double: Double) -> Sentence<'static> {
-    match double {
-        Double::Input => Sentence::FirstOfKind("input"),
-        Double::Decide => Sentence::FirstOfKind("decide"),
-        _ => Sentence::FirstMeaning,
+/// What is said of another place that a fault has to do with.
+fn sentence_of(related: &Related<'_>) -> Sentence<'static> {
+    match related {
+        Related::Nearest(_) => Sentence::DeclaredHere,
+        Related::Declared(_) => Sentence::DeclaredHere,
+        Related::First(_, Double::Input) => Sentence::FirstOfKind("input"),
+        Related::First(_, Double::Decide) => Sentence::FirstOfKind("decide"),
+        Related::First(_, _) => Sentence::FirstMeaning,
+        Related::Fields(_) => Sentence::FieldsHere,
     }
 }

@@ -72,8 +72,8 @@ impl<P: Plan> ToldVerdict<'_, P> {
         let name = found.name;
         writeln!(
             out,
-            "    bound: node {}'s receive in its step {} at line {} lacks node {}'s message of round \
-             {}, sent in step {} at line {}",
+            "    bound: node {}'s receive in its step {} at line {} lacks node {}'s message of \
+             round {}, sent in step {} at line {}",
             name.to,
             found.received_step,
             self.lines.of_event(found.received),

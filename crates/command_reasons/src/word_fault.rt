@@ -2,8 +2,8 @@
 use crate::sentence::Sentence;
 use round_lang::Span;
 
-/// What is said of a word of a line that says something. Words count from 0, the first of which says
-/// what the line is; of the line as a whole there is none.
+/// What is said of a word of a line that says something. Words count from 0, the first of which
+/// says what the line is; of the line as a whole there is none.
 #[derive(Clone, Copy, PartialEq, Eq, Debug)]
 pub(crate) struct WordFault {
     pub word: Option<usize>,

@@ -45,9 +45,11 @@ pub enum FaultPlace<'a> {
         other: NameAt<'a>,
         double: Double,
     },
-    /// An expression or a name of another type than is wanted.
+    /// An expression or a name of another type than is wanted; if it's a name, `declared` is where
+    /// it's declared or bound.
     WrongType {
         part: Span,
+        declared: Option<NameAt<'a>>,
         wanted: Ty,
         found: Ty,
         wants: Wants<'a>,
@@ -78,6 +80,65 @@ pub enum FaultPlace<'a> {
         number: Span,
         round: Option<u32>,
     },
+}
+
+/// Another place that a fault has to do with.
+#[derive(Clone, Copy, PartialEq, Eq, Debug)]
+pub enum Related<'a> {
+    /// The nearest declared name to one that isn't declared.
+    Nearest(NameAt<'a>),
+    /// What stands first of two that may stand once.
+    First(NameAt<'a>, Double),
+    /// The declaration of a name that is at fault, or of that which wants another type.
+    Declared(NameAt<'a>),
+    /// A message's fields.
+    Fields(Span),
+}
+
+impl<'a> FaultPlace<'a> {
+    /// The part of the text that is at fault.
+    pub fn span(&self) -> Span {
+        match self {
+            FaultPlace::UnknownName { name, .. } => name.span,
+            FaultPlace::DoubleName { name, .. } => name.span,
+            FaultPlace::WrongType { part, .. } => *part,
+            FaultPlace::FieldCount { sent, .. } => *sent,
+            FaultPlace::NotAllowedHere { word, .. } => *word,
+            FaultPlace::NoInput { end } => *end,
+            FaultPlace::NoDecision { end } => *end,
+            FaultPlace::MissingRound { number, .. } => *number,
+        }
+    }
+
+    /// Another place that helps to see what is wrong, if there is one.
+    pub fn related(&self) -> Option<Related<'a>> {
+        match self {
+            FaultPlace::UnknownName { nearest, .. } => (*nearest).map(Related::Nearest),
+            FaultPlace::DoubleName { other, double, .. } => Some(Related::First(*other, *double)),
+            FaultPlace::WrongType {
+                declared,
+                wants,
+                ..
+            } => (*declared).or(wants.name()).map(Related::Declared),
+            FaultPlace::FieldCount { message, .. } => Some(Related::Fields(*message)),
+            FaultPlace::NotAllowedHere { why, .. } => why.name().map(Related::Declared),
+            FaultPlace::NoInput { .. } => None,
+            FaultPlace::NoDecision { .. } => None,
+            FaultPlace::MissingRound { .. } => None,
+        }
+    }
+}
+
+impl Related<'_> {
+    /// Where that is.
+    pub fn span(&self) -> Span {
+        match self {
+            Related::Nearest(name) => name.span,
+            Related::First(name, _) => name.span,
+            Related::Declared(name) => name.span,
+            Related::Fields(span) => *span,
+        }
+    }
 }
 
 /// The first block whose number isn't the round's, or the end, if a block lacks there.

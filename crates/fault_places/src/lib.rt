@@ -1,9 +1,10 @@
 //! Where a refused text is at fault: its lines and columns, what could stand there, and where its
 //! program breaks a rule.
 //!
-//! What lines, columns and carets are is proved exactly, and so is which of the names and words that
-//! may stand in a place is nearest to one that isn't declared. Of what `expected_at` and `fault_place` find only safety is proved:
-//! it's compared with a second reading, `.ci/placing.py`, on random texts.
+//! What lines, columns and carets are is proved exactly, and so is which of the names and words
+//! that may stand in a place is nearest to one that isn't declared. Of what `expected_at` and
+//! `fault_place` find only safety is proved: it's compared with a second reading, `.ci/placing.py`,
+//! on random texts.
 #![tactic(auto)]
 
 mod doubles;
@@ -34,7 +35,7 @@ mod wants;
 
 pub use excerpt::{Excerpt, excerpt_of};
 pub use expected::{Expected, expected_at};
-pub use fault::{Double, FaultPlace, fault_place};
+pub use fault::{Double, FaultPlace, Related, fault_place};
 pub use kind::TokenKind;
 pub use layout::NameAt;
 pub use line::line_at;

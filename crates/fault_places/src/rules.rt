@@ -39,6 +39,18 @@ pub enum NotAllowed<'a> {
     SetField(NameAt<'a>),
 }
 
+impl<'a> NotAllowed<'a> {
+    /// The name that may not stand there, with its declaration; `None` if it's a word.
+    pub(crate) fn name(&self) -> Option<NameAt<'a>> {
+        match self {
+            NotAllowed::StateAtStart(name) => Some(*name),
+            NotAllowed::Field(name) => Some(*name),
+            NotAllowed::SetField(name) => Some(*name),
+            _ => None,
+        }
+    }
+}
+
 /// Where a rule is looked at.
 #[derive(Clone, Copy)]
 struct View<'p, 't, 'a> {

@@ -20,11 +20,13 @@ struct Context<'p, 't, 'a> {
     bound: &'p Bound<'p, 'a>,
 }
 
-/// An expression's type, none if it has none, and the tokens that it is.
+/// An expression's type, none if it has none, the tokens that it is, and where it's declared, if
+/// it's a name.
 #[derive(Clone, Copy)]
 struct Typed<'t, 'a> {
     ty: Option<Ty>,
     part: &'t [Token<'a>],
+    declared: Option<NameAt<'a>>,
 }
 
 fn constant_type(constant: Constant) -> Ty {
@@ -62,7 +64,7 @@ fn binary_types(operator: BinaryOperator) -> (Ty, Ty, Ty) {
     }
 }
 
-impl Context<'_, '_, '_> {
+impl<'a> Context<'_, '_, 'a> {
     fn name_type(&self, name: &Identifier) -> Option<Ty> {
         if self.bound.place(name).is_some() {
             return Some(Ty::Num);
@@ -75,6 +77,24 @@ impl Context<'_, '_, '_> {
 
     fn field_type(&self, name: &Identifier) -> Option<Ty> {
         self.fields?.type_of(name)
+    }
+
+    fn field_place(&self, name: &Identifier) -> Option<NameAt<'a>> {
+        self.fields?.place(name)
+    }
+
+    /// Where the name that an expression is is declared or bound; `None` if it's no name.
+    fn declared(&self, expr: &Expr) -> Option<NameAt<'a>> {
+        let Expr::Named(name) = expr else {
+            return None;
+        };
+        if let Some(place) = self.bound.place(name) {
+            return Some(place);
+        }
+        if let Some(place) = self.field_place(name) {
+            return Some(place);
+        }
+        self.placed.variable_place(name)
     }
 }
 
@@ -92,6 +112,7 @@ impl<'a> Earliest<'a> {
                 part.first,
                 FaultPlace::WrongType {
                     part,
+                    declared: typed.declared,
                     wanted,
                     found,
                     wants,
@@ -141,39 +162,53 @@ impl<'a> Earliest<'a> {
             Expr::Named(name) => context.name_type(name),
             Expr::Unary(operator, a) => {
                 let part = operand(*operator, part);
-                let ty = self.type_of(a, part, context);
+                let typed = Typed {
+                    ty: self.type_of(a, part, context),
+                    part,
+                    declared: context.declared(a),
+                };
                 let (wanted, result) = unary_types(*operator);
                 let wants = Wants::Operator(unary_text(*operator));
-                self.wants(Typed { ty, part }, wanted, wants)
-                    .then_some(result)
+                self.wants(typed, wanted, wants).then_some(result)
             }
             Expr::Binary(operator, a, b) => {
                 let (left, right) = operands(*operator, part);
-                let a = self.type_of(a, left, context);
-                let b = self.type_of(b, right, context);
-                self.binary(
-                    *operator,
-                    Typed { ty: a, part: left },
-                    Typed { ty: b, part: right },
-                )
+                let first = Typed {
+                    ty: self.type_of(a, left, context),
+                    part: left,
+                    declared: context.declared(a),
+                };
+                let second = Typed {
+                    ty: self.type_of(b, right, context),
+                    part: right,
+                    declared: context.declared(b),
+                };
+                self.binary(*operator, first, second)
             }
             Expr::If(c, a, b) => {
                 let [condition, first, second] = branches(part);
-                let c = self.type_of(c, condition, context);
-                let a = self.type_of(a, first, context);
-                let b = self.type_of(b, second, context);
                 let condition = Typed {
-                    ty: c,
+                    ty: self.type_of(c, condition, context),
                     part: condition,
+                    declared: context.declared(c),
                 };
-                let first = Typed { ty: a, part: first };
+                let first = Typed {
+                    ty: self.type_of(a, first, context),
+                    part: first,
+                    declared: context.declared(a),
+                };
                 let second = Typed {
-                    ty: b,
+                    ty: self.type_of(b, second, context),
                     part: second,
+                    declared: context.declared(b),
                 };
                 let is_condition = self.wants(condition, Ty::Bool, Wants::Condition);
                 let is_alike = self.alike(first, second, Wants::OtherBranch);
-                if is_condition && is_alike { a } else { None }
+                if is_condition && is_alike {
+                    first.ty
+                } else {
+                    None
+                }
             }
             Expr::SetOf(name, body) => {
                 let typed = self.type_under(name, body, part, context);
@@ -197,7 +232,11 @@ impl<'a> Earliest<'a> {
     ) -> Typed<'t, 'a> {
         let (variable, part) = comprehension(part);
         let Some(place) = variable.first().and_then(name_at) else {
-            return Typed { ty: None, part };
+            return Typed {
+                ty: None,
+                part,
+                declared: None,
+            };
         };
         let bound = Bound::Inner(name, place, context.bound);
         let inner = Context {
@@ -205,7 +244,8 @@ impl<'a> Earliest<'a> {
             ..*context
         };
         let ty = self.type_of(body, part, &inner);
-        Typed { ty, part }
+        let declared = inner.declared(body);
+        Typed { ty, part, declared }
     }
 
     /// Notes the variable that `decide` names, if it isn't a set.
@@ -224,6 +264,7 @@ impl<'a> Earliest<'a> {
                 place.span.first,
                 FaultPlace::WrongType {
                     part: place.span,
+                    declared: placed.variable_place(name),
                     wanted: Ty::Set,
                     found,
                     wants: Wants::Decide,
@@ -246,8 +287,12 @@ impl<'a> Earliest<'a> {
         };
         let ty = self.type_of(site.expr, site.part, &context);
         if let Some((wanted, wants)) = site.wanted {
-            let part = site.part;
-            let _is_wanted = self.wants(Typed { ty, part }, wanted, wants);
+            let typed = Typed {
+                ty,
+                part: site.part,
+                declared: context.declared(site.expr),
+            };
+            let _is_wanted = self.wants(typed, wanted, wants);
         }
     }
 }

@@ -28,6 +28,17 @@ pub enum Wants<'a> {
     Decide,
 }
 
+impl<'a> Wants<'a> {
+    /// The name, declared elsewhere in the text, that wants the type, if one does.
+    pub(crate) fn name(&self) -> Option<NameAt<'a>> {
+        match self {
+            Wants::Field(name) => Some(*name),
+            Wants::Assignment(name) => Some(*name),
+            _ => None,
+        }
+    }
+}
+
 /// What wants the type, in words.
 impl fmt::Display for Wants<'_> {
     fn fmt<W: fmt::Write>(&self, f: &mut fmt::Formatter<W>) -> fmt::Result {

@@ -1,15 +1,16 @@
 //! Where copies of messages are made and leave.
 ghost use Rattle.std.specs.Prelude.{◌≡◌, ◌<◌, ◌↔◌, ℕ, IsTrue, MatchOption};
-ghost use Rattle.step_book.specs.Log.{world_of};
+ghost use Rattle.step_book.specs.Log.{mark_in, world_of};
 ghost use Rattle.step_book.specs.Names.{IsName};
 ghost use Rattle.step_book.specs.Places.{IsFirstAfter, IsMadeAt};
 ghost use Rattle.omission_reasons.specs.Departures.{IsGone, IsSought, IsSoughtAt, LeavesAt};
 ghost use Rattle.omission_reasons.specs.Indexing.{IsIndexOf};
 ghost use Rattle.omission_reasons.specs.Reasons.{IsMade};
 
+use crate::idle::is_unsent;
 use crate::trace_index::TraceIndex;
 use slot_plans::Plan;
-use step_book::Book;
+use step_book::{Book, Mark};
 use step_machine::{Event, Name};
 use stored_events::StoredEvent;
 
@@ -48,6 +49,21 @@ pub(crate) fn making<P: Plan>(book: &Book<P>, index: &TraceIndex, name: Name) ->
         return Some(slot);
     }
     first_after(book, index, Sought::Copying, name, slot)
+}
+
+/// Where a copy was made: copy 0 by its sender's step, any other by the network; `None` if it never
+/// was, or if its message is silence and it isn't copy 0.
+pub fn made_place<P: Plan>(book: &Book<P>, index: &TraceIndex, name: Name) -> Option<usize>
+    requires name { IsName book.now.log.setup name }
+    requires index { IsIndexOf book.now.log index.now }
+    ensures { MatchOption result
+        (mark_in (P.start book.now.plan) book.now.log name ≡ Mark.Unsent)
+        (IsMadeAt (world_of (P.start book.now.plan) book.now.log) book.now.log.trace name) }
+{
+    if is_unsent(book, name) {
+        return None;
+    }
+    making(book, index, name)
 }
 
 /// The first place after another at which an event of a copy stands.

@@ -84,7 +84,7 @@ pub fn why_not_copied<P: Plan>(
 }
 
 /// Whether a copy was never made, or its message is silence.
-fn is_unsent<P: Plan>(book: &Book<P>, name: Name) -> bool
+pub(crate) fn is_unsent<P: Plan>(book: &Book<P>, name: Name) -> bool
     requires { IsName book.now.log.setup name }
     ensures { IsTrue result ↔ mark_in (P.start book.now.plan) book.now.log name ≡ Mark.Unsent }
 {

@@ -15,6 +15,7 @@ mod reasoning;
 mod receive;
 mod trace_index;
 
+pub use departure::made_place;
 pub use idle::{Idle, why_not_copied, why_not_let_go};
 pub use omission::is_omitted;
 pub use reason::Reason;

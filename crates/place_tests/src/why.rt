@@ -1,8 +1,6 @@
 //! Why a text is refused, and where.
 use crate::fault::Fault;
-use fault_places::{
-    FaultPlace, NameAt, NotAllowed, Wants, excerpt_of, expected_at, fault_place, place_of,
-};
+use fault_places::{excerpt_of, expected_at, fault_place, place_of};
 use round_check::{CheckFault, check};
 use round_lang::{LangFault, Program, Span, parse};
 use std::alloc::Global;
@@ -53,52 +51,6 @@ fn tell_expected(
     Ok(())
 }
 
-/// The place that is told first.
-fn main_span(place: &FaultPlace<'_>) -> Span {
-    match place {
-        FaultPlace::UnknownName { name, .. } => name.span,
-        FaultPlace::DoubleName { name, .. } => name.span,
-        FaultPlace::WrongType { part, .. } => *part,
-        FaultPlace::FieldCount { sent, .. } => *sent,
-        FaultPlace::NotAllowedHere { word, .. } => *word,
-        FaultPlace::NoInput { end } => *end,
-        FaultPlace::NoDecision { end } => *end,
-        FaultPlace::MissingRound { number, .. } => *number,
-    }
-}
-
-/// The name that a type is wanted for.
-fn wanting<'a>(wants: &Wants<'a>) -> Option<NameAt<'a>> {
-    match wants {
-        Wants::Declaration(name) => Some(*name),
-        Wants::Field(name) => Some(*name),
-        Wants::Assignment(name) => Some(*name),
-        _ => None,
-    }
-}
-
-/// The name that may not stand there.
-fn forbidden<'a>(why: &NotAllowed<'a>) -> Option<NameAt<'a>> {
-    match why {
-        NotAllowed::StateAtStart(name) => Some(*name),
-        NotAllowed::Field(name) => Some(*name),
-        NotAllowed::SetField(name) => Some(*name),
-        _ => None,
-    }
-}
-
-/// Another place that belongs to the fault.
-fn other_span(place: &FaultPlace<'_>) -> Option<Span> {
-    match place {
-        FaultPlace::UnknownName { nearest, .. } => Some((*nearest)?.span),
-        FaultPlace::DoubleName { other, .. } => Some(other.span),
-        FaultPlace::WrongType { wants, .. } => Some(wanting(wants)?.span),
-        FaultPlace::FieldCount { message, .. } => Some(*message),
-        FaultPlace::NotAllowedHere { why, .. } => Some(forbidden(why)?.span),
-        _ => None,
-    }
-}
-
 /// Tells where a program is at fault, and shows it.
 fn tell_fault_place(
     alloc: Global,
@@ -112,10 +64,10 @@ fn tell_fault_place(
         out.push_str("nowhere\n")?;
         return Ok(());
     };
-    tell_place(alloc, text, main_span(&place), form, out)?;
+    tell_place(alloc, text, place.span(), form, out)?;
     write!(out, "{place}\n")?;
-    if let Some(other) = other_span(&place) {
-        write!(out, "see {}\n", place_of(text, other.first))?;
+    if let Some(related) = place.related() {
+        write!(out, "see {}\n", place_of(text, related.span().first))?;
     }
     Ok(())
 }

@@ -11,8 +11,9 @@ use step_machine::Name;
 #[derive(Clone, Copy)]
 pub struct ReasonText<'a> {
     pub name: Name,
-    /// The place in the trace of the step that sent the message, if it was taken.
-    pub sent: Option<usize>,
+    /// The place in the trace at which the copy was made: of copy 0 that of its sender's step, if
+    /// that was taken.
+    pub made: Option<usize>,
     pub reason: Reason,
     /// The lines of the schedule's text.
     pub lines: &'a TextLines,
@@ -31,9 +32,11 @@ impl fmt::Display for ReasonText<'_> {
             "node {to} missed node {from}'s message of round {round}: "
         )?;
         if copy > 0 {
-            write!(f, "copy {copy} ")?;
-        } else if let Some(place) = self.sent {
-            write!(f, "sent at line {}, ", self.lines.of_event(place))?;
+            write!(f, "copy {copy}, ")?;
+        }
+        if let Some(place) = self.made {
+            let verb = if copy == 0 { "sent" } else { "made" };
+            write!(f, "{verb} at line {}, ", self.lines.of_event(place))?;
         }
         self.write_reason(f)
     }

@@ -33,7 +33,7 @@ impl ArrowTitle<'_> {
     ) -> fmt::Result {
         let text = ReasonText {
             name: self.arrow.name,
-            sent: Some(self.arrow.sent.place),
+            made: Some(self.arrow.copy.made.place),
             reason,
             lines: self.lines,
         };

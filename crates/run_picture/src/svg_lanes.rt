@@ -160,7 +160,7 @@ fn write_unsent<O: Write>(
                     round: band.round,
                     copy: 0,
                 },
-                sent: None,
+                made: None,
                 reason: Reason::NotSent,
                 lines: words.lines,
             };
