@@ -1,0 +1,5 @@
+pub mod Texts
+pub mod Left
+pub mod Lines
+pub mod Plain
+pub mod Written
