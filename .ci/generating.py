@@ -545,7 +545,17 @@ class Generator:
 
     def run_options(self, files):
         option, _ = self.file("schedule", *self.schedule(self.values), files)
-        return [option] + [("--decided",)] * self.often(0.3)
+        return [option] + self.form()
+
+    def form(self):
+        """Writes the options of a report."""
+        options = [("--decided",)] * self.often(0.3) + [("--changed",)] * self.often(0.2)
+        if self.often(0.4):
+            forms = ["text", "json", "json", "table", "table", "table", "summary"]
+            options.append(("--format", self.number(forms, ["", "JSON", "csv", "tables"])))
+        if self.often(0.2):
+            options.append(("--by", self.number(["round", "node", "node"], ["", "rounds", "0"])))
+        return options
 
     def judge_options(self, files):
         option, nodes = self.file("schedule", *self.schedule(self.values), files)
@@ -598,7 +608,7 @@ class Generator:
         return [option, other]
 
     def rounds_options(self, files):
-        return self.realise_options(files) + [("--decided",)] * self.often(0.4)
+        return self.realise_options(files) + self.form()
 
     def terms(self, nodes):
         """Writes the options of what is asked of a run."""

@@ -11,6 +11,7 @@ import codecs
 import collections
 import re
 
+import reading_data
 from language import LARGEST, VALUES, Checked, Parser, Refused, value
 
 SOURCE_LIMIT, SCHEDULE_LIMIT = 65536, 16777216  # bytes
@@ -470,9 +471,17 @@ NEEDED = {
     "realise": ["header", "omissions"],
     "rounds": ["header", "omissions"],
 }
-ALLOWED = {"lockstep": ["delays", "orders", "ticks", "omissions"]}
+ALLOWED = {
+    "lockstep": ["delays", "orders", "ticks", "omissions"],
+    "run": ["format", "by"],
+    "rounds": ["format", "by"],
+}
 REPEATED = {"lockstep": {"stop": 2, "delay": 4}}  # (how many values each use has)
-DECIDED = ("run", "threads", "rounds")
+FLAGS = {
+    "run": ("decided", "changed"),
+    "rounds": ("decided", "changed"),
+    "threads": ("decided",),
+}
 
 
 def read_words(words):
@@ -490,8 +499,8 @@ def read_words(words):
             sources.append(word)
         elif word == "--":
             is_behind = True
-        elif word == "--decided" and command in DECIDED and "decided" not in options:
-            options["decided"] = ""
+        elif word[:2] == "--" and word[2:] in FLAGS.get(command, ()) and word[2:] not in options:
+            options[word[2:]] = ""
         elif word.startswith("--") and name in repeated:
             values = [given] if equals else []
             while not equals and len(values) < repeated[name] and rest and is_value(rest[0]):
@@ -530,6 +539,10 @@ def check_forms(source, options):
     """Refuses a value that hasn't its option's form, the source first."""
     if source.startswith("@") and not re.fullmatch(r"@[A-Za-z_][A-Za-z0-9_]*:[0-9]+", source):
         raise BadWords("error: SOURCE is a file, or `@`, a name, `:` and digits")
+    if options.get("format", "text") not in ("text", "json", "table", "summary"):
+        raise BadWords("error: FORMAT is `text`, `json`, `table` or `summary`")
+    if options.get("by", "round") not in ("round", "node"):
+        raise BadWords("error: BY is `round` or `node`")
     if not is_list(options.get("correct", "0")):
         raise BadWords(NO_LIST)
     delta = options.get("delta", "1")
@@ -630,7 +643,7 @@ def carried_out(words, files):
         check_run(checked, setup, [])
         check_omissions(setup, behind)
         run = Rounds(Algorithm(checked, setup), behind)
-        return run.schedule() if command == "realise" else run.report() + run.told(options)
+        return run.schedule() if command == "realise" else formed(run, options)
     if command == "lockstep":
         check_run(checked, setup, [], correct)
         check_omissions(setup, behind)
@@ -639,7 +652,23 @@ def carried_out(words, files):
     run = Run(Algorithm(checked, setup), behind)
     if command == "judge":
         return run.verdict(behind, correct, int(options["delta"]), int(options["gst"]))
-    return run.report() + run.told(options)
+    return formed(run, options)
+
+
+def formed(run, options):
+    """Returns the report in the form that the options ask for."""
+    plain, form = run.report(), options.get("format", "text")
+    if form == "text":
+        return plain + run.told(options)
+    report = reading_data.report_of(plain)
+    if form == "json":
+        all_decided = {"-": "null", "split": '"split"'}.get(run.decided(), run.decided())
+        last = f'{{"decided":{all_decided}}}\n' if "decided" in options else ""
+        return reading_data.json_text(report) + last
+    if form == "summary":
+        return reading_data.summary_text(report) + run.told(options)
+    by, changed = options.get("by", "round"), "changed" in options
+    return reading_data.table_text(report, by, None, changed) + run.told(options)
 
 
 # Runs by threads

@@ -92,7 +92,9 @@ impl<'w, 'a> AskedCommand<'w, 'a> {
     /// Tells what the run of a schedule came to and why, if that is asked and the run is served.
     fn tell_reasons<O: Write>(&self, out: &mut O) -> Result<bool, Refusal> {
         let question = match self.command {
-            Words::Run { decided, .. } => RunQuestion::Report { decided: *decided },
+            Words::Run { form, .. } => RunQuestion::Report {
+                decided: form.decided,
+            },
             Words::Judge {
                 correct,
                 delta,

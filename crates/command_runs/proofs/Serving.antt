@@ -82,3 +82,8 @@ pub answered_as : (start receives starts waits : ℕ → ℕ) (p : ProgramTree) 
 answered_as start receives starts waits p s r q a same also h =
     subst (λ f. IsAnswered starts f p s r q a) also
     (subst (λ f. IsAnswered f receives p s r q a) same h)
+
+-- what follows from what an answer says where there is one
+pub said_as : {T E P Q : Type 0} (r : Result T E) → OnOk r P → (P → Q) → OnOk r Q
+said_as (Ok x) p f = f p
+said_as (Err e) p f = tt

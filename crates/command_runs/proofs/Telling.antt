@@ -7,10 +7,10 @@ use Rattle.std.specs.Io.KnownBytes.{Keeps}
 use Rattle.adversary.specs.declared.fault.RunFault.TheVariants as run
 use Rattle.command_runs.specs.Refused.{IsNoOffer, IsNoProgram, IsNotOffered, IsNotRun}
 use Rattle.command_runs.specs.Refused.{IsOpened, IsRefusedCommand, IsRefusedInTurn, IsSilent}
-use Rattle.command_runs.specs.Refused.{IsUnanswered}
+use Rattle.command_runs.specs.Refused.{IsUnanswered, IsUnrealised}
 use Rattle.command_runs.specs.Refused.{Fault, HasNoText, Later, fault_in}
 use Rattle.command_runs.specs.Served.{IsCheckedSource, JudgesRun, Opens}
-use Rattle.command_runs.specs.Served.{file_name, told_text}
+use Rattle.command_runs.specs.Served.{IsFormed, data_text, file_name, told_text}
 use Rattle.command_runs.specs.Stages.{IsHeldBack, IsRefusedAnswer}
 use Rattle.command_runs.specs.Texts.{Files}
 use Rattle.command_runs.specs.declared.asking.Answer.TheVariants as answer
@@ -19,10 +19,14 @@ use Rattle.command_runs.specs.declared.refusal.Refusal.{Refusal}
 use Rattle.command_runs.specs.declared.refusal.Refusal.TheVariants as refusal
 use Rattle.command_runs.specs.declared.sources.Opened.{Opened}
 use Rattle.command_runs.specs.declared.sources.Opened.TheVariants as opened
+use Rattle.command_words.specs.declared.forms.Form.{Form}
+use Rattle.command_words.specs.declared.forms.Format.{Format}
+use Rattle.command_words.specs.declared.forms.Format.TheVariants as format
 use Rattle.command_words.specs.declared.values.Source.{Source}
 use Rattle.command_words.specs.declared.values.Source.TheVariants as source
 use Rattle.command_words.specs.declared.words.Words.TheVariants as words
 use Rattle.omission_explainer.specs.Verdict.{verdict_text}
+use Rattle.omission_explainer.specs.declared.report.Report.{Report}
 use Rattle.round_lang.specs.Syntax.{ProgramTree}
 use Rattle.round_meaning.specs.declared.setup.Setup.{Setup}
 use Rattle.schedule_text.specs.Texts.{Tail}
@@ -130,12 +134,31 @@ not_in_turn kind NotRun (source.Library name values) files file r last never
 not_in_turn kind NotRun s files file r last never
     (inr (inr (opened, (u, k, t, read, inr (p, is, none))))) = never p u k t none
 
+-- a report has a text in each format
+pub formed : (f : Format) (report : Report) (told : Bool)
+    → (text : List ℕ) × IsFormed f report told text
+formed format.Text report told = (told_text report told, refl)
+formed format.Json report told = (data_text report told, refl)
+formed format.Table report told = ([], tt)
+formed format.Summary report told = ([], tt)
+
+-- where there is no memory for an answer, there may be none for what comes before it
+pub unanswered_memory : (source : Source) (files : Files) (file : Option (List ℕ))
+    (correct : List ℕ) → IsUnanswered source files file correct refusal.NoMemory
+unanswered_memory (source.File name) files file correct = inl tt
+unanswered_memory (source.Library name values) files file correct = inr (inl (tt, tt))
+
+pub unrealised_memory : (source : Source) (files : Files) (header omissions : Option (List ℕ))
+    → IsUnrealised source files header omissions refusal.NoMemory
+unrealised_memory (source.File name) files header omissions = inl tt
+unrealised_memory (source.Library name values) files header omissions = inr (inl (tt, tt))
+
 -- a refused answer, of `run` and of `judge`
-pub run_refused : (source : Source) (files : Files) (schedule : Bor (List ℕ)) (told : Bool)
+pub run_refused : (source : Source) (files : Files) (schedule : Bor (List ℕ)) (told : Form)
     (r : Refusal) → IsRefusedAnswer source files (files schedule.now) (question.Report told) r
     → IsRefusedCommand (words.Run source schedule told) files r
 run_refused source files schedule told refusal.Write (answer.Report report shown, h) =
-    (files, told_text report told, (report, h.1, refl))
+    let made = formed told.format report told.decided in (files, made.0, (report, h.1, made.1))
 run_refused source files schedule told refusal.Write (answer.Verdict verdict, h) = absurd h
 run_refused source files schedule told (refusal.Words f) h = h
 run_refused source files schedule told refusal.File h = h

@@ -38,6 +38,9 @@ use Rattle.command_words.specs.Commands.{roundc_app}
 use Rattle.command_words.specs.Given.{Means}
 use Rattle.command_words.specs.declared.changes.Changes.{Changes}
 use Rattle.command_words.specs.declared.exploring.Exploring.{Exploring}
+use Rattle.command_words.specs.declared.forms.Form.{Form}
+use Rattle.command_words.specs.declared.forms.Format.{Format}
+use Rattle.command_words.specs.declared.forms.Format.TheVariants as format
 use Rattle.command_words.specs.declared.values.Source.{Source}
 use Rattle.command_words.specs.declared.values.Source.TheVariants.{File, Library}
 use Rattle.command_words.specs.declared.words.Words.{Words}
@@ -50,10 +53,13 @@ use Rattle.exploration_texts.specs.Told.{AreAnswers, all_hold}
 use Rattle.exploration_texts.specs.declared.told.Told.{Told}
 use Rattle.omission_explainer.specs.Decided.{decided_line, summary_of}
 use Rattle.omission_explainer.specs.Report.{report_text}
+use Rattle.omission_explainer.specs.declared.summary.Decided.{Decided}
+use Rattle.omission_explainer.specs.declared.summary.Decided.TheVariants as decided
 use Rattle.omission_explainer.specs.Verdict.{verdict_text}
 use Rattle.omission_explainer.specs.declared.judging.Verdict.{Verdict}
 use Rattle.omission_explainer.specs.declared.report.Report.{Report}
 use Rattle.round_check.specs.Causes.{is_typed}
+use Rattle.run_data.specs.ReportData.{report_data}
 use Rattle.round_lang.specs.Limits.{max_text}
 use Rattle.round_lang.specs.Source.{IsSource}
 use Rattle.round_lang.specs.Syntax.{ProgramTree}
@@ -257,13 +263,46 @@ Answered start receives p s events (question.Verdict terms) (answer.Verdict verd
     IsVerdictOf start receives p s events terms.correct.now terms.delta terms.gst verdict
 Answered start receives p s events _ _ = ⊥
 
--- the report, with what all decisions in it come to where that was asked for
+-- the report, with what all decisions in it come to if that was asked for
 abbrev pub told_text : Report → Bool → List ℕ
 told_text report told = report_text report ++ decided_line told (summary_of report.rows)
 
-abbrev pub answer_text : Answer → List ℕ
-answer_text (answer.Report report told) = told_text report told
-answer_text (answer.Verdict verdict) = verdict_text verdict ++ codes "\n"
+-- what all decisions come to, as data: null for none
+abbrev pub decided_value : Decided → List ℕ
+decided_value decided.None = codes "null"
+decided_value (decided.One v) = decimal v
+decided_value decided.Split = codes "\"split\""
+
+-- the line of data that says it, if that was asked for
+abbrev pub decided_data : Bool → Decided → List ℕ
+decided_data told all =
+    if told then codes "{\"decided\":" ++ decided_value all ++ codes "}\n" else []
+
+-- the same as data
+abbrev pub data_text : Report → Bool → List ℕ
+data_text report told = report_data report ++ decided_data told (summary_of report.rows)
+
+-- the text is the report in this format; of that of a table or a summary nothing is said
+abbrev pub IsFormed : Format → Report → Bool → List ℕ → Type 0
+IsFormed format.Text report told text = text ≡ told_text report told
+IsFormed format.Json report told text = text ≡ data_text report told
+IsFormed format.Table report told text = ⊤
+IsFormed format.Summary report told text = ⊤
+
+-- the text is the report in this form
+abbrev pub IsReportText : Form → Report → List ℕ → Type 0
+IsReportText form report text = IsFormed form.format report form.decided text
+
+-- `out` gained the report in this form
+abbrev pub SaysReport : Form → Report → (old new : Option (List ℕ)) → Type 0
+SaysReport form report old new =
+    (text : List ℕ) × IsReportText form report text × Appends old new text
+
+-- `out` gained the answer
+abbrev pub SaysAnswer : Answer → (old new : Option (List ℕ)) → Type 0
+SaysAnswer (answer.Report report form) old new = SaysReport form report old new
+SaysAnswer (answer.Verdict verdict) old new =
+    Appends old new (verdict_text verdict ++ codes "\n")
 
 -- the terms of a run in lockstep by its words
 abbrev pub terms_by : (correct : Vec ℕ) → (delta gst : ℕ) → (delays orders : Vec ℕ) → Option ℕ
@@ -284,9 +323,9 @@ Prints (Check source) files after text =
 Prints (Show source) files after text = ShowsSource source files text
 Prints (Draw source schedule drawing) files after text =
     DrawsRun source files (files schedule.now) drawing
-Prints (Run source schedule told) files after text =
+Prints (Run source schedule form) files after text =
     (report : Report) × ReportsRun source files (files schedule.now) report
-    × (text ≡ told_text report told)
+    × IsReportText form report text
 Prints (Threads source setup trace told) files after text =
     (report : Report)
     × ReportsThreads source files (files setup.now) (after trace.now) report
@@ -300,10 +339,10 @@ Prints (Lockstep source header correct delta gst delays orders ticks changes) fi
     (terms_by correct delta gst delays orders ticks changes) text
 Prints (Realise source header omissions) files after text =
     RealisesOmissions source files (files header.now) (files omissions.now) text
-Prints (Rounds source header omissions told) files after text =
+Prints (Rounds source header omissions form) files after text =
     (report : Report)
     × ReportsRounds source files (files header.now) (files omissions.now) report
-    × (text ≡ told_text report told)
+    × IsReportText form report text
 Prints (Explore source header exploring) files after text =
     (told : List Told) × TellsOfAll source files after (files header.now) exploring told
     × (text ≡ answers_text told)

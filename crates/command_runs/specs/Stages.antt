@@ -17,7 +17,7 @@ use Rattle.command_runs.specs.Refused.{IsUnmade, IsUnthreaded, IsUntraced}
 use Rattle.command_runs.specs.Refused.{StartsThreads, fault_in, of_text, omission_fault}
 use Rattle.command_runs.specs.Explained.{IsReportOf}
 use Rattle.command_runs.specs.Served.{Answered, AnswersRun, IsHeader, IsProgramOf, IsShownOf}
-use Rattle.command_runs.specs.Served.{IsThreadSetup, MakesLockstep, ReportsThreads, answer_text}
+use Rattle.command_runs.specs.Served.{IsThreadSetup, MakesLockstep, ReportsThreads, SaysAnswer}
 use Rattle.command_runs.specs.Served.{told_text}
 use Rattle.command_runs.specs.Texts.{Files}
 use Rattle.schedule_text.specs.Bytes.{BeginsUtf8}
@@ -187,7 +187,7 @@ IsDrawnAs start p s r d =
 abbrev pub TellsAnswer : Source → Files → Option (List ℕ) → Question
     → Option (List ℕ) → Option (List ℕ) → Type 0
 TellsAnswer source files file q old new =
-    (a : RunAnswer) × AnswersRun source files file q a × Appends old new (answer_text a)
+    (a : RunAnswer) × AnswersRun source files file q a × SaysAnswer a old new
 
 -- `out` gained the schedule of a run in lockstep
 abbrev pub TellsLockstep : Source → Files → (header : Option (List ℕ))

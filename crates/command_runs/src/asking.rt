@@ -13,7 +13,7 @@ use crate::explained::{Terms, explained_run, judged_run};
 use crate::refusal::Refusal;
 use crate::sources::Opened;
 use adversary::RunFault;
-use command_words::Source;
+use command_words::{Form, Source};
 use omission_explainer::{Report, Verdict};
 use round_check::Checked;
 use round_meaning::Setup;
@@ -32,15 +32,15 @@ pub struct Run<'a> {
 /// A question about a run.
 #[derive(Clone, Copy)]
 pub enum Question<'a> {
-    /// The report, with a last line on the decisions where `decided` says so.
-    Report { decided: bool },
+    /// The report, in this form.
+    Report { form: Form },
     Verdict(Terms<'a>),
 }
 
 /// The answer to a question.
 #[derive(Drop)]
 pub enum Answer {
-    Report { report: Report, decided: bool },
+    Report { report: Report, form: Form },
     Verdict(Verdict),
 }
 
@@ -161,10 +161,10 @@ fn answer_of<P: Plan, S: TextSource + Drop>(
     let OpenedSchedule { setup, reader, .. } = schedule;
     // A command ends with its answer: the system takes the run's memory back as a whole.
     match question {
-        Question::Report { decided } => {
+        Question::Report { form } => {
             let (report, journal) = explained_run(alloc, program, &setup, plan, reader)?;
             mem::forget(journal);
-            Ok(Answer::Report { report, decided })
+            Ok(Answer::Report { report, form })
         }
         Question::Verdict(terms) => {
             let (verdict, journal) = judged_run(alloc, program, &setup, plan, reader, terms)?;

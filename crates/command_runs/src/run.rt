@@ -7,7 +7,7 @@ ghost use Rattle.command_runs.specs.Desks.{MayWrite, MayWriteTrace, Writes, Writ
 ghost use Rattle.command_runs.specs.Desks.{WroteAtMost, WroteFor};
 ghost use Rattle.command_runs.specs.InRounds.{code_of};
 ghost use Rattle.command_runs.specs.Refused.{IsCause, IsRefused, IsRefusedCommand, IsSilent};
-ghost use Rattle.command_runs.specs.Served.{AsksForHelp, Ends, IsEnded, Serves, answer_text};
+ghost use Rattle.command_runs.specs.Served.{AsksForHelp, Ends, IsEnded, SaysAnswer, Serves};
 ghost use Rattle.command_runs.specs.Served.{summary_text};
 ghost use Rattle.command_runs.specs.InChanges.{terms_of};
 ghost use Rattle.command_runs.specs.Stages.{IsRefusedAnswer, IsRefusedLockstep, IsRefusedThreads};
@@ -18,6 +18,7 @@ use crate::desk::Desk;
 use crate::drawing::draw;
 use crate::explained::Terms;
 use crate::exploring::{Exploration, Found};
+use crate::forms::{tell_report, write_told};
 use crate::lockstep::{Paced, Pacing};
 use crate::omitting::Omitting;
 use crate::outcome::Outcome;
@@ -26,9 +27,8 @@ use crate::showing::show_source;
 use crate::sources::Opened;
 use crate::threads::{ThreadRun, Threaded};
 use crate::traces::{write_shown, write_trace};
-use command_words::{Source, Words, WordsFault, read_words};
+use command_words::{Form, Source, Words, WordsFault, read_words};
 use exploration_texts::write_answers;
-use omission_explainer::{decided, write_report};
 use policies::{Bounded, Table};
 use round_check::Checked;
 use std::alloc::Global;
@@ -142,10 +142,10 @@ fn carry_out<'a, R: Threads + Wait + Sync, D: Desk, O: Write>(
         Words::Run {
             source,
             schedule,
-            decided,
+            form,
         } => {
             let run = Run { source, schedule };
-            answer(alloc, run, Question::Report { decided }, desk, out)
+            answer(alloc, run, Question::Report { form }, desk, out)
         }
         Words::Draw {
             source,
@@ -230,14 +230,14 @@ fn carry_out<'a, R: Threads + Wait + Sync, D: Desk, O: Write>(
             source,
             header,
             omissions,
-            decided,
+            form,
         } => {
             let omitting = Omitting {
                 source,
                 header,
                 omissions,
             };
-            run_rounds(alloc, omitting, decided, desk, out)
+            run_rounds(alloc, omitting, form, desk, out)
         }
         Words::Explore {
             source,
@@ -294,7 +294,7 @@ fn answer<'a, D: Desk, O: Write>(
     ensures written { D.written desk.new ≡ D.written desk.old }
 {
     let answer = run.answer(alloc, question, desk)?;
-    written(write_answer(&answer, out), out)
+    tell_answer(alloc, &answer, out)
 }
 
 /// Runs a source by threads, and writes the trace and then the report.
@@ -327,8 +327,7 @@ fn thread<'a, R: Threads + Wait + Sync, D: Desk, O: Write>(
         whole,
     } = threaded.run(rt, alloc, desk)?;
     write_trace(threaded.trace, trace.as_str(), desk)?;
-    let answer = Answer::Report { report, decided };
-    written(write_answer(&answer, out), out)?;
+    written(write_told(&report, decided, out), out)?;
     if whole {
         Ok(Outcome::Done)
     } else {
@@ -386,23 +385,22 @@ fn realise<'a, D: Desk, O: Write>(
 fn run_rounds<'a, D: Desk, O: Write>(
     alloc: Global,
     omitting: Omitting<'a>,
-    decided: bool,
+    form: Form,
     desk: &mut D,
     out: &mut O,
 ) -> Result<Outcome, Refusal>
     ensures done { IfOk result (λ o. o ≡ Outcome.Done) }
     ensures served { OnOk result (Serves
-        (Words.Rounds omitting.entry.source omitting.entry.header omitting.entry.omissions decided)
+        (Words.Rounds omitting.entry.source omitting.entry.header omitting.entry.omissions form)
         (D.files desk.old) (D.files desk.new) (O.contents out.old) (O.contents out.new)) }
     ensures refused { IfErr result (IsRefusedCommand
-        (Words.Rounds omitting.entry.source omitting.entry.header omitting.entry.omissions decided)
+        (Words.Rounds omitting.entry.source omitting.entry.header omitting.entry.omissions form)
         (D.files desk.old)) }
     ensures silent { IfErr result (IsSilent (O.contents out.old) (O.contents out.new)) }
     ensures written { D.written desk.new ≡ D.written desk.old }
 {
     let report = omitting.report(alloc, desk)?;
-    let told = Answer::Report { report, decided };
-    written(write_answer(&told, out), out)
+    tell_report(alloc, &report, form, out)
 }
 
 /// Tells what is found in all runs, and first writes the schedule that shows a property failing.
@@ -448,23 +446,18 @@ fn write_summary<O: Write>(program: &Checked, out: &mut O) -> io::Result<()>
     )
 }
 
-fn write_answer<O: Write>(answer: &Answer, out: &mut O) -> io::Result<()>
-    ensures { OnOk result (Appends (O.contents out.old) (O.contents out.new)
-        (answer_text answer.now)) }
+/// Writes an answer, and all that the writer still holds.
+#[tactic(auto, using(crate::proofs::Telling::silent_write))]
+fn tell_answer<O: Write>(alloc: Global, answer: &Answer, out: &mut O) -> Result<Outcome, Refusal>
+    ensures done { IfOk result (λ o. o ≡ Outcome.Done) }
+    ensures said { OnOk result
+        (SaysAnswer answer.now (O.contents out.old) (O.contents out.new)) }
+    ensures refused { IfErr result (λ r. (r ≡ Refusal.Write) ⊎ (r ≡ Refusal.NoMemory)) }
+    ensures silent { IfErr result (IsSilent (O.contents out.old) (O.contents out.new)) }
 {
     match answer {
-        Answer::Report {
-            report,
-            decided: false,
-        } => write_report(report, out),
-        Answer::Report {
-            report,
-            decided: true,
-        } => {
-            write_report(report, out)?;
-            writeln!(out, "decided {}", decided(report))
-        }
-        Answer::Verdict(verdict) => writeln!(out, "{verdict}"),
+        Answer::Report { report, form } => tell_report(alloc, report, *form, out),
+        Answer::Verdict(verdict) => written(writeln!(out, "{verdict}"), out),
     }
 }
 

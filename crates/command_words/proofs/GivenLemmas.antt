@@ -24,8 +24,9 @@ use Rattle.clap.specs.declared.parser.matches.ArgMatches.TheViews.{out-ArgMatche
 use Rattle.clap.specs.declared.parser.matches.SubCommand.{SubCommand}
 use Rattle.clap.proofs.WalkLemmas.{first_value-rows}
 use Rattle.command_words.specs.Commands.{roundc_app}
-use Rattle.command_words.specs.Given.{Explains, FailsByLockstep, FailsByOmissions, FailsByRun}
-use Rattle.command_words.specs.Given.{FailsByTerms, FailsByValue, IsMistake}
+use Rattle.command_words.specs.Given.{Explains, FailsByLockstep, FailsByOmissions}
+use Rattle.command_words.specs.Given.{FailsByReport, FailsByRounds, FailsByRun, FailsByTerms}
+use Rattle.command_words.specs.Given.{FailsByValue, IsMistake}
 use Rattle.command_words.specs.declared.words.WordsFault.{WordsFault}
 use Rattle.command_words.specs.declared.words.WordsFault.TheVariants as fault
 
@@ -92,6 +93,9 @@ ok_always (Err e) p = tt
 by_no_run : (rows : List Row) (e : Error) → ¬ (FailsByRun rows (fault.Refused e))
 by_no_run rows e h = elim h [ inl source ↦ source | inr file ↦ file ]
 
+by_no_report : (rows : List Row) (e : Error) → ¬ (FailsByReport rows (fault.Refused e))
+by_no_report rows e h = elim h [ inl run ↦ by_no_run rows e run | inr form ↦ form ]
+
 by_no_terms : (rows : List Row) (e : Error) → ¬ (FailsByTerms rows (fault.Refused e))
 by_no_terms rows e h =
     elim h [ inl list ↦ list | inr value ↦ elim value [ inl delta ↦ delta | inr gst ↦ gst ] ]
@@ -101,6 +105,9 @@ by_no_omissions rows e h = elim h [
   | inl source ↦ source
   | inr file ↦ elim file [ inl header ↦ header | inr omissions ↦ omissions ]
 ]
+
+by_no_rounds : (rows : List Row) (e : Error) → ¬ (FailsByRounds rows (fault.Refused e))
+by_no_rounds rows e h = elim h [ inl named ↦ by_no_omissions rows e named | inr form ↦ form ]
 
 by_no_lockstep : (rows : List Row) (e : Error) → ¬ (FailsByLockstep rows (fault.Refused e))
 by_no_lockstep rows e h = elim h [
@@ -132,7 +139,7 @@ lack_explained words name rows (fault.Refused e) none is lack = absurd (elim lac
   | inl alone ↦ elim alone [ inl check ↦ check.1 | inr show ↦ show.1 ]
   | inr more ↦ elim more [
     | inl schedule ↦ elim schedule [
-      | inl run ↦ by_no_run rows e run.1
+      | inl run ↦ by_no_report rows e run.1
       | inr draw ↦ elim draw.1 [
         | inl run ↦ by_no_run rows e run
         | inr drawing ↦ elim drawing [ inl range ↦ range | inr nodes ↦ nodes ]
@@ -149,7 +156,7 @@ lack_explained words name rows (fault.Refused e) none is lack = absurd (elim lac
           | inr more ↦ elim more [
             | inl realise ↦ by_no_omissions rows e realise.1
             | inr more ↦ elim more [
-              | inl rounds ↦ by_no_omissions rows e rounds.1
+              | inl rounds ↦ by_no_rounds rows e rounds.1
               | inr more ↦ elim more [
                 | inl explore ↦ elim explore.1 [
                   | inl source ↦ source
@@ -178,6 +185,8 @@ lack_explained words name rows fault.Clear none is lack = inl (none, (name, rows
 lack_explained words name rows fault.Hears none is lack = inl (none, (name, rows, is, lack))
 lack_explained words name rows fault.Checks none is lack = (none, (name, rows, is, lack))
 lack_explained words name rows fault.Range none is lack = inl (none, (name, rows, is, lack))
+lack_explained words name rows fault.Format none is lack = (none, (name, rows, is, lack))
+lack_explained words name rows fault.Blocks none is lack = (none, (name, rows, is, lack))
 lack_explained words name rows fault.NoMemory none is lack = tt
 
 -- what the code makes of an error explains the refusal
@@ -200,6 +209,8 @@ mistake_explained words error fault.Clear kinds is = inr is
 mistake_explained words error fault.Hears kinds is = inr is
 mistake_explained words error fault.Checks kinds is = absurd is
 mistake_explained words error fault.Range kinds is = inr is
+mistake_explained words error fault.Format kinds is = absurd is
+mistake_explained words error fault.Blocks kinds is = absurd is
 mistake_explained words error fault.NoMemory kinds is = tt
 
 or_else_right : (a b : Kinds) → or_else a b ≡ [] → b ≡ []

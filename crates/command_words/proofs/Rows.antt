@@ -18,6 +18,19 @@ run_schedule : option_map (λ p. first_of (codes "schedule") p.1) (subcommand_of
 unfolding clap_on_literals
 run_schedule = refl
 
+abbrev form_row : List Text
+form_row = codes "run" ∷ codes "a" ∷ codes "--schedule" ∷ codes "b" ∷ codes "--format" ∷ codes
+    "table" ∷ codes "--changed" ∷ codes "--by=node" ∷ []
+
+form_taken : takes roundc_app form_row ≡ true
+unfolding clap_on_literals
+form_taken = refl
+
+form_by : option_map (λ p. first_of (codes "by") p.1) (subcommand_of roundc_app form_row)
+    ≡ Some (Some (codes "node"))
+unfolding clap_on_literals
+form_by = refl
+
 help_refused : fault_of roundc_app (codes "run" ∷ codes "--help" ∷ []) ≡ kind.DisplayHelp ∷ []
 unfolding clap_on_literals
 help_refused = refl

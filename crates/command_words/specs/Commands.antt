@@ -22,11 +22,21 @@ flag_rule name = record (new_rule name) { long = Some name; action = Some SetTru
 abbrev pub decided_rule : Rule
 decided_rule = flag_rule (codes "decided")
 
--- `run SOURCE --schedule FILE [--decided]`
+-- `--NAME VALUE`, which may be left out
+abbrev pub optional_rule : Text → Rule
+optional_rule name = record (new_rule name) { long = Some name; value_names = 1 }
+
+-- the same with `[--decided] [--format FORMAT] [--by BY] [--changed]`
+abbrev pub with_form : App → App
+with_form app =
+    with_rule (with_rule (with_rule (with_rule app decided_rule)
+    (optional_rule (codes "format"))) (optional_rule (codes "by"))) (flag_rule (codes "changed"))
+
+-- `run SOURCE --schedule FILE` and the form of the report
 abbrev pub run_app : App
 run_app =
-    with_rule (with_rule (with_rule (new_app (codes "run")) source_rule)
-    (text_rule (codes "schedule"))) decided_rule
+    with_form (with_rule (with_rule (new_app (codes "run")) source_rule)
+    (text_rule (codes "schedule")))
 
 -- `threads SOURCE --setup FILE --trace FILE [--decided]`
 abbrev pub threads_app : App
@@ -48,10 +58,6 @@ judge_app =
     with_rule (with_rule (with_rule (with_rule (with_rule (new_app (codes "judge")) source_rule)
     (text_rule (codes "schedule"))) (text_rule (codes "correct"))) (text_rule (codes "delta")))
     (text_rule (codes "gst"))
-
--- `--NAME VALUE`, which may be left out
-abbrev pub optional_rule : Text → Rule
-optional_rule name = record (new_rule name) { long = Some name; value_names = 1 }
 
 -- `draw SOURCE --schedule FILE [--rounds RANGE] [--nodes LIST] [--html]`
 abbrev pub draw_app : App
@@ -90,11 +96,11 @@ realise_app =
     with_rule (with_rule (with_rule (new_app (codes "realise")) source_rule)
     (text_rule (codes "header"))) (text_rule (codes "omissions"))
 
--- `rounds SOURCE --header FILE --omissions FILE [--decided]`
+-- `rounds SOURCE --header FILE --omissions FILE` and the form of the report
 abbrev pub rounds_app : App
 rounds_app =
-    with_rule (with_rule (with_rule (with_rule (new_app (codes "rounds")) source_rule)
-    (text_rule (codes "header"))) (text_rule (codes "omissions"))) decided_rule
+    with_form (with_rule (with_rule (with_rule (new_app (codes "rounds")) source_rule)
+    (text_rule (codes "header"))) (text_rule (codes "omissions")))
 
 -- `explore SOURCE --header FILE`
 abbrev pub explore_by_header_app : App

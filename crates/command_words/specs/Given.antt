@@ -8,11 +8,14 @@ use Rattle.clap.specs.declared.error.Error.{Error}
 use Rattle.clap.specs.declared.error.kind.ErrorKind.TheVariants.{OutOfMemory}
 use Rattle.command_words.specs.Changes.{FailsByChanges, GivesChanges}
 use Rattle.command_words.specs.Commands.{roundc_app}
-use Rattle.command_words.specs.Exploring.{FailsByExploring, GivesExploring, HasNoValue}
-use Rattle.command_words.specs.Values.{IsNoList, ListText, NumberText, RangeText, SourceText}
-use Rattle.command_words.specs.Values.{is_negative, max_delta}
+use Rattle.command_words.specs.Exploring.{FailsByExploring, GivesExploring, GivesOr, HasNoValue}
+use Rattle.command_words.specs.Values.{BlocksText, FormatText, IsNoList, ListText, NumberText}
+use Rattle.command_words.specs.Values.{RangeText, SourceText, is_negative, max_delta}
 use Rattle.command_words.specs.declared.drawing.Drawing.{Drawing}
 use Rattle.command_words.specs.declared.drawing.RoundRange.{RoundRange}
+use Rattle.command_words.specs.declared.forms.Blocks.TheVariants as blocks
+use Rattle.command_words.specs.declared.forms.Form.{Form}
+use Rattle.command_words.specs.declared.forms.Format.TheVariants as format
 use Rattle.command_words.specs.declared.values.Source.{Source}
 use Rattle.command_words.specs.declared.words.Words.{Words}
 use Rattle.command_words.specs.declared.words.Words.TheVariants.{Check, Draw, Explore, Judge}
@@ -76,13 +79,20 @@ pub record GivesDrawing (rows : List Row) (d : Drawing) : Type 0 where
   pub nodes : GivesTable (codes "nodes") rows d.nodes.items
   pub html : IsTrue d.html ↔ HasFlag (codes "html") rows
 
+-- what the options of a report say; without `--format` it's text, and without `--by` a table's
+-- blocks are rounds
+pub record GivesForm (rows : List Row) (f : Form) : Type 0 where
+  pub format : GivesOr format.Text (codes "format") FormatText rows f.format
+  pub blocks : GivesOr blocks.Rounds (codes "by") BlocksText rows f.blocks
+  pub changed : IsTrue f.changed ↔ HasFlag (codes "changed") rows
+  pub decided : IsTrue f.decided ↔ IsDecidedAsked rows
+
 -- the command of this name with these matches is what the words say
 abbrev pub Gives : Text → List Row → Words → Type 0
 Gives name rows (Check source) = (name ≡ codes "check") × GivesSource rows source
 Gives name rows (Show source) = (name ≡ codes "show") × GivesSource rows source
-Gives name rows (Run source schedule decided) = (name ≡ codes "run") × GivesSource rows source
-    × (first_of (codes "schedule") rows ≡ Some schedule.now)
-    × (IsTrue decided ↔ IsDecidedAsked rows)
+Gives name rows (Run source schedule form) = (name ≡ codes "run") × GivesSource rows source
+    × (first_of (codes "schedule") rows ≡ Some schedule.now) × GivesForm rows form
 Gives name rows (Draw source schedule drawing) = (name ≡ codes "draw")
     × GivesSource rows source × (first_of (codes "schedule") rows ≡ Some schedule.now)
     × GivesDrawing rows drawing
@@ -102,10 +112,9 @@ Gives name rows (Lockstep source header correct delta gst delays orders ticks ch
 Gives name rows (Realise source header omissions) = (name ≡ codes "realise")
     × GivesSource rows source × (first_of (codes "header") rows ≡ Some header.now)
     × (first_of (codes "omissions") rows ≡ Some omissions.now)
-Gives name rows (Rounds source header omissions decided) = (name ≡ codes "rounds")
+Gives name rows (Rounds source header omissions form) = (name ≡ codes "rounds")
     × GivesSource rows source × (first_of (codes "header") rows ≡ Some header.now)
-    × (first_of (codes "omissions") rows ≡ Some omissions.now)
-    × (IsTrue decided ↔ IsDecidedAsked rows)
+    × (first_of (codes "omissions") rows ≡ Some omissions.now) × GivesForm rows form
 Gives name rows (Explore source header exploring) = (name ≡ codes "explore")
     × GivesSource rows source × (first_of (codes "header") rows ≡ Some header.now)
     × GivesExploring rows exploring
@@ -173,9 +182,19 @@ FailsByRange rows _ = ⊥
 abbrev pub FailsByDrawing : List Row → WordsFault → Type 0
 FailsByDrawing rows fault = FailsByRange rows fault ⊎ FailsByTable (codes "nodes") rows fault
 
--- the fault of a value of `run`
+-- the fault of an option of a report
+abbrev pub FailsByForm : List Row → WordsFault → Type 0
+FailsByForm rows fault.Format = HasNoValue (codes "format") FormatText rows
+FailsByForm rows fault.Blocks = HasNoValue (codes "by") BlocksText rows
+FailsByForm rows _ = ⊥
+
+-- the fault of a source or a schedule
 abbrev pub FailsByRun : List Row → WordsFault → Type 0
 FailsByRun rows fault = FailsBySource rows fault ⊎ FailsByFile (codes "schedule") rows fault
+
+-- the fault of a value of `run`
+abbrev pub FailsByReport : List Row → WordsFault → Type 0
+FailsByReport rows fault = FailsByRun rows fault ⊎ FailsByForm rows fault
 
 -- the fault of a value of `draw`
 abbrev pub FailsByDraw : List Row → WordsFault → Type 0
@@ -205,10 +224,14 @@ FailsByLockstep rows fault =
     ⊎ (FailsByTable (codes "orders") rows fault
     ⊎ (FailsByTicks rows fault ⊎ FailsByChanges rows fault)))))
 
--- the fault of a value of `realise` or `rounds`
+-- the fault of a value of `realise`
 abbrev pub FailsByOmissions : List Row → WordsFault → Type 0
 FailsByOmissions rows fault = FailsBySource rows fault
     ⊎ (FailsByFile (codes "header") rows fault ⊎ FailsByFile (codes "omissions") rows fault)
+
+-- the fault of a value of `rounds`
+abbrev pub FailsByRounds : List Row → WordsFault → Type 0
+FailsByRounds rows fault = FailsByOmissions rows fault ⊎ FailsByForm rows fault
 
 -- the fault of a value of `explore`
 abbrev pub FailsByExplore : List Row → WordsFault → Type 0
@@ -220,13 +243,13 @@ abbrev pub FailsByValue : Text → List Row → WordsFault → Type 0
 FailsByValue name rows fault =
     (((name ≡ codes "check") × FailsBySource rows fault)
     ⊎ ((name ≡ codes "show") × FailsBySource rows fault))
-    ⊎ ((((name ≡ codes "run") × FailsByRun rows fault)
+    ⊎ ((((name ≡ codes "run") × FailsByReport rows fault)
     ⊎ ((name ≡ codes "draw") × FailsByDraw rows fault))
     ⊎ (((name ≡ codes "threads") × FailsByThreads rows fault)
     ⊎ (((name ≡ codes "judge") × FailsByJudge rows fault)
     ⊎ (((name ≡ codes "lockstep") × FailsByLockstep rows fault)
     ⊎ (((name ≡ codes "realise") × FailsByOmissions rows fault)
-    ⊎ (((name ≡ codes "rounds") × FailsByOmissions rows fault)
+    ⊎ (((name ≡ codes "rounds") × FailsByRounds rows fault)
     ⊎ (((name ≡ codes "explore") × FailsByExplore rows fault)
     ⊎ (((name ≢ codes "check") × (name ≢ codes "show") × (name ≢ codes "run")
     × (name ≢ codes "draw") × (name ≢ codes "threads") × (name ≢ codes "judge")

@@ -4,7 +4,7 @@ use Rattle.command_words.specs.declared.words.WordsFault.{WordsFault}
 use Rattle.command_words.specs.declared.words.WordsFault.TheVariants.{Refused, Missing, Source}
 use Rattle.command_words.specs.declared.words.WordsFault.TheVariants.{List as BadList, Delta, Gst}
 use Rattle.command_words.specs.declared.words.WordsFault.TheVariants.{Ticks, Change, Inputs}
-use Rattle.command_words.specs.declared.words.WordsFault.TheVariants.{Range}
+use Rattle.command_words.specs.declared.words.WordsFault.TheVariants.{Blocks, Format, Range}
 use Rattle.command_words.specs.declared.words.WordsFault.TheVariants.{Faults, Clear}
 use Rattle.command_words.specs.declared.words.WordsFault.TheVariants.{Hears, Checks, NoMemory}
 
@@ -28,4 +28,6 @@ words_line Checks = Some (codes
     "error: LIST is `agreement`, `validity`, `final` or `termination` with commas between them\n")
 words_line Range = Some (codes
     "error: RANGE is A-B, two numbers of 1 to 4294967295 with A <= B\n")
+words_line Format = Some (codes "error: FORMAT is `text`, `json`, `table` or `summary`\n")
+words_line Blocks = Some (codes "error: BY is `round` or `node`\n")
 words_line NoMemory = Some (codes "no memory\n")

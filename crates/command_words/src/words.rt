@@ -6,7 +6,7 @@ ghost use Rattle.command_words.specs.Commands.{roundc_app};
 ghost use Rattle.command_words.specs.Given.{Explains, FailsByDelta, FailsByDraw, FailsByExplore};
 ghost use Rattle.command_words.specs.Given.{FailsByFile, FailsByGst};
 ghost use Rattle.command_words.specs.Given.{FailsByJudge, FailsByList, FailsByLockstep};
-ghost use Rattle.command_words.specs.Given.{FailsByOmissions};
+ghost use Rattle.command_words.specs.Given.{FailsByOmissions, FailsByReport, FailsByRounds};
 ghost use Rattle.command_words.specs.Given.{FailsBySource, FailsByTable, FailsByThreads};
 ghost use Rattle.command_words.specs.Given.{FailsByTicks};
 ghost use Rattle.command_words.specs.Given.{FailsByValue, Gives, GivesDelta, GivesGst, GivesList};
@@ -20,6 +20,7 @@ use crate::changes::{Changes, changes_of};
 use crate::commands::roundc_command;
 use crate::drawing::{Drawing, drawing_of};
 use crate::exploring::{Exploring, exploring_of};
+use crate::forms::{Form, form_of};
 use crate::negative::{has_negative, has_negative_change, has_negative_list};
 use crate::values::{MAX_DELTA, Source, read_list, read_number, read_source};
 use clap::ArgMatches;
@@ -38,12 +39,12 @@ pub enum Words<'a> {
     Show {
         source: Source<'a>,
     },
-    /// `run SOURCE --schedule FILE [--decided]`; `schedule` is FILE as it was written, `-`
-    /// included.
+    /// `run SOURCE --schedule FILE [--decided] [--format FORMAT] [--by BY] [--changed]`;
+    /// `schedule` is FILE as it was written, `-` included.
     Run {
         source: Source<'a>,
         schedule: &'a str,
-        decided: bool,
+        form: Form,
     },
     /// `draw SOURCE --schedule FILE [--rounds RANGE] [--nodes LIST] [--html]`; `schedule` is as in
     /// `Run`.
@@ -90,13 +91,13 @@ pub enum Words<'a> {
         header: &'a str,
         omissions: &'a str,
     },
-    /// `rounds SOURCE --header FILE --omissions FILE [--decided]`; `header` and `omissions` are as
-    /// in `Realise`.
+    /// `rounds SOURCE --header FILE --omissions FILE [--decided] [--format FORMAT] [--by BY]
+    /// [--changed]`; `header` and `omissions` are as in `Realise`.
     Rounds {
         source: Source<'a>,
         header: &'a str,
         omissions: &'a str,
-        decided: bool,
+        form: Form,
     },
     /// `explore SOURCE --header FILE [--inputs INPUTS] [--faults FAULTS] [--clear C] [--hears M]
     /// [--check LIST] [--always EXPR] [--trace FILE]`; `header` is FILE as it was written, `-`
@@ -143,6 +144,10 @@ pub enum WordsFault {
     /// A RANGE that isn't two numbers of 1 to the largest of 32 bits with `-` between them, or
     /// whose first is larger than its last; also one that begins with a number below 0.
     Range,
+    /// A FORMAT that isn't `text`, `json`, `table` or `summary`.
+    Format,
+    /// A BY that isn't `round` or `node`.
+    Blocks,
     /// Memory ran out. Nothing is known of the words.
     NoMemory,
 }
@@ -192,6 +197,10 @@ impl fmt::Display for WordsFault {
                     "error: RANGE is A-B, two numbers of 1 to 4294967295 with A <= B"
                 )
             }
+            WordsFault::Format => {
+                writeln!(f, "error: FORMAT is `text`, `json`, `table` or `summary`")
+            }
+            WordsFault::Blocks => writeln!(f, "error: BY is `round` or `node`"),
             WordsFault::NoMemory => writeln!(f, "no memory"),
         }
     }
@@ -326,7 +335,7 @@ pub(crate) fn has_flag(matches: &ArgMatches<'_>, id: &str) -> bool
 }
 
 /// Whether `--decided` stands there.
-fn is_decided(matches: &ArgMatches<'_>) -> bool
+pub(crate) fn is_decided(matches: &ArgMatches<'_>) -> bool
     ensures { IsTrue result ↔ IsDecidedAsked (rows_of (found_of matches.now)) }
 {
     has_flag(matches, "decided")
@@ -351,6 +360,18 @@ fn gst_of(matches: &ArgMatches<'_>) -> Result<u32, WordsFault>
 {
     let text = text_of(matches, "gst")?;
     read_number(text).ok_or(WordsFault::Gst)
+}
+
+/// The values of the command `run`.
+fn run_of<'a>(matches: &ArgMatches<'a>) -> Result<Words<'a>, WordsFault>
+    ensures ok { IfOk result (Gives (codes "run") (rows_of (found_of matches.now))) }
+    ensures err { IfErr result (FailsByReport (rows_of (found_of matches.now))) }
+{
+    Ok(Words::Run {
+        source: source_of(matches)?,
+        schedule: text_of(matches, "schedule")?,
+        form: form_of(matches)?,
+    })
 }
 
 /// The values of the command `draw`.
@@ -425,14 +446,13 @@ fn realise_of<'a>(matches: &ArgMatches<'a>) -> Result<Words<'a>, WordsFault>
 /// The values of the command `rounds`.
 fn rounds_of<'a>(matches: &ArgMatches<'a>) -> Result<Words<'a>, WordsFault>
     ensures ok { IfOk result (Gives (codes "rounds") (rows_of (found_of matches.now))) }
-    ensures err { IfErr result (FailsByOmissions (rows_of (found_of matches.now))) }
+    ensures err { IfErr result (FailsByRounds (rows_of (found_of matches.now))) }
 {
-    let decided = is_decided(matches);
     Ok(Words::Rounds {
         source: source_of(matches)?,
         header: header_of(matches)?,
         omissions: omissions_of(matches)?,
-        decided,
+        form: form_of(matches)?,
     })
 }
 
@@ -464,11 +484,7 @@ fn command_of<'a>(
         "show" => Ok(Words::Show {
             source: source_of(matches)?,
         }),
-        "run" => Ok(Words::Run {
-            source: source_of(matches)?,
-            schedule: text_of(matches, "schedule")?,
-            decided: is_decided(matches),
-        }),
+        "run" => run_of(matches),
         "draw" => draw_of(alloc, matches),
         "threads" => threads_of(matches),
         "judge" => judge_of(alloc, matches),

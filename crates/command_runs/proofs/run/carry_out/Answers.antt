@@ -15,7 +15,7 @@ returns-in-Run-clause-refused g c =
     let w = c.in-Run in
     IfErr-weaker c.answer.result _ _
     (λ r h. subst (λ (w : Words). IsRefusedCommand w files r) (sym c.in-Run.is)
-    (run_refused w.source files w.schedule w.decided r h))
+    (run_refused w.source files w.schedule w.form r h))
     c.answer.ensures.refused
 
 pub returns-in-Judge-clause-refused : goal.returns-in-Judge-clause-refused

@@ -1,0 +1,25 @@
+use Rattle.std.proofs.Common.{inl, inr, subst, sym}
+use Rattle.std.proofs.lemmas.Result.{IfErr-weaker}
+use Rattle.command_runs.proofs.Serving.{said_as}
+use Rattle.command_runs.proofs.Telling.{unanswered_memory}
+use Rattle.command_runs.proofs.run.answer.Goals as goal
+use Rattle.command_runs.specs.Stages.{IsRefusedAnswer, listed_by}
+
+pub returns-clause-served : goal.returns-clause-served
+returns-clause-served g c =
+    said_as c.tell_answer.result c.tell_answer.ensures.said
+    (λ said. (c.in_ok-answer.answer, c.in_ok-answer.ensures.answer, said))
+
+pub returns-clause-refused : goal.returns-clause-refused
+returns-clause-refused g c =
+    let files = g.D.Desk.files c.args.desk.now in
+    let run = c.args.run in
+    let file = files run.schedule.now in
+    let cause = IsRefusedAnswer run.source files file c.args.question in
+    IfErr-weaker c.tell_answer.result _ cause
+    (λ r is. elim is [
+      | inl write ↦ subst cause (sym write) (c.in_ok-answer.answer, c.in_ok-answer.ensures.answer)
+      | inr memory ↦ subst cause (sym memory)
+          (unanswered_memory run.source files file (listed_by c.args.question))
+    ])
+    c.tell_answer.ensures.refused
