@@ -541,15 +541,33 @@ class Generator:
         return (ending.join(lines) + self.one(["", "\n"])).encode()
 
     def check_options(self, files):
-        return []
+        return self.answer_format()
+
+    def answer_format(self):
+        """Writes the option of an answer's format."""
+        wrong = ["", "JSON", "table", "json,text"]
+        return [("--format", self.number(["text", "json"], wrong))] * self.often(0.3)
 
     def run_options(self, files):
         option, _ = self.file("schedule", *self.schedule(self.values), files)
-        return [option] + [("--decided",)] * self.often(0.3)
+        return [option] + self.report_form()
+
+    def report_form(self):
+        """Writes the options of a report."""
+        options = [("--decided",)] * self.often(0.3) + [("--changed",)] * self.often(0.2)
+        if self.often(0.4):
+            forms = ["text", "json", "json", "table", "table", "table", "summary"]
+            options.append(("--format", self.number(forms, ["", "JSON", "csv", "tables"])))
+        if self.often(0.2):
+            options.append(("--by", self.number(["round", "node", "node"], ["", "rounds", "0"])))
+        if self.often(0.3):
+            lists = ["x", "x", "seen", "x,seen", "seen,x", "x,x"]
+            options.append(("--vars", self.number(lists, ["", "x,", ",", "y", "X", "x, seen"])))
+        return options
 
     def judge_options(self, files):
         option, nodes = self.file("schedule", *self.schedule(self.values), files)
-        return [option, *self.terms(nodes)]
+        return [option, *self.terms(nodes), *self.answer_format()]
 
     def threads_options(self, files):
         option, _ = self.file("setup", *self.thread_setup(self.values), files)
@@ -598,7 +616,7 @@ class Generator:
         return [option, other]
 
     def rounds_options(self, files):
-        return self.realise_options(files) + [("--decided",)] * self.often(0.4)
+        return self.realise_options(files) + self.report_form()
 
     def terms(self, nodes):
         """Writes the options of what is asked of a run."""

@@ -9,8 +9,10 @@ omissions that come of it; .ci/language.py reads the programs.
 import bisect
 import codecs
 import collections
+import json
 import re
 
+import reading_data
 from language import LARGEST, VALUES, Checked, Parser, Refused, value
 
 SOURCE_LIMIT, SCHEDULE_LIMIT = 65536, 16777216  # bytes
@@ -470,9 +472,19 @@ NEEDED = {
     "realise": ["header", "omissions"],
     "rounds": ["header", "omissions"],
 }
-ALLOWED = {"lockstep": ["delays", "orders", "ticks", "omissions"]}
+ALLOWED = {
+    "check": ["format"],
+    "judge": ["format"],
+    "lockstep": ["delays", "orders", "ticks", "omissions"],
+    "run": ["format", "by", "vars"],
+    "rounds": ["format", "by", "vars"],
+}
 REPEATED = {"lockstep": {"stop": 2, "delay": 4}}  # (how many values each use has)
-DECIDED = ("run", "threads", "rounds")
+FLAGS = {
+    "run": ("decided", "changed"),
+    "rounds": ("decided", "changed"),
+    "threads": ("decided",),
+}
 
 
 def read_words(words):
@@ -490,8 +502,8 @@ def read_words(words):
             sources.append(word)
         elif word == "--":
             is_behind = True
-        elif word == "--decided" and command in DECIDED and "decided" not in options:
-            options["decided"] = ""
+        elif word[:2] == "--" and word[2:] in FLAGS.get(command, ()) and word[2:] not in options:
+            options[word[2:]] = ""
         elif word.startswith("--") and name in repeated:
             values = [given] if equals else []
             while not equals and len(values) < repeated[name] and rest and is_value(rest[0]):
@@ -507,7 +519,7 @@ def read_words(words):
             raise BadWords
     if len(sources) != 1 or any(it not in options for it in needed):
         raise BadWords
-    check_forms(sources[0], options)
+    check_forms(command, sources[0], options)
     return command, sources[0], options
 
 
@@ -515,6 +527,7 @@ def is_value(word):
     return not word.startswith("-") or word == "-"
 
 
+NO_VARIABLE = "LIST of --vars is names of the program's variables with commas between them"
 NO_LIST = "error: LIST is numbers of 0 to 4294967295 with commas between them"
 
 
@@ -526,10 +539,16 @@ def is_list(text):
     return all(map(is_number, text.split(",")))
 
 
-def check_forms(source, options):
+def check_forms(command, source, options):
     """Refuses a value that hasn't its option's form, the source first."""
     if source.startswith("@") and not re.fullmatch(r"@[A-Za-z_][A-Za-z0-9_]*:[0-9]+", source):
         raise BadWords("error: SOURCE is a file, or `@`, a name, `:` and digits")
+    has_report = command in ("run", "rounds")
+    formats = ["text", "json"] + ["table", "summary"] * has_report
+    if has_report and options.get("format", "text") not in formats:
+        raise BadWords("error: FORMAT is `text`, `json`, `table` or `summary`")
+    if options.get("by", "round") not in ("round", "node"):
+        raise BadWords("error: BY is `round` or `node`")
     if not is_list(options.get("correct", "0")):
         raise BadWords(NO_LIST)
     delta = options.get("delta", "1")
@@ -543,6 +562,8 @@ def check_forms(source, options):
         raise BadWords("error: T is a number of 0 to 4294967295")
     if not all(is_number(it) for use in changes_in(options) for it in use):
         raise BadWords("error: `--stop` and `--delay` have numbers of 0 to 4294967295")
+    if options.get("format", "text") not in formats:
+        raise BadWords("error: FORMAT is `text` or `json`")
 
 
 def changes_in(options):
@@ -617,8 +638,12 @@ def carried_out(words, files):
     command, source, options = read_words(words)
     checked, setup, behind = program_and_run(command, source, options, files)
     if command == "check":
-        count = len(checked.variables)
-        return f"ok values {checked.values} period {checked.period} variables {count}\n"
+        declared = {
+            "values": checked.values,
+            "period": checked.period,
+            "variables": len(checked.variables),
+        }
+        return object_text(declared) if is_json(options) else words_text("ok", declared)
     correct = sorted({int(it) for it in options.get("correct", "").split(",") if it})
     if command == "threads":
         check_run(checked, setup, [], [node for node, _ in behind.stops])
@@ -630,7 +655,7 @@ def carried_out(words, files):
         check_run(checked, setup, [])
         check_omissions(setup, behind)
         run = Rounds(Algorithm(checked, setup), behind)
-        return run.schedule() if command == "realise" else run.report() + run.told(options)
+        return run.schedule() if command == "realise" else formed(run, checked, options)
     if command == "lockstep":
         check_run(checked, setup, [], correct)
         check_omissions(setup, behind)
@@ -638,8 +663,57 @@ def carried_out(words, files):
     check_run(checked, setup, behind, correct)
     run = Run(Algorithm(checked, setup), behind)
     if command == "judge":
-        return run.verdict(behind, correct, int(options["delta"]), int(options["gst"]))
-    return run.report() + run.told(options)
+        text = run.verdict(behind, correct, int(options["delta"]), int(options["gst"]))
+        return verdict_object(text) if is_json(options) else text
+    return formed(run, checked, options)
+
+
+def is_json(options):
+    return options.get("format") == "json"
+
+
+def object_text(members):
+    """Returns a line of JSON."""
+    return json.dumps(members, separators=(",", ":")) + "\n"
+
+
+def words_text(first, members):
+    return " ".join([first, *(f"{name} {number}" for name, number in members.items())]) + "\n"
+
+
+def verdict_object(text):
+    """Returns a verdict as a line of JSON."""
+    words = text.split()
+    values = {"yes": True, "no": False, "none": None}
+    told = zip(words[::2], words[1::2])
+    return object_text({name: values[it] if it in values else int(it) for name, it in told})
+
+
+def places_of(names, options):
+    """Returns the places of the variables that a table has, or none if it has all."""
+    if "vars" not in options:
+        return None
+    asked = options["vars"].split(",")
+    if not set(asked) <= set(names):
+        raise Refused(f"table: {NO_VARIABLE}")
+    return [names.index(it) for it in asked]
+
+
+def formed(run, checked, options):
+    """Returns the report in the form that the options ask for."""
+    plain, form = run.report(), options.get("format", "text")
+    if form == "text":
+        return plain + run.told(options)
+    report = reading_data.report_of(plain)
+    if form == "json":
+        all_decided = {"-": "null", "split": '"split"'}.get(run.decided(), run.decided())
+        last = f'{{"decided":{all_decided}}}\n' if "decided" in options else ""
+        return reading_data.json_text(report) + last
+    if form == "summary":
+        return reading_data.summary_text(report) + run.told(options)
+    places = places_of([it.name for it in checked.variables], options)
+    by, changed = options.get("by", "round"), "changed" in options
+    return reading_data.table_text(report, by, places, changed) + run.told(options)
 
 
 # Runs by threads

@@ -455,6 +455,17 @@ def in_options(setup, omissions, options, files, correct):
     return tuple(found)
 
 
+def in_columns(source, options, files):
+    """Tells of the first name in a list of variables that is that of none."""
+    checked = reading.program_and_run("check", source, {}, files)[0]
+    variables, first = [it.name for it in checked.variables], 0
+    for name in options["vars"].split(","):
+        if name not in variables:
+            return f"--vars:1:{first + 1}: this name isn't a variable of the program\n"
+        first += len(name) + 1
+    raise AssertionError(f"all are variables: {options['vars']}")
+
+
 def refusal(words, files, cause):
     """Returns how the words begin that tell why a command is refused; of several beginnings any may
     be."""
@@ -471,6 +482,8 @@ def refusal(words, files, cause):
         return in_lines(options, files, cause)
     if kind == "run":
         return in_run(command, source, options, files, cause)
+    if kind == "table:":
+        return in_columns(source, options, files)
     return ""  # (whether a trace can be written isn't told)
 
 

@@ -4,6 +4,11 @@
 _roundc_choices() {
     case $1 in
         ' 1') choices='check show run draw threads judge lockstep realise rounds explore help' ;;
+        'check --format' | \
+        'run --format' | \
+        'judge --format' | \
+        'rounds --format' | \
+        'explore --format') choices='text json table summary' ;;
         'check 1' | \
         'show 1' | \
         'run 1' | \
@@ -27,6 +32,8 @@ _roundc_choices() {
         'rounds --omissions' | \
         'explore --header' | \
         'explore --trace') files=yes ;;
+        'run --by' | \
+        'rounds --by') choices='round node' ;;
         'explore --inputs') choices='header any' ;;
         'explore --faults') choices='none omission crash' ;;
         'help 1') choices='check show run draw threads judge lockstep realise rounds explore' ;;
@@ -37,16 +44,16 @@ _roundc_choices() {
 _roundc_options() {
     case $1 in
         '' | \
-        'check' | \
         'show') options='-h --help -V --version' ;;
-        'run') options='--schedule --decided -h --help -V --version' ;;
+        'check') options='--format -h --help -V --version' ;;
+        'run') options='--schedule --decided --format --by --vars --changed -h --help -V --version' ;;
         'draw') options='--schedule --rounds --nodes --html -h --help -V --version' ;;
         'threads') options='--setup --trace --decided -h --help -V --version' ;;
-        'judge') options='--schedule --correct --delta --gst -h --help -V --version' ;;
+        'judge') options='--schedule --correct --delta --gst --format -h --help -V --version' ;;
         'lockstep') options='--header --correct --delta --gst --delays --orders --ticks --stop --omissions --delay -h --help -V --version' ;;
         'realise') options='--header --omissions -h --help -V --version' ;;
-        'rounds') options='--header --omissions --decided -h --help -V --version' ;;
-        'explore') options='--header --inputs --faults --clear --hears --check --always --trace -h --help -V --version' ;;
+        'rounds') options='--header --omissions --decided --format --by --vars --changed -h --help -V --version' ;;
+        'explore') options='--header --inputs --faults --clear --hears --check --always --trace --format -h --help -V --version' ;;
         'help') options='' ;;
         *) return 1 ;;
     esac
@@ -54,7 +61,11 @@ _roundc_options() {
 
 _roundc_takes_value() {
     case $1 in
+        'check --format' | \
         'run --schedule' | \
+        'run --format' | \
+        'run --by' | \
+        'run --vars' | \
         'draw --schedule' | \
         'draw --rounds' | \
         'draw --nodes' | \
@@ -64,6 +75,7 @@ _roundc_takes_value() {
         'judge --correct' | \
         'judge --delta' | \
         'judge --gst' | \
+        'judge --format' | \
         'lockstep --header' | \
         'lockstep --correct' | \
         'lockstep --delta' | \
@@ -78,6 +90,9 @@ _roundc_takes_value() {
         'realise --omissions' | \
         'rounds --header' | \
         'rounds --omissions' | \
+        'rounds --format' | \
+        'rounds --by' | \
+        'rounds --vars' | \
         'explore --header' | \
         'explore --inputs' | \
         'explore --faults' | \
@@ -85,7 +100,8 @@ _roundc_takes_value() {
         'explore --hears' | \
         'explore --check' | \
         'explore --always' | \
-        'explore --trace') return 0 ;;
+        'explore --trace' | \
+        'explore --format') return 0 ;;
         *) return 1 ;;
     esac
 }

@@ -1,7 +1,7 @@
 # Completions of roundc for fish, made by .ci/manual from what `roundc help` says.
 
 # The options that take a value.
-set -g __roundc_valued --always --check --clear --correct --delay --delays --delta --faults --gst --header --hears --inputs --nodes --omissions --orders --rounds --schedule --setup --stop --ticks --trace
+set -g __roundc_valued --always --by --check --clear --correct --delay --delays --delta --faults --format --gst --header --hears --inputs --nodes --omissions --orders --rounds --schedule --setup --stop --ticks --trace --vars
 
 # The words of the line behind `roundc`, without options and their values.
 function __roundc_words
@@ -43,6 +43,7 @@ complete -c roundc -n "__roundc_at '' 0" -a help -d 'Print this message or the h
 complete -c roundc -n "__roundc_at '' 0" -s h -l help -d 'Print help'
 complete -c roundc -n "__roundc_at '' 0" -s V -l version -d 'Print version'
 
+complete -c roundc -n "__roundc_at 'check'" -l format -r -x -a 'text json table summary' -d 'text (by default) or json'
 complete -c roundc -n "__roundc_at 'check'" -s h -l help -d 'Print help'
 complete -c roundc -n "__roundc_at 'check'" -s V -l version -d 'Print version'
 complete -c roundc -n "__roundc_at 'check' 0" -F -a '@gather: @count_votes: @dls1:'
@@ -53,6 +54,10 @@ complete -c roundc -n "__roundc_at 'show' 0" -F -a '@gather: @count_votes: @dls1
 
 complete -c roundc -n "__roundc_at 'run'" -l schedule -r -F -d 'The schedule\'s file, or - for standard input'
 complete -c roundc -n "__roundc_at 'run'" -l decided -d 'Adds a line that says what all decisions come to'
+complete -c roundc -n "__roundc_at 'run'" -l format -r -x -a 'text json table summary' -d 'text (by default), json, table or summary'
+complete -c roundc -n "__roundc_at 'run'" -l by -r -x -a 'round node' -d 'What the blocks of a table are: round (by default) or node'
+complete -c roundc -n "__roundc_at 'run'" -l vars -r -x -d 'The variables of a table, as x,seen; all by default'
+complete -c roundc -n "__roundc_at 'run'" -l changed -d 'Has a table show only rows whose state or decision changed'
 complete -c roundc -n "__roundc_at 'run'" -s h -l help -d 'Print help'
 complete -c roundc -n "__roundc_at 'run'" -s V -l version -d 'Print version'
 complete -c roundc -n "__roundc_at 'run' 0" -F -a '@gather: @count_votes: @dls1:'
@@ -76,6 +81,7 @@ complete -c roundc -n "__roundc_at 'judge'" -l schedule -r -F -d 'The schedule\'
 complete -c roundc -n "__roundc_at 'judge'" -l correct -r -x -d 'The correct nodes, as 0,2,3'
 complete -c roundc -n "__roundc_at 'judge'" -l delta -r -x -d 'The delay bound in steps, 1 to 1024'
 complete -c roundc -n "__roundc_at 'judge'" -l gst -r -x -d 'The step from which the bound is to hold'
+complete -c roundc -n "__roundc_at 'judge'" -l format -r -x -a 'text json table summary' -d 'text (by default) or json'
 complete -c roundc -n "__roundc_at 'judge'" -s h -l help -d 'Print help'
 complete -c roundc -n "__roundc_at 'judge'" -s V -l version -d 'Print version'
 complete -c roundc -n "__roundc_at 'judge' 0" -F -a '@gather: @count_votes: @dls1:'
@@ -103,6 +109,10 @@ complete -c roundc -n "__roundc_at 'realise' 0" -F -a '@gather: @count_votes: @d
 complete -c roundc -n "__roundc_at 'rounds'" -l header -r -F -d 'The file of the five header lines, or - for standard input'
 complete -c roundc -n "__roundc_at 'rounds'" -l omissions -r -F -d 'The file of the omitted messages, or - for standard input'
 complete -c roundc -n "__roundc_at 'rounds'" -l decided -d 'Adds a line that says what all decisions come to'
+complete -c roundc -n "__roundc_at 'rounds'" -l format -r -x -a 'text json table summary' -d 'text (by default), json, table or summary'
+complete -c roundc -n "__roundc_at 'rounds'" -l by -r -x -a 'round node' -d 'What the blocks of a table are: round (by default) or node'
+complete -c roundc -n "__roundc_at 'rounds'" -l vars -r -x -d 'The variables of a table, as x,seen; all by default'
+complete -c roundc -n "__roundc_at 'rounds'" -l changed -d 'Has a table show only rows whose state or decision changed'
 complete -c roundc -n "__roundc_at 'rounds'" -s h -l help -d 'Print help'
 complete -c roundc -n "__roundc_at 'rounds'" -s V -l version -d 'Print version'
 complete -c roundc -n "__roundc_at 'rounds' 0" -F -a '@gather: @count_votes: @dls1:'
@@ -115,6 +125,7 @@ complete -c roundc -n "__roundc_at 'explore'" -l hears -r -x -d 'How many nodes 
 complete -c roundc -n "__roundc_at 'explore'" -l check -r -x -d 'Of agreement, validity, final and termination; by default the first three'
 complete -c roundc -n "__roundc_at 'explore'" -l always -r -x -d 'What is to be true of each node\'s state after each round'
 complete -c roundc -n "__roundc_at 'explore'" -l trace -r -F -d 'The file that a run\'s schedule is written to if a property fails'
+complete -c roundc -n "__roundc_at 'explore'" -l format -r -x -a 'text json table summary' -d 'text (by default) or json'
 complete -c roundc -n "__roundc_at 'explore'" -s h -l help -d 'Print help'
 complete -c roundc -n "__roundc_at 'explore'" -s V -l version -d 'Print version'
 complete -c roundc -n "__roundc_at 'explore' 0" -F -a '@gather: @count_votes: @dls1:'

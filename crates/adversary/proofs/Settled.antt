@@ -110,7 +110,7 @@ module _ (start receives : ℕ → ℕ) (nodes : ℕ) (laws : PlanLaws nodes rec
         starts_apart laws 1 (omega arith),
       )
 
-  -- where no due round is open, a round is closed exactly where it's due
+  -- if no due round is open, a round is closed exactly if it's due
   pub closed_are_due : (v : Log) → IsFaithful start v → AreSettled start v → ClosedAreDue start v
   closed_are_due v faithful settled i r node some last = (
     (λ closed. omega (
@@ -133,7 +133,7 @@ module _ (start receives : ℕ → ℕ) (nodes : ℕ) (laws : PlanLaws nodes rec
     ]),
   )
 
--- where no due round is open, the next step is one of the node's round
+-- if no due round is open, the next step is one of the node's round
 pub in_round : (start : ℕ → ℕ) (v : Log) (i : ℕ) → IsFaithful start v → i < v.setup.nodes
     → round_of v i ≤ v.setup.rounds → IsSettled start v i → IsInRound start v i
 in_round start v i faithful node last settled = record {

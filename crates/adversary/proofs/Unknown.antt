@@ -91,7 +91,7 @@ unknown_left s stored whole fault.NoMemory h = absurd h
 unknown_left s stored whole fault.NoThread h = absurd h
 unknown_left s stored whole fault.Unmatched h = absurd h
 
--- where all before it are known, the first unknown event of what follows is that of the whole
+-- if all before it are known, the first unknown event of what follows is that of the whole
 known_past : (s : Setup) (before events : List Event) (k : ℕ) → All (IsKnown s) before
     → ((j : ℕ) (d : Event) → j < k → IsKnown s (get_or events j d))
     → (j : ℕ) (d : Event) → j < length before + k → IsKnown s (get_or (before ++ events) j d)

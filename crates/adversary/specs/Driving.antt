@@ -66,7 +66,7 @@ IsSettled start v i = ¬ (IsDue start v i)
 abbrev pub AreSettled : (ℕ → ℕ) → Log → Type 0
 AreSettled start v = (i : ℕ) → i < v.setup.nodes → IsSettled start v i
 
--- a round of a node is closed exactly where the node has taken all its steps
+-- a round of a node is closed exactly if the node has taken all its steps
 abbrev pub ClosedAreDue : (ℕ → ℕ) → Log → Type 0
 ClosedAreDue start v =
     (i r : ℕ) → i < v.setup.nodes → 0 < r → r ≤ v.setup.rounds

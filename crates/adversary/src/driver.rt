@@ -111,7 +111,7 @@ impl<P: Plan> Driver<P> {
     }
 
     /// The same with events that may name what the run hasn't, up to the first that does. Where one
-    /// does, and where there is no memory, the run is gone.
+    /// does, and if there is no memory, the run is gone.
     pub(crate) fn act_known(self, events: &[StoredEvent]) -> Result<Driver<P>, RunFault>
         ensures known { IfOk result (λ _driver. All (IsKnown self.log.setup) events.now) }
         ensures plan { IfOk result (λ driver. driver.plan ≡ self.plan) }
@@ -212,7 +212,7 @@ fn copy<P: Plan>(journal: &mut Journal<P>, name: Name) -> Result<(), NoMemory>
     Ok(())
 }
 
-/// The node's next step, and the end of its round where that is due.
+/// The node's next step, and the end of its round if that is due.
 #[inline(always)]
 fn step<P: Plan>(journal: &mut Journal<P>, node: &mut Node, me: u32) -> Result<(), NoMemory>
     requires rounds { journal.old.log.setup.rounds ≤ max_rounds }

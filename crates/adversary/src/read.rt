@@ -21,7 +21,7 @@ use stored_events::Events;
 ///
 /// A text that is no schedule is refused before a setup that isn't lawful, and that before an event
 /// that names what the run hasn't. Where there is no memory to read on or to open the run, that is
-/// told at once; where there is none to run an event, when the rest of the text was read.
+/// told at once; if there is none to run an event, when the rest of the text was read.
 pub fn run_read<P: Plan, S: TextSource + Drop>(
     alloc: Global,
     program: &Checked,
@@ -74,7 +74,7 @@ fn run_on<P: Plan>(driver: Driver<P>, events: &Events) -> Result<Driver<P>, RunF
 }
 
 /// The refusal of a run that is refused before the rest of its schedule was read: the text's own
-/// fault where it is no schedule, and else this one.
+/// fault if it is no schedule, and else this one.
 pub fn refused_after<S: TextSource + Drop>(
     alloc: Global,
     reader: ScheduleReader<S>,

@@ -6,7 +6,7 @@
 //!
 //! FILE has a program. Each line of standard input is an act of the node, and a line of standard
 //! output its answer. What the program's code answers is asked of the evaluator too, and stands
-//! there once where they agree:
+//! there once if they agree:
 //!
 //! - `start`: the initial state.
 //! - `send ROUND DEST STATE`: what the node sends in a state, which no run need reach.

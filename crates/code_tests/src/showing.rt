@@ -39,7 +39,7 @@ fn show_message(out: &mut String, message: Option<&Message>) -> Result<(), Fault
     }
 }
 
-/// What the code and the evaluator answer, once where they agree.
+/// What the code and the evaluator answer, once if they agree.
 pub fn show_both(out: &mut String, both: &Both) -> Result<(), Fault> {
     let (code, evaluated) = (both.code.as_ref(), both.evaluated.as_ref());
     if both.agree() {

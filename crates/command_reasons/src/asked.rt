@@ -2,6 +2,7 @@
 ghost use Rattle.std.specs.Prelude.{◌≡◌};
 
 use crate::before_threads::refused_before_threads;
+use crate::columns::tell_columns;
 use crate::condition::tell_condition;
 use crate::files::{CommandFiles, FileKind, TellingDesk, source_of};
 use crate::held_desk::HeldDesk;
@@ -92,7 +93,9 @@ impl<'w, 'a> AskedCommand<'w, 'a> {
     /// Tells what the run of a schedule came to and why, if that is asked and the run is served.
     fn tell_reasons<O: Write>(&self, out: &mut O) -> Result<bool, Refusal> {
         let question = match self.command {
-            Words::Run { decided, .. } => RunQuestion::Report { decided: *decided },
+            Words::Run { form, .. } => RunQuestion::Report {
+                decided: form.decided,
+            },
             Words::Judge {
                 correct,
                 delta,
@@ -127,6 +130,7 @@ impl<'w, 'a> AskedCommand<'w, 'a> {
             Refusal::Library(fault) => self.tell_library(*fault, out)?,
             Refusal::NoSuchProgram => self.tell_no_program(out)?,
             Refusal::Run(fault) => self.tell_run_fault(*fault, out)?,
+            Refusal::NoVariable => { tell_columns(self.alloc, self.command, self.files, out)? }
             Refusal::NoMemory => return Err(Refusal::NoMemory),
             _ => false,
         };

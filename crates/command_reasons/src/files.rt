@@ -187,7 +187,7 @@ fn names_of<'a>(alloc: Global, command: &Words<'a>) -> Result<Vec<NamedFile<'a>>
 /// The source that a command names.
 pub(crate) fn source_of<'a>(command: &Words<'a>) -> Source<'a> {
     match command {
-        Words::Check { source } => *source,
+        Words::Check { source, .. } => *source,
         Words::Show { source } => *source,
         Words::Run { source, .. } => *source,
         Words::Draw { source, .. } => *source,

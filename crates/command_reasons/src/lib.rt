@@ -4,6 +4,7 @@
 mod asked;
 mod before_threads;
 mod byte_source;
+mod columns;
 mod condition;
 mod decision_lines;
 mod explain;

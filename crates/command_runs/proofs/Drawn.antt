@@ -1,5 +1,5 @@
 -- From the run of a schedule to its picture, and to why there is none.
-use Rattle.std.proofs.Common.{◌≡◌, ◌<◌, ◌≤◌, ◌⊎◌, inl, inr, ℕ, All, List, Option, None, Some, refl}
+use Rattle.std.proofs.Common.{◌≡◌, ◌⊎◌, inl, inr, ℕ, List, Option, None, Some, refl}
 use Rattle.std.proofs.Common.{Err, Ok, Result, subst, sym}
 use Rattle.std.specs.Borrow.{Bor}
 use Rattle.std.specs.Prelude.{IfOk, IfSome}
@@ -108,7 +108,7 @@ not_drawn p s k events d refusal.TooManyEvents plan none =
 not_drawn p s k events d refusal.NoMemory plan none = tt
 not_drawn p s k events d r plan none = absurd none
 
--- where there is no plan, the setup is bad
+-- if there is no plan, the setup is bad
 pub no_known_picture : (p : ProgramTree) (s : Setup) (delta : ℕ) (d : Drawing)
     → ¬ (IsNodeCount s.nodes × IsDelta delta) → ¬ (IsDrawable p s (Known delta) d)
 no_known_picture p s delta d none is =
@@ -176,4 +176,5 @@ module _ (source : Source) (files : Files) (schedule : Bor (List ℕ)) (d : Draw
   draw_refused refusal.NoSuchProgram h = h
   draw_refused (refusal.Run f) h = h
   draw_refused refusal.TooManyEvents h = h
+  draw_refused refusal.NoVariable h = h
   draw_refused refusal.NoMemory h = h

@@ -23,10 +23,11 @@ use Rattle.command_runs.specs.declared.outcome.Outcome.TheVariants.{Done, No}
 use Rattle.command_runs.specs.declared.refusal.Refusal.{Refusal}
 use Rattle.command_runs.specs.declared.refusal.Refusal.TheVariants as refusal
 use Rattle.command_words.specs.declared.exploring.Exploring.{Exploring}
+use Rattle.command_words.specs.declared.forms.AnswerFormat.{AnswerFormat}
 use Rattle.command_words.specs.declared.values.Source.{Source}
 use Rattle.command_words.specs.declared.values.Source.TheVariants as source
 use Rattle.command_words.specs.declared.words.Words.TheVariants as words
-use Rattle.exploration_texts.specs.Lines.{answers_text, comment_text, name_text}
+use Rattle.exploration_texts.specs.Lines.{answers_as, comment_text, name_text}
 use Rattle.exploration_texts.specs.Stops.{steps_of}
 use Rattle.exploration_texts.specs.Told.{IsFirstNo, all_hold}
 use Rattle.exploration_texts.specs.declared.told.PropertyName.{PropertyName}
@@ -151,7 +152,7 @@ module _ (source : Source) (files : Files) (e : Exploring) (found : Found) where
     has_trace s k e.trace after found.told.items (trace_of found) holds h.trace,
   )
 
-  -- also where nothing is known of the files after it
+  -- also if nothing is known of the files after it
   pub tells_at_first : (file : Option (List ℕ)) → FindsIn source files file e found
       → TellsOfAll source files (λ name. None) file e found.told.items
   tells_at_first file h = tells_of_all file (λ name. None) (nothing e.trace _) h
@@ -175,7 +176,7 @@ outcome_no told name c h = outcome_not told (first_no told name c h)
 outcome_yes : (told : List Told) → all_hold told ≡ true → Done ≡ outcome_of told
 outcome_yes told h = rw h refl
 
--- a trace is made just where one is asked for and a property fails
+-- a trace is made just if one is asked for and a property fails
 pub trace_made : (receives start : ℕ → ℕ) (s : Setup) (k : PlanKind)
     (name : Option (Bor (List ℕ))) (told : List Told) (trace : Option (List ℕ))
     → IsTrace receives start s k name told trace → IsMade name told trace
@@ -201,19 +202,20 @@ no_room (source.File name) files file e = inl tt
 no_room (source.Library name values) files file e = inr (inl (tt, tt))
 
 -- why the command is refused
-module _ (source : Source) (files : Files) (header : Bor (List ℕ)) (e : Exploring) where
+module _ (source : Source) (files : Files) (header : Bor (List ℕ)) (e : Exploring)
+    (format : AnswerFormat) where
   -- nothing was written, though there was something to write
   pub explore_unwritten : (found : Found) (r : Refusal)
       → FindsIn source files (files header.now) e found → (r ≡ refusal.Write)
-      ⊎ (r ≡ refusal.NoMemory) → IsRefusedCommand (words.Explore source header e) files r
+      ⊎ (r ≡ refusal.NoMemory) → IsRefusedCommand (words.Explore source header e format) files r
   explore_unwritten found r h (inl same) =
-      subst (IsRefusedCommand (words.Explore source header e) files) (sym same) (inr (
+      subst (IsRefusedCommand (words.Explore source header e format) files) (sym same) (inr (
         (λ name. None),
-        answers_text found.told.items,
+        answers_as format found.told.items,
         (found.told.items, tells_at_first source files e found (files header.now) h, refl),
       ))
   explore_unwritten found r h (inr same) =
-      subst (IsRefusedCommand (words.Explore source header e) files) (sym same)
+      subst (IsRefusedCommand (words.Explore source header e format) files) (sym same)
       (no_room source files (files header.now) e)
 
 -- ---- the status

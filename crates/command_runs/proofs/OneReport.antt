@@ -79,7 +79,7 @@ same_closed v w r i first h (inl is) = let also : nat_lt r (round_of v i) ≡ tr
 same_closed v w r i first h (inr isnt) = let also : nat_lt r (round_of v i) ≡ false =
     grind (arith, nat_tests) in isnt ∙ sym also
 
--- where as many rounds of each of the first n nodes are closed, the same ones are listed
+-- if as many rounds of each of the first n nodes are closed, the same ones are listed
 same_below : (v w : Log) (r n : ℕ) → 0 < r → ((i : ℕ) → i < n → round_of w i - 1 ≡ round_of v i - 1)
     → closed_below w n r ≡ closed_below v n r
 same_below v w r zero first h = refl

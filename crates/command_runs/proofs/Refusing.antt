@@ -137,6 +137,7 @@ no_file_program file (text.Whole bytes) (refusal.Schedule f) is none = absurd no
 no_file_program file (text.Whole bytes) (refusal.Library f) is none = absurd none.1
 no_file_program file (text.Whole bytes) refusal.NoSuchProgram is none = absurd none.1
 no_file_program file (text.Whole bytes) refusal.TooManyEvents is none = absurd none.1
+no_file_program file (text.Whole bytes) refusal.NoVariable is none = absurd none.1
 no_file_program file (text.Whole bytes) (refusal.Run f) is none = absurd none.1
 no_file_program file (text.Whole bytes) refusal.Write is none = absurd none.1
 no_file_program file (text.Whole bytes) refusal.NodeNoMemory is none = absurd none.1
@@ -238,6 +239,7 @@ no_text HasFault file (text.Whole bytes) (refusal.Condition f) is none = absurd 
 no_text HasFault file (text.Whole bytes) (refusal.Library f) is none = absurd none.1
 no_text HasFault file (text.Whole bytes) refusal.NoSuchProgram is none = absurd none.1
 no_text HasFault file (text.Whole bytes) refusal.TooManyEvents is none = absurd none.1
+no_text HasFault file (text.Whole bytes) refusal.NoVariable is none = absurd none.1
 no_text HasFault file (text.Whole bytes) (refusal.Run f) is none = absurd none.1
 no_text HasFault file (text.Whole bytes) refusal.Write is none = absurd none.1
 no_text HasFault file (text.Whole bytes) refusal.NodeNoMemory is none = absurd none.1
@@ -418,10 +420,11 @@ not_run p s k events correct (refusal.Schedule f) plan none = absurd none
 not_run p s k events correct (refusal.Library f) plan none = absurd none
 not_run p s k events correct refusal.NoSuchProgram plan none = absurd none
 not_run p s k events correct refusal.TooManyEvents plan none = absurd none
+not_run p s k events correct refusal.NoVariable plan none = absurd none
 not_run p s k events correct refusal.Write plan none = absurd none
 not_run p s k events correct refusal.NodeNoMemory plan none = absurd none
 
--- where there is no plan, the setup is bad
+-- if there is no plan, the setup is bad
 pub no_known_plan : (p : ProgramTree) (s : Setup) (delta : ℕ) (correct : List ℕ)
     → ¬ (IsNodeCount s.nodes × IsDelta delta) → ¬ (IsRunnable p s (Known delta) correct)
 no_known_plan p s delta correct none is =

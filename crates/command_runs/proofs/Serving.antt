@@ -1,7 +1,7 @@
 -- From what each layer answers to what a command prints.
 use Rattle.std.proofs.Common.{◌≡◌, ℕ, List, Option, Some, None, Result, Ok, Err, sym, ap, ◌∙◌}
 use Rattle.std.proofs.Common.{subst}
-use Rattle.std.specs.Prelude.{IfSome, IsOk, OnOk}
+use Rattle.std.specs.Prelude.{IfOk, IfSome, IsOk, OnOk}
 use Rattle.std.specs.Io.KnownBytes.{Appends, Keeps}
 use Rattle.round_meaning.specs.declared.setup.Setup.{Setup}
 use Rattle.schedule_text.specs.Readers.{IsOpened, Reading}
@@ -45,12 +45,14 @@ answers_run source files p s k r (question.Report told) None (answer.Report repo
 answers_run source files p s k r (question.Report told) (Some held) (answer.Report report shown) is
     begun said =
     (said.2.0, (s, k, said.0, p, read_as (Some held) s k r said.0 begun said.1, is, said.2.1))
-answers_run source files p s k r (question.Verdict t) None (answer.Verdict v) is begun said = tt
-answers_run source files p s k r (question.Verdict t) (Some held) (answer.Verdict v) is begun said =
-    (s, k, said.0, p, read_as (Some held) s k r said.0 begun said.1, is, said.2)
-answers_run source files p s k r (question.Report told) file (answer.Verdict v) is begun said =
-    absurd said.2
-answers_run source files p s k r (question.Verdict t) file (answer.Report report shown) is begun
+answers_run source files p s k r (question.Verdict t f) None (answer.Verdict v shown) is begun
+    said = (said.2.0, tt)
+answers_run source files p s k r (question.Verdict t f) (Some held) (answer.Verdict v shown) is
+    begun said =
+    (said.2.0, (s, k, said.0, p, read_as (Some held) s k r said.0 begun said.1, is, said.2.1))
+answers_run source files p s k r (question.Report told) file (answer.Verdict v shown) is begun
+    said = absurd said.2
+answers_run source files p s k r (question.Verdict t f) file (answer.Report report shown) is begun
     said = absurd said.2
 
 -- what was written and then kept was written
@@ -82,3 +84,14 @@ pub answered_as : (start receives starts waits : ℕ → ℕ) (p : ProgramTree) 
 answered_as start receives starts waits p s r q a same also h =
     subst (λ f. IsAnswered starts f p s r q a) also
     (subst (λ f. IsAnswered f receives p s r q a) same h)
+
+-- what follows from what an answer says where there is one
+pub said_as : {T E P Q : Type 0} (r : Result T E) → OnOk r P → (P → Q) → OnOk r Q
+said_as (Ok x) p f = f p
+said_as (Err e) p f = tt
+
+-- what is served, with how it ended
+pub ended_as : {T E P Q : Type 0} (r : Result T E) (done : T) → IfOk r (λ o. o ≡ done) → OnOk r P
+    → (P → Q) → IfOk r (λ o. (o ≡ done) × Q)
+ended_as (Ok x) done is p f = (is, f p)
+ended_as (Err e) done is p f = tt

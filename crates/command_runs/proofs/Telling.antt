@@ -1,28 +1,36 @@
 -- From what the parts of a command answer to what the command does.
-use Rattle.std.proofs.Common.{Bool, Bor, ◌++◌, ◌≡◌, inl, inr, ℕ, List, [], Option, Some, None}
-use Rattle.std.proofs.Common.{Result, Ok, Err, refl, sym, subst}
-use Rattle.std.specs.Prelude.{IfErr, IfSome, codes}
+use Rattle.std.proofs.Common.{Bool, Bor, ◌≡◌, inl, inr, ℕ, List, [], Option, Some, None}
+use Rattle.std.proofs.Common.{Result, Ok, Err, ap, refl, sym, subst}
+use Rattle.std.specs.Prelude.{IfErr, IfSome}
 use Rattle.std.specs.Global.{Vec}
 use Rattle.std.specs.Io.KnownBytes.{Keeps}
 use Rattle.adversary.specs.declared.fault.RunFault.TheVariants as run
 use Rattle.command_runs.specs.Refused.{IsNoOffer, IsNoProgram, IsNotOffered, IsNotRun}
 use Rattle.command_runs.specs.Refused.{IsOpened, IsRefusedCommand, IsRefusedInTurn, IsSilent}
-use Rattle.command_runs.specs.Refused.{IsUnanswered}
+use Rattle.command_runs.specs.Refused.{IsUnanswered, IsUnrealised}
 use Rattle.command_runs.specs.Refused.{Fault, HasNoText, Later, fault_in}
-use Rattle.command_runs.specs.Served.{IsCheckedSource, JudgesRun, Opens}
-use Rattle.command_runs.specs.Served.{file_name, told_text}
-use Rattle.command_runs.specs.Stages.{IsHeldBack, IsRefusedAnswer}
+use Rattle.command_runs.specs.Served.{AnswersRun, IsCheckedSource, JudgesRun, NamesColumns, Opens}
+use Rattle.command_runs.specs.Served.{IsFormed, IsReportText, ReportsRounds, Serves, data_text}
+use Rattle.command_runs.specs.Served.{file_name, told_text, verdict_as}
+use Rattle.command_runs.specs.Stages.{IsHeldBack, IsRefusedAnswer, IsUntold, IsUntoldReport}
+use Rattle.command_runs.specs.Stages.{TellsAnswer}
 use Rattle.command_runs.specs.Texts.{Files}
+use Rattle.command_runs.specs.declared.asking.Answer.{Answer}
 use Rattle.command_runs.specs.declared.asking.Answer.TheVariants as answer
+use Rattle.command_runs.specs.declared.asking.Question.{Question}
 use Rattle.command_runs.specs.declared.asking.Question.TheVariants as question
 use Rattle.command_runs.specs.declared.refusal.Refusal.{Refusal}
 use Rattle.command_runs.specs.declared.refusal.Refusal.TheVariants as refusal
 use Rattle.command_runs.specs.declared.sources.Opened.{Opened}
 use Rattle.command_runs.specs.declared.sources.Opened.TheVariants as opened
+use Rattle.command_words.specs.declared.forms.AnswerFormat.{AnswerFormat}
+use Rattle.command_words.specs.declared.forms.Form.{Form}
+use Rattle.command_words.specs.declared.forms.Format.{Format}
+use Rattle.command_words.specs.declared.forms.Format.TheVariants as format
 use Rattle.command_words.specs.declared.values.Source.{Source}
 use Rattle.command_words.specs.declared.values.Source.TheVariants as source
 use Rattle.command_words.specs.declared.words.Words.TheVariants as words
-use Rattle.omission_explainer.specs.Verdict.{verdict_text}
+use Rattle.omission_explainer.specs.declared.report.Report.{Report}
 use Rattle.round_lang.specs.Syntax.{ProgramTree}
 use Rattle.round_meaning.specs.declared.setup.Setup.{Setup}
 use Rattle.schedule_text.specs.Texts.{Tail}
@@ -48,6 +56,7 @@ silent_same x (refusal.Library f) = keeps_same x
 silent_same x refusal.NoSuchProgram = keeps_same x
 silent_same x (refusal.Run f) = keeps_same x
 silent_same x refusal.TooManyEvents = keeps_same x
+silent_same x refusal.NoVariable = keeps_same x
 silent_same x refusal.NoMemory = keeps_same x
 
 -- only a refused writing is told after some was written
@@ -130,58 +139,146 @@ not_in_turn kind NotRun (source.Library name values) files file r last never
 not_in_turn kind NotRun s files file r last never
     (inr (inr (opened, (u, k, t, read, inr (p, is, none))))) = never p u k t none
 
+-- a report has a text in each format
+pub formed : (f : Format) (report : Report) (told : Bool)
+    → (text : List ℕ) × IsFormed f report told text
+formed format.Text report told = (told_text report told, refl)
+formed format.Json report told = (data_text report told, refl)
+formed format.Table report told = ([], tt)
+formed format.Summary report told = ([], tt)
+
+-- if there is no memory for an answer, there may be none for what comes before it
+pub unanswered_memory : (source : Source) (files : Files) (file : Option (List ℕ))
+    (correct : List ℕ) → IsUnanswered source files file correct refusal.NoMemory
+unanswered_memory (source.File name) files file correct = inl tt
+unanswered_memory (source.Library name values) files file correct = inr (inl (tt, tt))
+
+pub unrealised_memory : (source : Source) (files : Files) (header omissions : Option (List ℕ))
+    → IsUnrealised source files header omissions refusal.NoMemory
+unrealised_memory (source.File name) files header omissions = inl tt
+unrealised_memory (source.Library name values) files header omissions = inr (inl (tt, tt))
+
+-- a report that isn't written isn't told
+pub untold_report : (source : Source) (files : Files) (file : Option (List ℕ)) (told shown : Form)
+    (report : Report)
+    → AnswersRun source files file (question.Report told) (answer.Report report shown)
+    → (r : Refusal) → IsUntoldReport shown r → IsRefusedAnswer source files file (question.Report told) r
+untold_report source files file told shown report h refusal.Write is =
+    (answer.Report report shown, h)
+untold_report source files file told shown report h refusal.NoMemory is =
+    unanswered_memory source files file []
+untold_report source files file told shown report h refusal.NoVariable named =
+    (subst NamesColumns h.0 named, (answer.Report report shown, h))
+untold_report source files file told shown report h r is = absurd is
+
+pub untold : (source : Source) (files : Files) (file : Option (List ℕ)) (q : Question) (a : Answer)
+    → AnswersRun source files file q a → (r : Refusal) → IsUntold a r
+    → IsRefusedAnswer source files file q r
+untold source files file (question.Report told) (answer.Report report shown) h r is =
+    untold_report source files file told shown report h r is
+untold source files file (question.Verdict t f) (answer.Verdict v shown) h r is =
+    subst (IsRefusedAnswer source files file (question.Verdict t f)) (sym is)
+    (answer.Verdict v shown, h)
+untold source files file (question.Report told) (answer.Verdict v shown) h r is = absurd h
+untold source files file (question.Verdict t f) (answer.Report report shown) h r is = absurd h
+
+-- the report of a run in rounds that isn't written
+pub untold_rounds : (source : Source) (files : Files) (header omissions : Bor (List ℕ))
+    (form : Form) (report : Report) → ReportsRounds source files (files header.now) (files omissions.now) report
+    → (r : Refusal) → IsUntoldReport form r
+    → IsRefusedCommand (words.Rounds source header omissions form) files r
+untold_rounds source files header omissions form report h refusal.Write is =
+    let made = formed form.format report form.decided in (files, made.0, (report, h, made.1))
+untold_rounds source files header omissions form report h refusal.NoMemory is =
+    inl (unrealised_memory source files (files header.now) (files omissions.now))
+untold_rounds source files header omissions form report h refusal.NoVariable named =
+    inr (named, (report, h))
+untold_rounds source files header omissions form report h r is = absurd is
+
+-- an answer that is told, of `run` and of `judge`
+pub run_served : (source : Source) (files after : Files) (schedule : Bor (List ℕ)) (form : Form)
+    (old new : Option (List ℕ))
+    → TellsAnswer source files (files schedule.now) (question.Report form) old new
+    → Serves (words.Run source schedule form) files after old new
+run_served source files after schedule form old new (answer.Report report shown, h, said) = (
+  said.0,
+  (report, h.1, subst (λ (f : Form). IsReportText f report said.0) h.0 said.1),
+  said.2,
+)
+run_served source files after schedule form old new (answer.Verdict verdict f, h, said) = absurd h
+
 -- a refused answer, of `run` and of `judge`
-pub run_refused : (source : Source) (files : Files) (schedule : Bor (List ℕ)) (told : Bool)
+pub run_refused : (source : Source) (files : Files) (schedule : Bor (List ℕ)) (told : Form)
     (r : Refusal) → IsRefusedAnswer source files (files schedule.now) (question.Report told) r
     → IsRefusedCommand (words.Run source schedule told) files r
 run_refused source files schedule told refusal.Write (answer.Report report shown, h) =
-    (files, told_text report told, (report, h.1, refl))
-run_refused source files schedule told refusal.Write (answer.Verdict verdict, h) = absurd h
-run_refused source files schedule told (refusal.Words f) h = h
-run_refused source files schedule told refusal.File h = h
-run_refused source files schedule told (refusal.Source f) h = h
-run_refused source files schedule told (refusal.Check f) h = h
-run_refused source files schedule told (refusal.Condition f) h = h
-run_refused source files schedule told (refusal.Schedule f) h = h
-run_refused source files schedule told (refusal.Library f) h = h
-run_refused source files schedule told refusal.NoSuchProgram h = h
-run_refused source files schedule told (refusal.Run f) h = h
-run_refused source files schedule told refusal.TooManyEvents h = h
-run_refused source files schedule told refusal.NoMemory h = h
+    let made = formed told.format report told.decided in (files, made.0, (report, h.1, made.1))
+run_refused source files schedule told refusal.Write (answer.Verdict verdict f, h) = absurd h
+run_refused source files schedule told (refusal.Words f) h = inl h
+run_refused source files schedule told refusal.File h = inl h
+run_refused source files schedule told (refusal.Source f) h = inl h
+run_refused source files schedule told (refusal.Check f) h = inl h
+run_refused source files schedule told (refusal.Condition f) h = inl h
+run_refused source files schedule told (refusal.Schedule f) h = inl h
+run_refused source files schedule told (refusal.Library f) h = inl h
+run_refused source files schedule told refusal.NoSuchProgram h = inl h
+run_refused source files schedule told (refusal.Run f) h = inl h
+run_refused source files schedule told refusal.TooManyEvents h = inl h
+run_refused source files schedule told refusal.NoVariable (named, (answer.Report report shown, h)) =
+    inr (named, (report, h.1))
+run_refused source files schedule told refusal.NoVariable (named, (answer.Verdict verdict f, h)) =
+    absurd h
+run_refused source files schedule told refusal.NoMemory h = inl h
 run_refused source files schedule told refusal.NodeNoMemory h =
     absurd (not_in_turn kinds.Schedule (λ p s k events r. IsNotRun p s k events [] r) source files
     (files schedule.now) refusal.NodeNoMemory last_nodes (λ p s k events none. none) h)
 
 module _ (source : Source) (files : Files) (schedule : Bor (List ℕ)) (correct : Vec ℕ)
-    (delta gst : ℕ) (list : Bor (List ℕ)) (same : list.now ≡ correct.items) where
+    (delta gst : ℕ) (f : AnswerFormat) (list : Bor (List ℕ)) (same : list.now ≡ correct.items) where
   unanswered : (r : Refusal) → IsUnanswered source files (files schedule.now) list.now r
       → IsUnanswered source files (files schedule.now) correct.items r
   unanswered r h = subst (λ ns. IsUnanswered source files (files schedule.now) ns r) same h
 
-  pub judge_refused : (r : Refusal)
-      → IsRefusedAnswer source files (files schedule.now)
-      (question.Verdict (record { correct = list; delta = delta; gst = gst })) r
-      → IsRefusedCommand (words.Judge source schedule correct delta gst) files r
-  judge_refused refusal.Write (answer.Report report shown, h) = absurd h
-  judge_refused refusal.Write (answer.Verdict verdict, h) = (
-    files,
-    verdict_text verdict ++ codes "\n",
+  pub judge_served : (after : Files) (old new : Option (List ℕ))
+      → TellsAnswer source files (files schedule.now)
+      (question.Verdict (record { correct = list; delta = delta; gst = gst }) f) old new
+      → Serves (words.Judge source schedule correct delta gst f) files after old new
+  judge_served after old new (answer.Report report shown, h, said) = absurd h
+  judge_served after old new (answer.Verdict verdict shown, h, said) = (
+    verdict_as shown verdict,
     (
       verdict,
-      subst (λ ns. JudgesRun source files (files schedule.now) ns delta gst verdict) same h,
+      subst (λ ns. JudgesRun source files (files schedule.now) ns delta gst verdict) same h.1,
+      ap (λ (x : AnswerFormat). verdict_as x verdict) h.0,
+    ),
+    said,
+  )
+
+  pub judge_refused : (r : Refusal)
+      → IsRefusedAnswer source files (files schedule.now)
+      (question.Verdict (record { correct = list; delta = delta; gst = gst }) f) r
+      → IsRefusedCommand (words.Judge source schedule correct delta gst f) files r
+  judge_refused refusal.Write (answer.Report report shown, h) = absurd h
+  judge_refused refusal.Write (answer.Verdict verdict shown, h) = (
+    files,
+    verdict_as f verdict,
+    (
+      verdict,
+      subst (λ ns. JudgesRun source files (files schedule.now) ns delta gst verdict) same h.1,
       refl,
     ),
   )
-  judge_refused (refusal.Words f) h = unanswered (refusal.Words f) h
+  judge_refused (refusal.Words e) h = unanswered (refusal.Words e) h
   judge_refused refusal.File h = unanswered refusal.File h
-  judge_refused (refusal.Source f) h = unanswered (refusal.Source f) h
-  judge_refused (refusal.Check f) h = unanswered (refusal.Check f) h
-  judge_refused (refusal.Condition f) h = unanswered (refusal.Condition f) h
-  judge_refused (refusal.Schedule f) h = unanswered (refusal.Schedule f) h
-  judge_refused (refusal.Library f) h = unanswered (refusal.Library f) h
+  judge_refused (refusal.Source e) h = unanswered (refusal.Source e) h
+  judge_refused (refusal.Check e) h = unanswered (refusal.Check e) h
+  judge_refused (refusal.Condition e) h = unanswered (refusal.Condition e) h
+  judge_refused (refusal.Schedule e) h = unanswered (refusal.Schedule e) h
+  judge_refused (refusal.Library e) h = unanswered (refusal.Library e) h
   judge_refused refusal.NoSuchProgram h = unanswered refusal.NoSuchProgram h
-  judge_refused (refusal.Run f) h = unanswered (refusal.Run f) h
+  judge_refused (refusal.Run e) h = unanswered (refusal.Run e) h
   judge_refused refusal.TooManyEvents h = unanswered refusal.TooManyEvents h
+  judge_refused refusal.NoVariable h = absurd h.0
   judge_refused refusal.NoMemory h = unanswered refusal.NoMemory h
   judge_refused refusal.NodeNoMemory h =
       absurd (not_in_turn kinds.Schedule (λ p s k events r. IsNotRun p s k events list.now r) source

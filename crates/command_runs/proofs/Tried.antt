@@ -14,6 +14,7 @@ use Rattle.command_runs.specs.declared.refusal.Refusal.{Refusal}
 use Rattle.command_runs.specs.declared.refusal.Refusal.TheVariants as refusal
 use Rattle.adversary.specs.declared.fault.RunFault.TheVariants as run
 use Rattle.command_words.specs.declared.exploring.Exploring.{Exploring}
+use Rattle.command_words.specs.declared.forms.AnswerFormat.{AnswerFormat}
 use Rattle.command_words.specs.declared.values.Source.{Source}
 use Rattle.command_words.specs.declared.values.Source.TheVariants as source
 use Rattle.command_words.specs.declared.words.Words.TheVariants as words
@@ -97,6 +98,7 @@ module _ (source : Source) (files : Files) (file : Option (List ℕ)) where
   threads_refused (refusal.Library f) h = h
   threads_refused refusal.NoSuchProgram h = h
   threads_refused refusal.TooManyEvents h = h
+  threads_refused refusal.NoVariable h = h
   threads_refused (refusal.Run f) h = h
   threads_refused refusal.NoMemory h = h
 
@@ -153,6 +155,7 @@ module _ (source : Source) (files : Files) (file : Option (List ℕ)) (e : Explo
   search_refused (refusal.Library f) h = h
   search_refused refusal.NoSuchProgram h = h
   search_refused refusal.TooManyEvents h = h
+  search_refused refusal.NoVariable h = h
   search_refused (refusal.Run f) h = h
   search_refused refusal.NoMemory h = h
 
@@ -177,9 +180,10 @@ module _ (source : Source) (files : Files) (file : Option (List ℕ)) (e : Explo
       (in_turn_memory kinds.Header (λ p s k t r. IsNotExplored p s k e r) source files file)
 
 -- a refused search is a refused command
-module _ (source : Source) (files : Files) (header : Bor (List ℕ)) (e : Exploring) where
+module _ (source : Source) (files : Files) (header : Bor (List ℕ)) (e : Exploring)
+    (format : AnswerFormat) where
   pub explore_refused : (r : Refusal) → IsRefusedSearch source files (files header.now) e r
-      → IsRefusedCommand (words.Explore source header e) files r
+      → IsRefusedCommand (words.Explore source header e format) files r
   explore_refused refusal.Write h = inl h
   explore_refused refusal.NodeNoMemory h =
       absurd (not_in_turn kinds.Header (λ p s k t r. IsNotExplored p s k e r) source files
@@ -193,5 +197,6 @@ module _ (source : Source) (files : Files) (header : Bor (List ℕ)) (e : Explor
   explore_refused (refusal.Library f) h = h
   explore_refused refusal.NoSuchProgram h = h
   explore_refused refusal.TooManyEvents h = h
+  explore_refused refusal.NoVariable h = h
   explore_refused (refusal.Run f) h = h
   explore_refused refusal.NoMemory h = h

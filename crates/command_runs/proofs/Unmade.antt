@@ -82,10 +82,11 @@ not_made start p s k ls t (refusal.Schedule f) same plan none = absurd none
 not_made start p s k ls t (refusal.Library f) same plan none = absurd none
 not_made start p s k ls t refusal.NoSuchProgram same plan none = absurd none
 not_made start p s k ls t refusal.TooManyEvents same plan none = absurd none
+not_made start p s k ls t refusal.NoVariable same plan none = absurd none
 not_made start p s k ls t refusal.Write same plan none = absurd none
 not_made start p s k ls t refusal.NodeNoMemory same plan none = absurd none
 
--- where there is no plan, a number is past its limits
+-- if there is no plan, a number is past its limits
 pub no_known_pacing : (p : ProgramTree) (s : Setup) (delta : ℕ) (ls : List OmissionLine) (t : Terms)
     → ¬ (IsNodeCount s.nodes × IsDelta delta) → ¬ (AreTerms p s t
     × AreFitChanges (start_of (Known delta) s.nodes) s ls t × IsPlan (Known delta))
@@ -135,6 +136,7 @@ unmade_told s files header omissions t (refusal.Schedule f) h = h
 unmade_told s files header omissions t (refusal.Library f) h = h
 unmade_told s files header omissions t refusal.NoSuchProgram h = h
 unmade_told s files header omissions t refusal.TooManyEvents h = h
+unmade_told s files header omissions t refusal.NoVariable h = h
 unmade_told s files header omissions t (refusal.Run f) h = h
 unmade_told s files header omissions t refusal.NoMemory h = h
 unmade_told s files header omissions t refusal.NodeNoMemory h = h
@@ -185,5 +187,6 @@ module _ (from : Source) (files : Files) (header : Bor (List ℕ)) (correct : Ve
   lockstep_refused (refusal.Library f) h = unmade (refusal.Library f) h
   lockstep_refused refusal.NoSuchProgram h = unmade refusal.NoSuchProgram h
   lockstep_refused refusal.TooManyEvents h = unmade refusal.TooManyEvents h
+  lockstep_refused refusal.NoVariable h = unmade refusal.NoVariable h
   lockstep_refused (refusal.Run f) h = unmade (refusal.Run f) h
   lockstep_refused refusal.NoMemory h = unmade refusal.NoMemory h

@@ -27,7 +27,7 @@ IsApartIfNamed name source read = IfSome name (λ n. IsApart n.now source read)
 abbrev pub WritesApart : Words → (old new : List (List ℕ)) → Type 0
 WritesApart (Threads source setup trace told) old new =
     (new ≡ old) ⊎ IsApart trace.now source setup.now
-WritesApart (Explore source header exploring) old new =
+WritesApart (Explore source header exploring f) old new =
     (new ≡ old) ⊎ IsApartIfNamed exploring.trace source header.now
 WritesApart _ old new = new ≡ old
 

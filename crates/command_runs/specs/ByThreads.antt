@@ -22,7 +22,7 @@ pub record IsThreadRun (start : ℕ → ℕ) (p : ProgramTree) (s : Setup) (stop
   pub ended : HaveEnded start told.run stops ends
   pub memory : All (λ e. e ≢ NoMemory) ends
 
--- where the threads had memory: the report is of a run by threads, and the trace is the text of its
+-- if the threads had memory: the report is of a run by threads, and the trace is the text of its
 -- events
 abbrev pub IsRunOf : (start : ℕ → ℕ) → ProgramTree → ThreadSetup → ThreadRun → Type 0
 IsRunOf start p t run = IsTrue run.whole → (events : List Event)

@@ -19,7 +19,7 @@ MayWriteTrace (Some name) old new = WroteAtMost old new name.now
 -- what a command may write: `threads` and `explore` the file of a trace, and the others none
 abbrev pub MayWrite : Words → (old new : List (List ℕ)) → Type 0
 MayWrite (Threads source setup trace told) old new = WroteAtMost old new trace.now
-MayWrite (Explore source header exploring) old new = MayWriteTrace exploring.trace old new
+MayWrite (Explore source header exploring f) old new = MayWriteTrace exploring.trace old new
 MayWrite _ old new = new ≡ old
 
 -- the file of a trace is written where it is asked for and a property fails
@@ -30,7 +30,7 @@ WritesTrace _ _ old new = new ≡ old
 -- what a command writes that ends so
 abbrev pub Writes : Words → Outcome → (old new : List (List ℕ)) → Type 0
 Writes (Threads source setup trace told) o old new = new ≡ old ++ trace.now ∷ []
-Writes (Explore source header exploring) o old new = WritesTrace exploring.trace o old new
+Writes (Explore source header exploring f) o old new = WritesTrace exploring.trace o old new
 Writes _ o old new = new ≡ old
 
 -- no file was written, or the words mean a command that may write what was

@@ -45,7 +45,7 @@ pub record AreListed (nodes : ℕ) (list : List ℕ) (members : ℕ) : Type 0 wh
 
 -- The verdict is of a run whose events are these, in which a round is closed exactly where its node
 -- took all its steps: whether the listed nodes step in lockstep, whether messages between them keep
--- the bound, and the first round of the plan from which, where both is so, none of their messages
+-- the bound, and the first round of the plan from which, if both is so, none of their messages
 -- is omitted.
 pub record IsVerdictOf (start receives : ℕ → ℕ) (p : ProgramTree) (s : Setup) (events : List Event)
     (list : List ℕ) (delta gst : ℕ) (verdict : Verdict) : Type 0 where

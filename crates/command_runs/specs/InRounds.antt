@@ -51,7 +51,7 @@ abbrev pub ShowsFirst :
 ShowsFirst receives start s k told None = all_hold told ≡ true
 ShowsFirst receives start s k told (Some text) = ShowsFailure receives start s k told text
 
--- the trace, where one is asked for
+-- the trace, if one is asked for
 abbrev pub IsTrace : (receives start : ℕ → ℕ) → Setup → PlanKind → Option (Bor (List ℕ))
     → List Told → (trace : Option (List ℕ)) → Type 0
 IsTrace receives start s k None told trace = trace ≡ None
@@ -64,7 +64,7 @@ pub record IsFound (receives start : ℕ → ℕ) (p : ProgramTree) (s : Setup) 
   pub trace : IsTrace receives start s k e.trace found.told.items
       (option_map (λ text. string_bytes text) found.trace)
 
--- there is a trace just where one is asked for and a property fails
+-- there is a trace just if one is asked for and a property fails
 abbrev pub IsMade : Option (Bor (List ℕ)) → List Told → (trace : Option (List ℕ)) → Type 0
 IsMade None told trace = trace ≡ None
 IsMade (Some name) told None = all_hold told ≡ true

@@ -6,7 +6,7 @@ use Rattle.algorithm_library.specs.Texts.{count_votes_rest, dls1_rest, gather_re
 use Rattle.round_lang.specs.Syntax.{ProgramTree}
 use Rattle.round_meaning.specs.Algorithm1.{dls1}
 
--- the library's program under a name, for K values, where so many nodes run it with so many faults
+-- the library's program under a name, for K values, if so many nodes run it with so many faults
 abbrev pub Offers : (name : List ℕ) (k nodes faults : ℕ) → ProgramTree → Type 0
 Offers name k nodes faults p =
     ((name ≡ codes "gather") × (p ≡ gather_tree k))

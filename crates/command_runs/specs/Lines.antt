@@ -11,7 +11,7 @@ use Rattle.command_runs.specs.declared.refusal.Refusal.TheVariants.{Condition}
 use Rattle.command_runs.specs.declared.refusal.Refusal.TheVariants.{Schedule, Library}
 use Rattle.command_runs.specs.declared.refusal.Refusal.TheVariants.{NoSuchProgram, Run, Write}
 use Rattle.command_runs.specs.declared.refusal.Refusal.TheVariants.{NoMemory, NodeNoMemory}
-use Rattle.command_runs.specs.declared.refusal.Refusal.TheVariants.{TooManyEvents}
+use Rattle.command_runs.specs.declared.refusal.Refusal.TheVariants.{NoVariable, TooManyEvents}
 use Rattle.command_words.specs.Lines.{words_line}
 use Rattle.exploration_texts.specs.Lines.{condition_text}
 use Rattle.round_check.specs.declared.fault.CheckFault.{CheckFault}
@@ -77,7 +77,11 @@ abbrev pub many_events : List ℕ
 many_events =
     codes "a run of more than 400 events is drawn for some rounds only; give --rounds A-B"
 
--- the line of a refusal, where it isn't `clap`'s own text
+-- why a table isn't made
+abbrev pub no_variable : List ℕ
+no_variable = codes "LIST of --vars is names of the program's variables with commas between them"
+
+-- the line of a refusal, if it isn't `clap`'s own text
 abbrev pub line_of : Refusal → Option (List ℕ)
 line_of (Words fault) = words_line fault
 line_of File = Some (codes "refused file\n")
@@ -90,6 +94,7 @@ line_of (Library fault) = Some (library_line fault)
 line_of NoSuchProgram = Some (codes "refused library 3\n")
 line_of (Run fault) = Some (run_line fault)
 line_of TooManyEvents = Some (codes "refused picture: " ++ many_events ++ codes "\n")
+line_of NoVariable = Some (codes "refused table: " ++ no_variable ++ codes "\n")
 line_of Write = Some (codes "refused write\n")
 line_of NoMemory = Some memory_line
 line_of NodeNoMemory = Some memory_line

@@ -16,7 +16,8 @@ use Rattle.command_runs.specs.InLockstep.{AreTerms}
 use Rattle.command_runs.specs.Lines.{status_of}
 use Rattle.command_runs.specs.Served.{AsksForHelp, IsCheckedSource, IsHeader, IsOfKind}
 use Rattle.command_runs.specs.Served.{IsOmissionText, IsProgramOf, IsThreadSetup, Prints}
-use Rattle.command_runs.specs.Served.{IsPaced, IsShownOf, SaysLines, file_name, start_of, terms_by}
+use Rattle.command_runs.specs.Served.{IsPaced, IsShownOf, NamesColumns, ReportsRounds, ReportsRun}
+use Rattle.command_runs.specs.Served.{SaysLines, file_name, start_of, terms_by}
 use Rattle.command_runs.specs.Texts.{Files}
 use Rattle.command_runs.specs.Unshown.{IsUnshown}
 use Rattle.schedule_text.specs.Bytes.{IsLongText, IsNoText, IsText}
@@ -35,6 +36,7 @@ use Rattle.command_words.specs.declared.words.Words.TheVariants.{Check, Draw, Ex
 use Rattle.command_words.specs.declared.words.Words.TheVariants.{Lockstep, Realise, Rounds, Run}
 use Rattle.command_words.specs.declared.words.Words.TheVariants.{Show, Threads}
 use Rattle.command_words.specs.declared.exploring.Exploring.{Exploring}
+use Rattle.command_words.specs.declared.forms.Form.{Form}
 use Rattle.exploration_texts.specs.Conditions.{IsConditionFor, IsFaultFor}
 use Rattle.exploration_texts.specs.declared.condition.ConditionFault.{ConditionFault}
 use Rattle.exploration_texts.specs.declared.condition.ConditionFault.TheVariants as condition
@@ -52,6 +54,7 @@ use Rattle.round_lang.specs.declared.fault.LangFault.{LangFault}
 use Rattle.round_lang.specs.declared.fault.LangFault.TheVariants as lang
 use Rattle.round_meaning.specs.Setups.{IsLawful}
 use Rattle.round_meaning.specs.declared.setup.Setup.{Setup}
+use Rattle.omission_explainer.specs.declared.report.Report.{Report}
 use Rattle.omission_texts.specs.Meaning.{IsFirstUnknown}
 use Rattle.omission_texts.specs.Readings.{IsReading as IsOmissionReading}
 use Rattle.omission_texts.specs.declared.line.OmissionLine.{OmissionLine}
@@ -417,25 +420,35 @@ StartsSearch source files file e =
 abbrev pub IsUnchecked : Source → Files → Refusal → Type 0
 IsUnchecked source files r = IsNotOpened source files r ⊎ IsNotOffered source 1 0 r
 
--- why a command isn't served, where it isn't for the output
+-- why the table of a report isn't made: a name in the list of its variables is that of none; of
+-- which nothing more is said
+abbrev pub IsUntabled : Form → (Report → Type 0) → Refusal → Type 0
+IsUntabled form IsReport refusal.NoVariable =
+    NamesColumns form × ((report : Report) × IsReport report)
+IsUntabled form IsReport _ = ⊥
+
+-- why a command isn't served, if it isn't for the output
 abbrev pub IsUnserved : Words → Files → Refusal → Type 0
-IsUnserved (Check source) files r = IsUnchecked source files r
+IsUnserved (Check source f) files r = IsUnchecked source files r
 IsUnserved (Show source) files r = IsUnshown source files r
 IsUnserved (Draw source schedule drawing) files r =
     IsUndrawn source files (files schedule.now) drawing r
-IsUnserved (Run source schedule told) files r = IsUnanswered source files (files schedule.now) [] r
+IsUnserved (Run source schedule form) files r =
+    IsUnanswered source files (files schedule.now) [] r
+    ⊎ IsUntabled form (ReportsRun source files (files schedule.now)) r
 IsUnserved (Threads source setup trace told) files r =
     IsUnthreaded source files (files setup.now) r
-IsUnserved (Judge source schedule correct delta gst) files r =
+IsUnserved (Judge source schedule correct delta gst f) files r =
     IsUnanswered source files (files schedule.now) correct.items r
 IsUnserved (Lockstep source header correct delta gst delays orders ticks changes) files r =
     IsUnmade source files (files header.now) changes.omissions
     (terms_by correct delta gst delays orders ticks changes) r
 IsUnserved (Realise source header omissions) files r =
     IsUnrealised source files (files header.now) (files omissions.now) r
-IsUnserved (Rounds source header omissions told) files r =
+IsUnserved (Rounds source header omissions form) files r =
     IsUnrealised source files (files header.now) (files omissions.now) r
-IsUnserved (Explore source header exploring) files r =
+    ⊎ IsUntabled form (ReportsRounds source files (files header.now) (files omissions.now)) r
+IsUnserved (Explore source header exploring f) files r =
     IsUnexplored source files (files header.now) exploring r
 
 -- the words are `threads`, and their run is one
@@ -444,7 +457,7 @@ IsThreaded (Threads source setup trace told) files = StartsThreads source files 
 IsThreaded _ files = ⊥
 
 -- The desk doesn't take the trace of a search, or that is a file that the command reads. So much is
--- found out before the search begins, where there is one to begin.
+-- found out before the search begins, if there is one to begin.
 abbrev pub IsUntraced : Source → Files → Option (List ℕ) → Exploring → Type 0
 IsUntraced source files file e = IsSome e.trace × StartsSearch source files file e
 
@@ -452,10 +465,10 @@ IsUntraced source files file e = IsSome e.trace × StartsSearch source files fil
 -- that can't be opened or that the command reads, threads and a search don't begin.
 abbrev pub IsUnwritten : Words → Files → Type 0
 IsUnwritten (Threads source setup trace told) files = StartsThreads source files (files setup.now)
-IsUnwritten (Explore source header exploring) files =
+IsUnwritten (Explore source header exploring f) files =
     IsUntraced source files (files header.now) exploring
     ⊎ ((after : Files) × (text : List ℕ)
-    × Prints (Explore source header exploring) files after text)
+    × Prints (Explore source header exploring f) files after text)
 IsUnwritten w files = (after : Files) × (text : List ℕ) × Prints w files after text
 
 -- and last, that something isn't written, or that the thread of a node had no memory

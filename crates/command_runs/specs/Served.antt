@@ -1,7 +1,7 @@
 -- What the program writes, as a relation of its words to the files on the desk.
 use Rattle.std.specs.Borrow.{Bor}
 use Rattle.std.specs.Prelude.{◌≡◌, ◌<◌, ◌≤◌, ◌++◌, ◌⊎◌, ⊤, ℕ, All, Bool, List, None, Option, Some}
-use Rattle.std.specs.Prelude.{IfSome, [], codes, length, true}
+use Rattle.std.specs.Prelude.{IfSome, IsSome, [], codes, false, length, true}
 use Rattle.std.specs.Global.{Vec}
 use Rattle.std.specs.Prelude.{if◌then◌else◌}
 use Rattle.std.specs.Fmt.{decimal}
@@ -38,6 +38,11 @@ use Rattle.command_words.specs.Commands.{roundc_app}
 use Rattle.command_words.specs.Given.{Means}
 use Rattle.command_words.specs.declared.changes.Changes.{Changes}
 use Rattle.command_words.specs.declared.exploring.Exploring.{Exploring}
+use Rattle.command_words.specs.declared.forms.AnswerFormat.{AnswerFormat}
+use Rattle.command_words.specs.declared.forms.AnswerFormat.TheVariants as answer_format
+use Rattle.command_words.specs.declared.forms.Form.{Form}
+use Rattle.command_words.specs.declared.forms.Format.{Format}
+use Rattle.command_words.specs.declared.forms.Format.TheVariants as format
 use Rattle.command_words.specs.declared.values.Source.{Source}
 use Rattle.command_words.specs.declared.values.Source.TheVariants.{File, Library}
 use Rattle.command_words.specs.declared.words.Words.{Words}
@@ -45,15 +50,18 @@ use Rattle.command_words.specs.declared.drawing.Drawing.{Drawing}
 use Rattle.command_words.specs.declared.words.Words.TheVariants.{Check, Draw, Explore, Judge}
 use Rattle.command_words.specs.declared.words.Words.TheVariants.{Lockstep, Realise, Rounds, Run}
 use Rattle.command_words.specs.declared.words.Words.TheVariants.{Show, Threads}
-use Rattle.exploration_texts.specs.Lines.{answers_text}
+use Rattle.exploration_texts.specs.Lines.{answers_as}
 use Rattle.exploration_texts.specs.Told.{AreAnswers, all_hold}
 use Rattle.exploration_texts.specs.declared.told.Told.{Told}
 use Rattle.omission_explainer.specs.Decided.{decided_line, summary_of}
 use Rattle.omission_explainer.specs.Report.{report_text}
+use Rattle.omission_explainer.specs.declared.summary.Decided.{Decided}
+use Rattle.omission_explainer.specs.declared.summary.Decided.TheVariants as decided
 use Rattle.omission_explainer.specs.Verdict.{verdict_text}
 use Rattle.omission_explainer.specs.declared.judging.Verdict.{Verdict}
 use Rattle.omission_explainer.specs.declared.report.Report.{Report}
 use Rattle.round_check.specs.Causes.{is_typed}
+use Rattle.run_data.specs.ReportData.{report_data}
 use Rattle.round_lang.specs.Limits.{max_text}
 use Rattle.round_lang.specs.Source.{IsSource}
 use Rattle.round_lang.specs.Syntax.{ProgramTree}
@@ -135,6 +143,37 @@ abbrev pub summary_text : ProgramTree → List ℕ
 summary_text p =
     codes "ok values " ++ decimal p.values ++ codes " period " ++ decimal p.period
     ++ codes " variables " ++ decimal (length p.variables) ++ codes "\n"
+
+-- `{"values":K,"period":P,"variables":M}`
+abbrev pub summary_data : ProgramTree → List ℕ
+summary_data p =
+    codes "{\"values\":" ++ decimal p.values ++ codes ",\"period\":" ++ decimal p.period
+    ++ codes ",\"variables\":" ++ decimal (length p.variables) ++ codes "}\n"
+
+-- what a program declares, in a format
+abbrev pub summary_as : AnswerFormat → ProgramTree → List ℕ
+summary_as answer_format.Text p = summary_text p
+summary_as answer_format.Json p = summary_data p
+
+abbrev pub truth_text : Bool → List ℕ
+truth_text true = codes "true"
+truth_text false = codes "false"
+
+-- the number of a round, or null
+abbrev pub round_data : Option ℕ → List ℕ
+round_data None = codes "null"
+round_data (Some r) = decimal r
+
+-- `{"lockstep":true,"bound":false,"clear":5}`
+abbrev pub verdict_data : Verdict → List ℕ
+verdict_data v =
+    codes "{\"lockstep\":" ++ truth_text v.lockstep ++ codes ",\"bound\":" ++ truth_text v.bound
+    ++ codes ",\"clear\":" ++ round_data v.clear ++ codes "}\n"
+
+-- the line of a verdict in a format
+abbrev pub verdict_as : AnswerFormat → Verdict → List ℕ
+verdict_as answer_format.Text v = verdict_text v ++ codes "\n"
+verdict_as answer_format.Json v = verdict_data v
 
 -- the report of the source's run under the schedule in a file
 abbrev pub ReportsRun : Source → Files → Option (List ℕ) → Report → Type 0
@@ -225,7 +264,7 @@ FindsIn source files file e found =
     × IsProgramOf source files s.nodes s.faults p
     × IsFound (receives_of k) (start_of k s.nodes) p s k e found)
 
--- where a trace is asked for and a property fails, its file shows the first that does
+-- if a trace is asked for and a property fails, its file shows the first that does
 abbrev pub HasTrace :
     Setup → PlanKind → Option (Bor (List ℕ)) → (after : Files) → List Told → Type 0
 HasTrace s k None after told = ⊤
@@ -244,8 +283,8 @@ TellsOfAll source files after file e told =
 abbrev pub AnswersRun : Source → Files → Option (List ℕ) → Question → Answer → Type 0
 AnswersRun source files file (question.Report told) (answer.Report report shown) =
     (shown ≡ told) × ReportsRun source files file report
-AnswersRun source files file (question.Verdict terms) (answer.Verdict verdict) =
-    JudgesRun source files file terms.correct.now terms.delta terms.gst verdict
+AnswersRun source files file (question.Verdict terms f) (answer.Verdict verdict shown) =
+    (shown ≡ f) × JudgesRun source files file terms.correct.now terms.delta terms.gst verdict
 AnswersRun source files file _ _ = ⊥
 
 -- the same of a setup and events, under a plan
@@ -253,17 +292,54 @@ abbrev pub Answered : (start receives : ℕ → ℕ) → ProgramTree → Setup �
     → Answer → Type 0
 Answered start receives p s events (question.Report told) (answer.Report report shown) =
     (shown ≡ told) × IsReportOf start p s events report
-Answered start receives p s events (question.Verdict terms) (answer.Verdict verdict) =
-    IsVerdictOf start receives p s events terms.correct.now terms.delta terms.gst verdict
+Answered start receives p s events (question.Verdict terms f) (answer.Verdict verdict shown) =
+    (shown ≡ f)
+    × IsVerdictOf start receives p s events terms.correct.now terms.delta terms.gst verdict
 Answered start receives p s events _ _ = ⊥
 
--- the report, with what all decisions in it come to where that was asked for
+-- the report, with what all decisions in it come to if that was asked for
 abbrev pub told_text : Report → Bool → List ℕ
 told_text report told = report_text report ++ decided_line told (summary_of report.rows)
 
-abbrev pub answer_text : Answer → List ℕ
-answer_text (answer.Report report told) = told_text report told
-answer_text (answer.Verdict verdict) = verdict_text verdict ++ codes "\n"
+-- what all decisions come to, as data: null for none
+abbrev pub decided_value : Decided → List ℕ
+decided_value decided.None = codes "null"
+decided_value (decided.One v) = decimal v
+decided_value decided.Split = codes "\"split\""
+
+-- the line of data that says it, if that was asked for
+abbrev pub decided_data : Bool → Decided → List ℕ
+decided_data told all =
+    if told then codes "{\"decided\":" ++ decided_value all ++ codes "}\n" else []
+
+-- the same as data
+abbrev pub data_text : Report → Bool → List ℕ
+data_text report told = report_data report ++ decided_data told (summary_of report.rows)
+
+-- a table of named variables is asked for
+abbrev pub NamesColumns : Form → Type 0
+NamesColumns form = (form.format ≡ format.Table) × IsSome form.variables
+
+-- the text is the report in this format; of that of a table or a summary nothing is said
+abbrev pub IsFormed : Format → Report → Bool → List ℕ → Type 0
+IsFormed format.Text report told text = text ≡ told_text report told
+IsFormed format.Json report told text = text ≡ data_text report told
+IsFormed format.Table report told text = ⊤
+IsFormed format.Summary report told text = ⊤
+
+-- the text is the report in this form
+abbrev pub IsReportText : Form → Report → List ℕ → Type 0
+IsReportText form report text = IsFormed form.format report form.decided text
+
+-- `out` gained the report in this form
+abbrev pub SaysReport : Form → Report → (old new : Option (List ℕ)) → Type 0
+SaysReport form report old new =
+    (text : List ℕ) × IsReportText form report text × Appends old new text
+
+-- `out` gained the answer
+abbrev pub SaysAnswer : Answer → (old new : Option (List ℕ)) → Type 0
+SaysAnswer (answer.Report report form) old new = SaysReport form report old new
+SaysAnswer (answer.Verdict verdict f) old new = Appends old new (verdict_as f verdict)
 
 -- the terms of a run in lockstep by its words
 abbrev pub terms_by : (correct : Vec ℕ) → (delta gst : ℕ) → (delays orders : Vec ℕ) → Option ℕ
@@ -276,37 +352,37 @@ terms_by correct delta gst delays orders ticks changes = record {
   delays = changes.delays.items;
 }
 
--- what a command prints, where these are the files before it and after it; a program is checked as
+-- what a command prints, if these are the files before it and after it; a program is checked as
 -- for one node without faults; of the text of a picture nothing is said
 abbrev pub Prints : Words → (files after : Files) → List ℕ → Type 0
-Prints (Check source) files after text =
-    (p : ProgramTree) × IsProgramOf source files 1 0 p × (text ≡ summary_text p)
+Prints (Check source f) files after text =
+    (p : ProgramTree) × IsProgramOf source files 1 0 p × (text ≡ summary_as f p)
 Prints (Show source) files after text = ShowsSource source files text
 Prints (Draw source schedule drawing) files after text =
     DrawsRun source files (files schedule.now) drawing
-Prints (Run source schedule told) files after text =
+Prints (Run source schedule form) files after text =
     (report : Report) × ReportsRun source files (files schedule.now) report
-    × (text ≡ told_text report told)
+    × IsReportText form report text
 Prints (Threads source setup trace told) files after text =
     (report : Report)
     × ReportsThreads source files (files setup.now) (after trace.now) report
     × (text ≡ told_text report told)
-Prints (Judge source schedule correct delta gst) files after text =
+Prints (Judge source schedule correct delta gst f) files after text =
     (verdict : Verdict)
     × JudgesRun source files (files schedule.now) correct.items delta gst verdict
-    × (text ≡ verdict_text verdict ++ codes "\n")
+    × (text ≡ verdict_as f verdict)
 Prints (Lockstep source header correct delta gst delays orders ticks changes) files after text =
     MakesLockstep source files (files header.now) changes.omissions
     (terms_by correct delta gst delays orders ticks changes) text
 Prints (Realise source header omissions) files after text =
     RealisesOmissions source files (files header.now) (files omissions.now) text
-Prints (Rounds source header omissions told) files after text =
+Prints (Rounds source header omissions form) files after text =
     (report : Report)
     × ReportsRounds source files (files header.now) (files omissions.now) report
-    × (text ≡ told_text report told)
-Prints (Explore source header exploring) files after text =
+    × IsReportText form report text
+Prints (Explore source header exploring f) files after text =
     (told : List Told) × TellsOfAll source files after (files header.now) exploring told
-    × (text ≡ answers_text told)
+    × (text ≡ answers_as f told)
 
 -- `out` gained what the command prints
 abbrev pub Serves : Words → (files after : Files) → (old new : Option (List ℕ)) → Type 0
@@ -314,9 +390,9 @@ Serves w files after old new = (text : List ℕ) × Prints w files after text ×
 
 -- and it ends so: `explore` says by that whether each property holds
 abbrev pub Ends : Words → (files after : Files) → Outcome → (old new : Option (List ℕ)) → Type 0
-Ends (Explore source header exploring) files after o old new =
+Ends (Explore source header exploring f) files after o old new =
     (told : List Told) × TellsOfAll source files after (files header.now) exploring told
-    × (o ≡ outcome_of told) × Appends old new (answers_text told)
+    × (o ≡ outcome_of told) × Appends old new (answers_as f told)
 Ends w files after o old new = (o ≡ Done) × Serves w files after old new
 
 -- the words mean a command, and it was served and ended so

@@ -17,11 +17,13 @@ use Rattle.command_runs.specs.Refused.{IsUnmade, IsUnthreaded, IsUntraced}
 use Rattle.command_runs.specs.Refused.{StartsThreads, fault_in, of_text, omission_fault}
 use Rattle.command_runs.specs.Explained.{IsReportOf}
 use Rattle.command_runs.specs.Served.{Answered, AnswersRun, IsHeader, IsProgramOf, IsShownOf}
-use Rattle.command_runs.specs.Served.{IsThreadSetup, MakesLockstep, ReportsThreads, answer_text}
+use Rattle.command_runs.specs.Served.{IsThreadSetup, MakesLockstep, NamesColumns, ReportsThreads}
+use Rattle.command_runs.specs.Served.{SaysAnswer}
 use Rattle.command_runs.specs.Served.{told_text}
 use Rattle.command_runs.specs.Texts.{Files}
 use Rattle.schedule_text.specs.Bytes.{BeginsUtf8}
 use Rattle.command_runs.specs.declared.asking.Answer.{Answer as RunAnswer}
+use Rattle.command_runs.specs.declared.asking.Answer.TheVariants as answer
 use Rattle.command_runs.specs.declared.asking.Question.{Question}
 use Rattle.command_runs.specs.declared.asking.Question.TheVariants as question
 use Rattle.command_runs.specs.declared.refusal.Refusal.{Refusal}
@@ -32,6 +34,7 @@ use Rattle.command_runs.specs.declared.texts.Text.{Text}
 use Rattle.command_runs.specs.declared.texts.Text.TheVariants as text
 use Rattle.command_words.specs.declared.drawing.Drawing.{Drawing}
 use Rattle.command_words.specs.declared.exploring.Exploring.{Exploring}
+use Rattle.command_words.specs.declared.forms.Form.{Form}
 use Rattle.command_words.specs.declared.values.Source.{Source}
 use Rattle.exploration_texts.specs.Conditions.{IsFaultFor}
 use Rattle.exploration_texts.specs.declared.condition.ConditionFault.TheVariants as condition
@@ -131,7 +134,7 @@ IsHeldBack (opened.Library name values) n t r = IsNoOffer name.now values n t r
 -- the nodes that a question takes as correct
 abbrev pub listed_by : Question → List ℕ
 listed_by (question.Report told) = []
-listed_by (question.Verdict terms) = terms.correct.now
+listed_by (question.Verdict terms f) = terms.correct.now
 
 -- why a schedule isn't run under a plan
 abbrev pub IsNotRunAs : ProgramTree → Setup → List Event → List ℕ → Refusal → Type 0
@@ -187,7 +190,7 @@ IsDrawnAs start p s r d =
 abbrev pub TellsAnswer : Source → Files → Option (List ℕ) → Question
     → Option (List ℕ) → Option (List ℕ) → Type 0
 TellsAnswer source files file q old new =
-    (a : RunAnswer) × AnswersRun source files file q a × Appends old new (answer_text a)
+    (a : RunAnswer) × AnswersRun source files file q a × SaysAnswer a old new
 
 -- `out` gained the schedule of a run in lockstep
 abbrev pub TellsLockstep : Source → Files → (header : Option (List ℕ))
@@ -226,10 +229,30 @@ IsNotRealisedAs p s ls (refusal.Run fault) = OmissionCause p s ls fault
 IsNotRealisedAs p s ls refusal.NoMemory = ⊤
 IsNotRealisedAs p s ls _ = ⊥
 
+-- why a report isn't written: `out` doesn't take it, there is no memory for its text, or a table of
+-- named variables is asked for
+abbrev pub IsUntoldReport : Form → Refusal → Type 0
+IsUntoldReport form refusal.Write = ⊤
+IsUntoldReport form refusal.NoMemory = ⊤
+IsUntoldReport form refusal.NoVariable = NamesColumns form
+IsUntoldReport form _ = ⊥
+
+-- why an answer isn't written
+abbrev pub IsUntold : RunAnswer → Refusal → Type 0
+IsUntold (answer.Report report form) r = IsUntoldReport form r
+IsUntold (answer.Verdict verdict f) r = r ≡ refusal.Write
+
+-- the question is for a table of named variables
+abbrev pub AsksForColumns : Question → Type 0
+AsksForColumns (question.Report form) = NamesColumns form
+AsksForColumns (question.Verdict terms f) = ⊥
+
 -- why an answer isn't told
 abbrev pub IsRefusedAnswer : Source → Files → Option (List ℕ) → Question → Refusal → Type 0
 IsRefusedAnswer source files file q refusal.Write =
     (a : RunAnswer) × AnswersRun source files file q a
+IsRefusedAnswer source files file q refusal.NoVariable =
+    AsksForColumns q × ((a : RunAnswer) × AnswersRun source files file q a)
 IsRefusedAnswer source files file q r = IsUnanswered source files file (listed_by q) r
 
 -- why there is no run by threads under a plan
@@ -280,7 +303,7 @@ IsRefusedThreads source files file refusal.Write = StartsThreads source files fi
 IsRefusedThreads source files file refusal.NodeNoMemory = StartsThreads source files file
 IsRefusedThreads source files file r = IsUnthreaded source files file r
 
--- the file has the text, where there are both
+-- the file has the text, if there are both
 abbrev pub HoldsText : (after : Files) → Option (Bor (List ℕ)) → Option (List ℕ) → Type 0
 HoldsText after (Some name) (Some text) = IfSome (after name.now) (λ held. held ≡ text)
 HoldsText after _ _ = ⊤

@@ -13,7 +13,7 @@ use crate::explained::{Terms, explained_run, judged_run};
 use crate::refusal::Refusal;
 use crate::sources::Opened;
 use adversary::RunFault;
-use command_words::Source;
+use command_words::{AnswerFormat, Form, Source};
 use omission_explainer::{Report, Verdict};
 use round_check::Checked;
 use round_meaning::Setup;
@@ -32,16 +32,28 @@ pub struct Run<'a> {
 /// A question about a run.
 #[derive(Clone, Copy)]
 pub enum Question<'a> {
-    /// The report, with a last line on the decisions where `decided` says so.
-    Report { decided: bool },
-    Verdict(Terms<'a>),
+    /// The report, in this form.
+    Report {
+        form: Form<'a>,
+    },
+    /// The verdict on these terms, in this format.
+    Verdict {
+        terms: Terms<'a>,
+        format: AnswerFormat,
+    },
 }
 
 /// The answer to a question.
 #[derive(Drop)]
-pub enum Answer {
-    Report { report: Report, decided: bool },
-    Verdict(Verdict),
+pub enum Answer<'a> {
+    Report {
+        report: Report,
+        form: Form<'a>,
+    },
+    Verdict {
+        verdict: Verdict,
+        format: AnswerFormat,
+    },
 }
 
 /// A schedule that was opened: its header, and what reads its events.
@@ -54,12 +66,12 @@ pub struct OpenedSchedule<S: TextSource> {
 
 impl<'a> Run<'a> {
     /// Runs the schedule and answers the question.
-    pub fn answer<D: Desk>(
+    pub fn answer<'q, D: Desk>(
         &self,
         alloc: Global,
-        question: Question<'_>,
+        question: Question<'q>,
         desk: &mut D,
-    ) -> Result<Answer, Refusal>
+    ) -> Result<Answer<'q>, Refusal>
         ensures answer { IfOk result (AnswersRun self.now.source (D.files desk.old)
             (D.files desk.old self.now.schedule.now) question.entry) }
         ensures refused { IfErr result (IsUnanswered self.now.source (D.files desk.old)
@@ -95,7 +107,7 @@ fn open_schedule<D: Desk>(
     })
 }
 
-/// A refusal of what doesn't depend on a schedule's events: where its text is no schedule, the
+/// A refusal of what doesn't depend on a schedule's events: if its text is no schedule, the
 /// refusal is of that.
 pub(crate) fn refusal_after<S: TextSource + Drop>(
     alloc: Global,
@@ -112,12 +124,12 @@ pub(crate) fn refusal_after<S: TextSource + Drop>(
 }
 
 /// The answer about a schedule's run under its plan.
-fn answer_by<S: TextSource + Drop>(
+fn answer_by<'q, S: TextSource + Drop>(
     alloc: Global,
     program: &Checked,
     schedule: OpenedSchedule<S>,
-    question: Question<'_>,
-) -> Result<Answer, Refusal>
+    question: Question<'q>,
+) -> Result<Answer<'q>, Refusal>
     ensures answered { let plan = schedule.plan in let s = schedule.setup in
         IfOk result (IsAnswered (start_of plan s.nodes) (receives_of plan) program.now s
         schedule.reader question.entry) }
@@ -144,13 +156,13 @@ pub(crate) fn bad_setup<S: TextSource + Drop>(alloc: Global, schedule: OpenedSch
     refusal_after(alloc, schedule.reader, Refusal::Run(RunFault::BadSetup))
 }
 
-fn answer_of<P: Plan, S: TextSource + Drop>(
+fn answer_of<'q, P: Plan, S: TextSource + Drop>(
     alloc: Global,
     program: &Checked,
     schedule: OpenedSchedule<S>,
     plan: P,
-    question: Question<'_>,
-) -> Result<Answer, Refusal>
+    question: Question<'q>,
+) -> Result<Answer<'q>, Refusal>
     requires { P.nodes plan ≡ schedule.setup.nodes }
     ensures answered { IfOk result (IsAnswered (P.start plan) (P.receives plan) program.now
         schedule.setup schedule.reader question.entry) }
@@ -161,15 +173,15 @@ fn answer_of<P: Plan, S: TextSource + Drop>(
     let OpenedSchedule { setup, reader, .. } = schedule;
     // A command ends with its answer: the system takes the run's memory back as a whole.
     match question {
-        Question::Report { decided } => {
+        Question::Report { form } => {
             let (report, journal) = explained_run(alloc, program, &setup, plan, reader)?;
             mem::forget(journal);
-            Ok(Answer::Report { report, decided })
+            Ok(Answer::Report { report, form })
         }
-        Question::Verdict(terms) => {
+        Question::Verdict { terms, format } => {
             let (verdict, journal) = judged_run(alloc, program, &setup, plan, reader, terms)?;
             mem::forget(journal);
-            Ok(Answer::Verdict(verdict))
+            Ok(Answer::Verdict { verdict, format })
         }
     }
 }

@@ -61,7 +61,7 @@ pub struct Terms<'a> {
 /// The verdict on running a schedule in single steps, event by event as it's read, and the journal
 /// of the run.
 ///
-/// Refusals are those of `run_read`; `BadSetup` is also answered where a node of `correct` isn't
+/// Refusals are those of `run_read`; `BadSetup` is also answered if a node of `correct` isn't
 /// one of the run's.
 pub fn judged_run<P: Plan, S: TextSource + Drop>(
     alloc: Global,
@@ -90,7 +90,7 @@ pub fn judged_run<P: Plan, S: TextSource + Drop>(
     Ok((verdict, journal))
 }
 
-/// The set of the listed nodes, where each is below a number of nodes and below the most that there
+/// The set of the listed nodes, if each is below a number of nodes and below the most that there
 /// can be.
 pub(crate) fn nodes_in(list: &[u32], nodes: u32) -> Option<NodeSet>
     ensures some { IfSome result (λ set. AreListed nodes list.now set.bits) }

@@ -38,7 +38,7 @@ pub struct Exploration<'a> {
     pub exploring: Exploring<'a>,
 }
 
-/// What is told of the properties, and where a trace is asked for and one fails, the schedule that
+/// What is told of the properties, and if a trace is asked for and one fails, the schedule that
 /// shows the first that does.
 #[derive(Drop)]
 pub struct Found {

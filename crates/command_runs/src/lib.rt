@@ -7,6 +7,7 @@ mod desk;
 mod drawing;
 mod explained;
 mod exploring;
+mod forms;
 mod idle;
 mod laws;
 mod limits;

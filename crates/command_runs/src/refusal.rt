@@ -35,6 +35,8 @@ pub enum Refusal {
     Run(RunFault),
     /// The run has more events than are drawn at once.
     TooManyEvents,
+    /// A list of a table's variables has a name that is that of none.
+    NoVariable,
     /// Standard output takes no more, or a trace can't be written, or is a file that is read.
     Write,
     NoMemory,
@@ -45,6 +47,10 @@ pub enum Refusal {
 /// Why a run isn't drawn.
 const MANY_EVENTS: &str =
     "a run of more than 400 events is drawn for some rounds only; give --rounds A-B";
+
+/// Why a table isn't made.
+const NO_VARIABLE: &str =
+    "LIST of --vars is names of the program's variables with commas between them";
 
 impl Refusal {
     /// The exit status.
@@ -82,6 +88,7 @@ impl fmt::Display for Refusal {
             Refusal::NoSuchProgram => writeln!(f, "refused library 3"),
             Refusal::Run(fault) => write_run(*fault, f),
             Refusal::TooManyEvents => writeln!(f, "refused picture: {}", MANY_EVENTS),
+            Refusal::NoVariable => writeln!(f, "refused table: {}", NO_VARIABLE),
             Refusal::Write => writeln!(f, "refused write"),
             Refusal::NoMemory | Refusal::NodeNoMemory => write_no_memory(f),
         }

@@ -1,16 +1,16 @@
 //! Running a command.
 ghost use Rattle.std.specs.Prelude.{◌≡◌, ◌<◌, ◌≤◌, ◌⊎◌, ◌++◌, ◌∷◌, [], IfErr, IfOk, IsOk};
 ghost use Rattle.std.specs.Prelude.{OnOk, map};
-ghost use Rattle.std.specs.Io.KnownBytes.{Appends, Keeps};
+ghost use Rattle.std.specs.Io.KnownBytes.{Keeps};
 ghost use Rattle.command_runs.specs.Apart.{IsApart, IsApartIfNamed, WritesApart, WroteApart};
 ghost use Rattle.command_runs.specs.Desks.{MayWrite, MayWriteTrace, Writes, WritesTrace, WroteAll};
 ghost use Rattle.command_runs.specs.Desks.{WroteAtMost, WroteFor};
 ghost use Rattle.command_runs.specs.InRounds.{code_of};
 ghost use Rattle.command_runs.specs.Refused.{IsCause, IsRefused, IsRefusedCommand, IsSilent};
-ghost use Rattle.command_runs.specs.Served.{AsksForHelp, Ends, IsEnded, Serves, answer_text};
-ghost use Rattle.command_runs.specs.Served.{summary_text};
+ghost use Rattle.command_runs.specs.Served.{AsksForHelp, Ends, IsEnded, SaysAnswer, Serves};
 ghost use Rattle.command_runs.specs.InChanges.{terms_of};
 ghost use Rattle.command_runs.specs.Stages.{IsRefusedAnswer, IsRefusedLockstep, IsRefusedThreads};
+ghost use Rattle.command_runs.specs.Stages.{IsUntold};
 ghost use Rattle.command_runs.specs.Stages.{TellsAnswer, TellsLockstep, TellsThreads};
 
 use crate::asking::{Answer, Question, Run};
@@ -18,6 +18,7 @@ use crate::desk::Desk;
 use crate::drawing::draw;
 use crate::explained::Terms;
 use crate::exploring::{Exploration, Found};
+use crate::forms::{tell_report, write_declared, write_told, write_verdict};
 use crate::lockstep::{Paced, Pacing};
 use crate::omitting::Omitting;
 use crate::outcome::Outcome;
@@ -26,9 +27,8 @@ use crate::showing::show_source;
 use crate::sources::Opened;
 use crate::threads::{ThreadRun, Threaded};
 use crate::traces::{write_shown, write_trace};
-use command_words::{Source, Words, WordsFault, read_words};
+use command_words::{AnswerFormat, Form, Source, Words, WordsFault, read_words};
 use exploration_texts::write_answers;
-use omission_explainer::{decided, write_report};
 use policies::{Bounded, Table};
 use round_check::Checked;
 use std::alloc::Global;
@@ -41,7 +41,7 @@ use std::thread::Threads;
 /// an output or a file that can't be written, or a thread that can't be started), 2 a bad command
 /// line, 3 no memory, 5 done, and a property that `explore` was asked about fails. A refusal is
 /// told on `err`, in one line, or for a bad command line in `clap`'s own text. Nothing is written
-/// to `out` then, but for two cases: where `out` fails it may have a part, and where the thread of
+/// to `out` then, but for two cases: if `out` fails it may have a part, and if the thread of
 /// a node had no memory it has the report of what was recorded. Where the words ask for help or
 /// the version, `out` gets that text.
 ///
@@ -57,12 +57,12 @@ pub fn run_words<'a, R: Threads + Wait + Sync, D: Desk, O: Write, E: Write>(
     ensures status { (result ≤ 3) ⊎ (result ≡ 5) }
     // Status 0 or 5: what `out` gained is what the words' command prints of the desk's files, as
     // they were and as they are then, or the words ask for help or the version, of whose text
-    // nothing is said. It's 5 exactly where `explore` says `no` of a property.
+    // nothing is said. It's 5 exactly if `explore` says `no` of a property.
     ensures served { (o : Outcome) → result ≡ code_of o
         → IsEnded (map (λ s. s.now) words.entry.now) (D.files desk.old)
         (D.files desk.new) o (O.contents out.old) (O.contents out.new) }
     // Another status: a cause stands, and none that is told before it, and `out` gained nothing,
-    // but where the thread of a node had no memory.
+    // but if the thread of a node had no memory.
     ensures refused { 0 < result → result ≤ 3 → IsRefused (map (λ s. s.now) words.entry.now)
         (D.files desk.old) result (O.contents out.old) (O.contents out.new) }
     // No command writes a file, but for `threads` and `explore` that of a trace.
@@ -137,15 +137,15 @@ fn carry_out<'a, R: Threads + Wait + Sync, D: Desk, O: Write>(
         Writes command.entry o (D.written desk.old) (D.written desk.new)) }
 {
     match command {
-        Words::Check { source } => check_source(alloc, source, desk, out),
+        Words::Check { source, format } => check_source(alloc, source, format, desk, out),
         Words::Show { source } => show_source(alloc, source, desk, out),
         Words::Run {
             source,
             schedule,
-            decided,
+            form,
         } => {
             let run = Run { source, schedule };
-            answer(alloc, run, Question::Report { decided }, desk, out)
+            answer(alloc, run, Question::Report { form }, desk, out)
         }
         Words::Draw {
             source,
@@ -174,6 +174,7 @@ fn carry_out<'a, R: Threads + Wait + Sync, D: Desk, O: Write>(
             correct,
             delta,
             gst,
+            format,
         } => {
             let run = Run { source, schedule };
             let terms = Terms {
@@ -181,7 +182,7 @@ fn carry_out<'a, R: Threads + Wait + Sync, D: Desk, O: Write>(
                 delta,
                 gst,
             };
-            answer(alloc, run, Question::Verdict(terms), desk, out)
+            answer(alloc, run, Question::Verdict { terms, format }, desk, out)
         }
         Words::Lockstep {
             source,
@@ -230,26 +231,27 @@ fn carry_out<'a, R: Threads + Wait + Sync, D: Desk, O: Write>(
             source,
             header,
             omissions,
-            decided,
+            form,
         } => {
             let omitting = Omitting {
                 source,
                 header,
                 omissions,
             };
-            run_rounds(alloc, omitting, decided, desk, out)
+            run_rounds(alloc, omitting, form, desk, out)
         }
         Words::Explore {
             source,
             header,
             exploring,
+            format,
         } => {
             let exploration = Exploration {
                 source,
                 header,
                 exploring,
             };
-            explore(alloc, exploration, desk, out)
+            explore(alloc, exploration, format, desk, out)
         }
     }
 }
@@ -259,20 +261,21 @@ fn carry_out<'a, R: Threads + Wait + Sync, D: Desk, O: Write>(
 fn check_source<'a, D: Desk, O: Write>(
     alloc: Global,
     source: Source<'a>,
+    format: AnswerFormat,
     desk: &mut D,
     out: &mut O,
 ) -> Result<Outcome, Refusal>
     ensures done { IfOk result (λ o. o ≡ Outcome.Done) }
-    ensures served { OnOk result (Serves (Words.Check source.entry) (D.files desk.old)
+    ensures served { OnOk result (Serves (Words.Check source.entry format) (D.files desk.old)
         (D.files desk.new) (O.contents out.old) (O.contents out.new)) }
     ensures refused { IfErr result
-        (IsRefusedCommand (Words.Check source.entry) (D.files desk.old)) }
+        (IsRefusedCommand (Words.Check source.entry format) (D.files desk.old)) }
     ensures silent { IfErr result (IsSilent (O.contents out.old) (O.contents out.new)) }
     ensures written { D.written desk.new ≡ D.written desk.old }
 {
     let opened = Opened::open(alloc, source, desk)?;
     let program = opened.program(alloc, 1, 0)?;
-    written(write_summary(&program, out), out)
+    written(write_declared(&program, format, out), out)
 }
 
 /// Answers a question on a run.
@@ -294,7 +297,7 @@ fn answer<'a, D: Desk, O: Write>(
     ensures written { D.written desk.new ≡ D.written desk.old }
 {
     let answer = run.answer(alloc, question, desk)?;
-    written(write_answer(&answer, out), out)
+    tell_answer(alloc, &answer, out)
 }
 
 /// Runs a source by threads, and writes the trace and then the report.
@@ -327,8 +330,7 @@ fn thread<'a, R: Threads + Wait + Sync, D: Desk, O: Write>(
         whole,
     } = threaded.run(rt, alloc, desk)?;
     write_trace(threaded.trace, trace.as_str(), desk)?;
-    let answer = Answer::Report { report, decided };
-    written(write_answer(&answer, out), out)?;
+    written(write_told(&report, decided, out), out)?;
     if whole {
         Ok(Outcome::Done)
     } else {
@@ -386,23 +388,23 @@ fn realise<'a, D: Desk, O: Write>(
 fn run_rounds<'a, D: Desk, O: Write>(
     alloc: Global,
     omitting: Omitting<'a>,
-    decided: bool,
+    form: Form<'a>,
     desk: &mut D,
     out: &mut O,
 ) -> Result<Outcome, Refusal>
     ensures done { IfOk result (λ o. o ≡ Outcome.Done) }
     ensures served { OnOk result (Serves
-        (Words.Rounds omitting.entry.source omitting.entry.header omitting.entry.omissions decided)
-        (D.files desk.old) (D.files desk.new) (O.contents out.old) (O.contents out.new)) }
+        (Words.Rounds omitting.entry.source omitting.entry.header omitting.entry.omissions
+        form.entry) (D.files desk.old) (D.files desk.new) (O.contents out.old)
+        (O.contents out.new)) }
     ensures refused { IfErr result (IsRefusedCommand
-        (Words.Rounds omitting.entry.source omitting.entry.header omitting.entry.omissions decided)
-        (D.files desk.old)) }
+        (Words.Rounds omitting.entry.source omitting.entry.header omitting.entry.omissions
+        form.entry) (D.files desk.old)) }
     ensures silent { IfErr result (IsSilent (O.contents out.old) (O.contents out.new)) }
     ensures written { D.written desk.new ≡ D.written desk.old }
 {
     let report = omitting.report(alloc, desk)?;
-    let told = Answer::Report { report, decided };
-    written(write_answer(&told, out), out)
+    tell_report(alloc, &report, form, out)
 }
 
 /// Tells what is found in all runs, and first writes the schedule that shows a property failing.
@@ -410,14 +412,15 @@ fn run_rounds<'a, D: Desk, O: Write>(
 fn explore<'a, D: Desk, O: Write>(
     alloc: Global,
     exploration: Exploration<'a>,
+    format: AnswerFormat,
     desk: &mut D,
     out: &mut O,
 ) -> Result<Outcome, Refusal>
     ensures served { IfOk result (λ o. Ends (Words.Explore exploration.entry.source
-        exploration.entry.header exploration.entry.exploring)
+        exploration.entry.header exploration.entry.exploring format)
         (D.files desk.old) (D.files desk.new) o (O.contents out.old) (O.contents out.new)) }
     ensures refused { IfErr result (IsRefusedCommand (Words.Explore exploration.entry.source
-        exploration.entry.header exploration.entry.exploring) (D.files desk.old)) }
+        exploration.entry.header exploration.entry.exploring format) (D.files desk.old)) }
     ensures silent { IfErr result (IsSilent (O.contents out.old) (O.contents out.new)) }
     ensures written { MayWriteTrace exploration.entry.exploring.trace
         (D.written desk.old) (D.written desk.new) }
@@ -429,46 +432,30 @@ fn explore<'a, D: Desk, O: Write>(
 {
     let Found { told, trace } = exploration.find(alloc, desk)?;
     write_shown(exploration.exploring.trace, &trace, desk)?;
-    written(write_answers(&told, out), out)?;
+    written(write_answers(&told, format, out), out)?;
     Ok(Outcome::of(&told))
 }
 
-/// What a program declares: the number of its values, its period and the number of its variables.
-fn write_summary<O: Write>(program: &Checked, out: &mut O) -> io::Result<()>
-    ensures { OnOk result (Appends (O.contents out.old) (O.contents out.new)
-        (summary_text program.now)) }
-{
-    let program = program.program();
-    writeln!(
-        out,
-        "ok values {} period {} variables {}",
-        program.values(),
-        program.period(),
-        program.variables().len()
-    )
-}
-
-fn write_answer<O: Write>(answer: &Answer, out: &mut O) -> io::Result<()>
-    ensures { OnOk result (Appends (O.contents out.old) (O.contents out.new)
-        (answer_text answer.now)) }
+/// Writes an answer, and all that the writer still holds.
+#[tactic(auto, using(crate::proofs::Telling::silent_write))]
+fn tell_answer<O: Write>(
+    alloc: Global,
+    answer: &Answer<'_>,
+    out: &mut O,
+) -> Result<Outcome, Refusal>
+    ensures done { IfOk result (λ o. o ≡ Outcome.Done) }
+    ensures said { OnOk result
+        (SaysAnswer answer.now (O.contents out.old) (O.contents out.new)) }
+    ensures refused { IfErr result (IsUntold answer.now) }
+    ensures silent { IfErr result (IsSilent (O.contents out.old) (O.contents out.new)) }
 {
     match answer {
-        Answer::Report {
-            report,
-            decided: false,
-        } => write_report(report, out),
-        Answer::Report {
-            report,
-            decided: true,
-        } => {
-            write_report(report, out)?;
-            writeln!(out, "decided {}", decided(report))
-        }
-        Answer::Verdict(verdict) => writeln!(out, "{verdict}"),
+        Answer::Report { report, form } => tell_report(alloc, report, *form, out),
+        Answer::Verdict { verdict, format } => written(write_verdict(*verdict, *format, out), out),
     }
 }
 
-/// Whether all was written, with what the writer still held; `Write` where it wasn't.
+/// Whether all was written, with what the writer still held; `Write` if it wasn't.
 pub(crate) fn written<O: Write>(done: io::Result<()>, out: &mut O) -> Result<Outcome, Refusal>
     ensures outcome { IfOk result (λ o. o ≡ Outcome.Done) }
     ensures done { OnOk result (IsOk done) }

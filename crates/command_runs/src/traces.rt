@@ -42,7 +42,7 @@ fn is_source<'a, D: Desk>(name: &str, source: Source<'a>, desk: &D) -> bool
     }
 }
 
-/// The same where a trace is asked for.
+/// The same if a trace is asked for.
 pub(crate) fn try_trace_if_named<'a, D: Desk>(
     name: Option<&str>,
     source: Source<'a>,
@@ -74,7 +74,7 @@ pub(crate) fn write_trace<D: Desk>(name: &str, text: &str, desk: &mut D) -> Resu
     }
 }
 
-/// Makes the text the whole file of the trace, where there are both.
+/// Makes the text the whole file of the trace, if there are both.
 pub(crate) fn write_shown<D: Desk>(
     name: Option<&str>,
     text: &Option<String>,

@@ -32,6 +32,9 @@ fails_weaker A B fault.Clear so h = h
 fails_weaker A B fault.Hears so h = h
 fails_weaker A B fault.Checks so h = h
 fails_weaker A B fault.Range so h = h
+fails_weaker A B fault.Format so h = h
+fails_weaker A B fault.AnswerFormat so h = h
+fails_weaker A B fault.Blocks so h = h
 fails_weaker A B fault.NoMemory so h = h
 
 -- a member of the texts behind references

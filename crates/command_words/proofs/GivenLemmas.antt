@@ -24,7 +24,8 @@ use Rattle.clap.specs.declared.parser.matches.ArgMatches.TheViews.{out-ArgMatche
 use Rattle.clap.specs.declared.parser.matches.SubCommand.{SubCommand}
 use Rattle.clap.proofs.WalkLemmas.{first_value-rows}
 use Rattle.command_words.specs.Commands.{roundc_app}
-use Rattle.command_words.specs.Given.{Explains, FailsByLockstep, FailsByOmissions, FailsByRun}
+use Rattle.command_words.specs.Given.{Explains, FailsByCheck, FailsByLockstep}
+use Rattle.command_words.specs.Given.{FailsByOmissions, FailsByReport, FailsByRounds, FailsByRun}
 use Rattle.command_words.specs.Given.{FailsByTerms, FailsByValue, IsMistake}
 use Rattle.command_words.specs.declared.words.WordsFault.{WordsFault}
 use Rattle.command_words.specs.declared.words.WordsFault.TheVariants as fault
@@ -89,8 +90,14 @@ ok_always (Ok x) p = p
 ok_always (Err e) p = tt
 
 -- no value of a command has a fault that `clap` tells
+by_no_check : (rows : List Row) (e : Error) → ¬ (FailsByCheck rows (fault.Refused e))
+by_no_check rows e h = elim h [ inl source ↦ source | inr format ↦ format ]
+
 by_no_run : (rows : List Row) (e : Error) → ¬ (FailsByRun rows (fault.Refused e))
 by_no_run rows e h = elim h [ inl source ↦ source | inr file ↦ file ]
+
+by_no_report : (rows : List Row) (e : Error) → ¬ (FailsByReport rows (fault.Refused e))
+by_no_report rows e h = elim h [ inl run ↦ by_no_run rows e run | inr form ↦ form ]
 
 by_no_terms : (rows : List Row) (e : Error) → ¬ (FailsByTerms rows (fault.Refused e))
 by_no_terms rows e h =
@@ -101,6 +108,9 @@ by_no_omissions rows e h = elim h [
   | inl source ↦ source
   | inr file ↦ elim file [ inl header ↦ header | inr omissions ↦ omissions ]
 ]
+
+by_no_rounds : (rows : List Row) (e : Error) → ¬ (FailsByRounds rows (fault.Refused e))
+by_no_rounds rows e h = elim h [ inl named ↦ by_no_omissions rows e named | inr form ↦ form ]
 
 by_no_lockstep : (rows : List Row) (e : Error) → ¬ (FailsByLockstep rows (fault.Refused e))
 by_no_lockstep rows e h = elim h [
@@ -129,10 +139,10 @@ pub lack_explained : (words : List Text) (name : Text) (rows : List Row) (e : Wo
     → subcommand_of roundc_app words ≡ Some (name, rows) → FailsByValue name rows e
     → Explains words e
 lack_explained words name rows (fault.Refused e) none is lack = absurd (elim lack [
-  | inl alone ↦ elim alone [ inl check ↦ check.1 | inr show ↦ show.1 ]
+  | inl alone ↦ elim alone [ inl check ↦ by_no_check rows e check.1 | inr show ↦ show.1 ]
   | inr more ↦ elim more [
     | inl schedule ↦ elim schedule [
-      | inl run ↦ by_no_run rows e run.1
+      | inl run ↦ by_no_report rows e run.1
       | inr draw ↦ elim draw.1 [
         | inl run ↦ by_no_run rows e run
         | inr drawing ↦ elim drawing [ inl range ↦ range | inr nodes ↦ nodes ]
@@ -142,19 +152,23 @@ lack_explained words name rows (fault.Refused e) none is lack = absurd (elim lac
       | inl threads ↦ elim threads.1
           [ inl source ↦ source | inr file ↦ elim file [ inl setup ↦ setup | inr trace ↦ trace ] ]
       | inr more ↦ elim more [
-        | inl judge ↦ elim judge.1
-            [ inl run ↦ by_no_run rows e run | inr terms ↦ by_no_terms rows e terms ]
+        | inl judge ↦ elim judge.1 [
+          | inl run ↦ by_no_run rows e run
+          | inr more ↦ elim more [ inl terms ↦ by_no_terms rows e terms | inr format ↦ format ]
+        ]
         | inr more ↦ elim more [
           | inl lockstep ↦ by_no_lockstep rows e lockstep.1
           | inr more ↦ elim more [
             | inl realise ↦ by_no_omissions rows e realise.1
             | inr more ↦ elim more [
-              | inl rounds ↦ by_no_omissions rows e rounds.1
+              | inl rounds ↦ by_no_rounds rows e rounds.1
               | inr more ↦ elim more [
                 | inl explore ↦ elim explore.1 [
                   | inl source ↦ source
-                  | inr file ↦ elim file
-                      [ inl header ↦ header | inr exploring ↦ exploring ]
+                  | inr file ↦ elim file [
+                    | inl header ↦ header
+                    | inr more ↦ elim more [ inl exploring ↦ exploring | inr format ↦ format ]
+                  ]
                 ]
                 | inr other ↦ cc (other.1)
               ]
@@ -178,6 +192,10 @@ lack_explained words name rows fault.Clear none is lack = inl (none, (name, rows
 lack_explained words name rows fault.Hears none is lack = inl (none, (name, rows, is, lack))
 lack_explained words name rows fault.Checks none is lack = (none, (name, rows, is, lack))
 lack_explained words name rows fault.Range none is lack = inl (none, (name, rows, is, lack))
+lack_explained words name rows fault.Format none is lack = (none, (name, rows, is, lack))
+lack_explained words name rows fault.AnswerFormat none is lack =
+    (none, (name, rows, is, lack))
+lack_explained words name rows fault.Blocks none is lack = (none, (name, rows, is, lack))
 lack_explained words name rows fault.NoMemory none is lack = tt
 
 -- what the code makes of an error explains the refusal
@@ -200,6 +218,9 @@ mistake_explained words error fault.Clear kinds is = inr is
 mistake_explained words error fault.Hears kinds is = inr is
 mistake_explained words error fault.Checks kinds is = absurd is
 mistake_explained words error fault.Range kinds is = inr is
+mistake_explained words error fault.Format kinds is = absurd is
+mistake_explained words error fault.AnswerFormat kinds is = absurd is
+mistake_explained words error fault.Blocks kinds is = absurd is
 mistake_explained words error fault.NoMemory kinds is = tt
 
 or_else_right : (a b : Kinds) → or_else a b ≡ [] → b ≡ []
@@ -224,7 +245,7 @@ last_check s names h words has below none =
     (or_else_right below settling
     (or_else_right (walk_fault s names (walk_from h) words) (or_else below settling) none)))
 
--- where `clap` finds no mistake, the words name a command
+-- if `clap` finds no mistake, the words name a command
 pub command_named : (words : List Text) → fault_of roundc_app words ≡ []
     → is_some (subcommand_of roundc_app words) ≡ true
 command_named words none =

@@ -18,6 +18,24 @@ run_schedule : option_map (λ p. first_of (codes "schedule") p.1) (subcommand_of
 unfolding clap_on_literals
 run_schedule = refl
 
+abbrev form_row : List Text
+form_row = codes "run" ∷ codes "a" ∷ codes "--schedule" ∷ codes "b" ∷ codes "--format" ∷ codes
+    "table" ∷ codes "--changed" ∷ codes "--by=node" ∷ codes "--vars" ∷ codes "x,y" ∷ []
+
+form_taken : takes roundc_app form_row ≡ true
+unfolding clap_on_literals
+form_taken = refl
+
+form_vars : option_map (λ p. first_of (codes "vars") p.1) (subcommand_of roundc_app form_row)
+    ≡ Some (Some (codes "x,y"))
+unfolding clap_on_literals
+form_vars = refl
+
+form_by : option_map (λ p. first_of (codes "by") p.1) (subcommand_of roundc_app form_row)
+    ≡ Some (Some (codes "node"))
+unfolding clap_on_literals
+form_by = refl
+
 help_refused : fault_of roundc_app (codes "run" ∷ codes "--help" ∷ []) ≡ kind.DisplayHelp ∷ []
 unfolding clap_on_literals
 help_refused = refl
@@ -90,6 +108,12 @@ lockstep_delays : option_map (λ p. first_of (codes "delays") p.1)
     (subcommand_of roundc_app lockstep_row) ≡ Some None
 unfolding clap_on_literals
 lockstep_delays = refl
+
+check_format : option_map (λ p. first_of (codes "format") p.1)
+    (subcommand_of roundc_app (codes "check" ∷ codes "--format=json" ∷ codes "a" ∷ []))
+    ≡ Some (Some (codes "json"))
+unfolding clap_on_literals
+check_format = refl
 
 check_taken : takes roundc_app (codes "check" ∷ codes "a" ∷ []) ≡ true
 unfolding clap_on_literals

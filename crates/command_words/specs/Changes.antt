@@ -37,7 +37,7 @@ pub record GivesChanges (rows : List Row) (c : Changes) : Type 0 where
   pub omissions : first_of (codes "omissions") rows ≡ option_map (λ name. name.now) c.omissions
   pub delays : GivesDelays rows c.delays.items
 
--- the fault of such an option, where this is why its values aren't read: that cause, or there was
+-- the fault of such an option, if this is why its values aren't read: that cause, or there was
 -- no memory for what is read
 abbrev pub FailsAs : Type 0 → WordsFault → Type 0
 FailsAs Cause fault.Change = Cause

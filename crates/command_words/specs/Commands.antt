@@ -22,11 +22,25 @@ flag_rule name = record (new_rule name) { long = Some name; action = Some SetTru
 abbrev pub decided_rule : Rule
 decided_rule = flag_rule (codes "decided")
 
--- `run SOURCE --schedule FILE [--decided]`
+-- `--NAME VALUE`, which may be left out
+abbrev pub optional_rule : Text → Rule
+optional_rule name = record (new_rule name) { long = Some name; value_names = 1 }
+
+-- `--format FORMAT`, which may be left out
+abbrev pub format_rule : Rule
+format_rule = optional_rule (codes "format")
+
+-- the same with `[--decided] [--format FORMAT] [--by BY] [--vars LIST] [--changed]`
+abbrev pub with_form : App → App
+with_form app =
+    with_rule (with_rule (with_rule (with_rule (with_rule app decided_rule) format_rule)
+    (optional_rule (codes "by"))) (optional_rule (codes "vars"))) (flag_rule (codes "changed"))
+
+-- `run SOURCE --schedule FILE` and the form of the report
 abbrev pub run_app : App
 run_app =
-    with_rule (with_rule (with_rule (new_app (codes "run")) source_rule)
-    (text_rule (codes "schedule"))) decided_rule
+    with_form (with_rule (with_rule (new_app (codes "run")) source_rule)
+    (text_rule (codes "schedule")))
 
 -- `threads SOURCE --setup FILE --trace FILE [--decided]`
 abbrev pub threads_app : App
@@ -34,24 +48,20 @@ threads_app =
     with_rule (with_rule (with_rule (with_rule (new_app (codes "threads")) source_rule)
     (text_rule (codes "setup"))) (text_rule (codes "trace"))) decided_rule
 
--- `check SOURCE`
+-- `check SOURCE [--format FORMAT]`
 abbrev pub check_app : App
-check_app = with_rule (new_app (codes "check")) source_rule
+check_app = with_rule (with_rule (new_app (codes "check")) source_rule) format_rule
 
 -- `show SOURCE`
 abbrev pub show_app : App
 show_app = with_rule (new_app (codes "show")) source_rule
 
--- `judge SOURCE --schedule FILE --correct LIST --delta D --gst G`
+-- `judge SOURCE --schedule FILE --correct LIST --delta D --gst G [--format FORMAT]`
 abbrev pub judge_app : App
 judge_app =
-    with_rule (with_rule (with_rule (with_rule (with_rule (new_app (codes "judge")) source_rule)
-    (text_rule (codes "schedule"))) (text_rule (codes "correct"))) (text_rule (codes "delta")))
-    (text_rule (codes "gst"))
-
--- `--NAME VALUE`, which may be left out
-abbrev pub optional_rule : Text → Rule
-optional_rule name = record (new_rule name) { long = Some name; value_names = 1 }
+    with_rule (with_rule (with_rule (with_rule (with_rule (with_rule (new_app (codes "judge"))
+    source_rule) (text_rule (codes "schedule"))) (text_rule (codes "correct")))
+    (text_rule (codes "delta"))) (text_rule (codes "gst"))) format_rule
 
 -- `draw SOURCE --schedule FILE [--rounds RANGE] [--nodes LIST] [--html]`
 abbrev pub draw_app : App
@@ -90,11 +100,11 @@ realise_app =
     with_rule (with_rule (with_rule (new_app (codes "realise")) source_rule)
     (text_rule (codes "header"))) (text_rule (codes "omissions"))
 
--- `rounds SOURCE --header FILE --omissions FILE [--decided]`
+-- `rounds SOURCE --header FILE --omissions FILE` and the form of the report
 abbrev pub rounds_app : App
 rounds_app =
-    with_rule (with_rule (with_rule (with_rule (new_app (codes "rounds")) source_rule)
-    (text_rule (codes "header"))) (text_rule (codes "omissions"))) decided_rule
+    with_form (with_rule (with_rule (with_rule (new_app (codes "rounds")) source_rule)
+    (text_rule (codes "header"))) (text_rule (codes "omissions")))
 
 -- `explore SOURCE --header FILE`
 abbrev pub explore_by_header_app : App
@@ -108,11 +118,12 @@ explore_some_runs_app =
     (optional_rule (codes "inputs"))) (optional_rule (codes "faults")))
     (optional_rule (codes "clear"))) (optional_rule (codes "hears"))
 
--- the same with `[--check LIST] [--always EXPR] [--trace FILE]`
+-- the same with `[--check LIST] [--always EXPR] [--trace FILE] [--format FORMAT]`
 abbrev pub explore_app : App
 explore_app =
-    with_rule (with_rule (with_rule explore_some_runs_app (optional_rule (codes "check")))
-    (optional_rule (codes "always"))) (optional_rule (codes "trace"))
+    with_rule (with_rule (with_rule (with_rule explore_some_runs_app
+    (optional_rule (codes "check"))) (optional_rule (codes "always")))
+    (optional_rule (codes "trace"))) format_rule
 
 -- the command line with no command in it yet; its version is that of each command
 abbrev pub bare_app : App

@@ -1,6 +1,6 @@
 -- What the words of a command line say, by `clap`'s own definition of a simple command's matches.
 use Rattle.std.specs.Prelude.{◌≡◌, ◌≢◌, ◌≤◌, ◌⊎◌, ◌↔◌, ◌∷◌, ◌&&◌, ◌||◌, ℕ, Bool, IsTrue, List, None}
-use Rattle.std.specs.Prelude.{Option, Some, codes, [], false, take, true, ⊤}
+use Rattle.std.specs.Prelude.{Option, Some, codes, [], false, option_map, take, true, ⊤}
 use Rattle.std.specs.List.{list_any}
 use Rattle.std.specs.Str.{bytes_eq}
 use Rattle.clap.specs.Words.{Row, Text, first_of, subcommand_of, fault_of, IsAmong, kind_of}
@@ -8,11 +8,17 @@ use Rattle.clap.specs.declared.error.Error.{Error}
 use Rattle.clap.specs.declared.error.kind.ErrorKind.TheVariants.{OutOfMemory}
 use Rattle.command_words.specs.Changes.{FailsByChanges, GivesChanges}
 use Rattle.command_words.specs.Commands.{roundc_app}
-use Rattle.command_words.specs.Exploring.{FailsByExploring, GivesExploring, HasNoValue}
-use Rattle.command_words.specs.Values.{IsNoList, ListText, NumberText, RangeText, SourceText}
-use Rattle.command_words.specs.Values.{is_negative, max_delta}
+use Rattle.command_words.specs.Exploring.{FailsByExploring, GivesExploring, GivesOr, HasNoValue}
+use Rattle.command_words.specs.Values.{AnswerFormatText, BlocksText, FormatText, IsNoList}
+use Rattle.command_words.specs.Values.{ListText, NumberText, RangeText, SourceText, is_negative}
+use Rattle.command_words.specs.Values.{max_delta}
 use Rattle.command_words.specs.declared.drawing.Drawing.{Drawing}
 use Rattle.command_words.specs.declared.drawing.RoundRange.{RoundRange}
+use Rattle.command_words.specs.declared.forms.AnswerFormat.{AnswerFormat}
+use Rattle.command_words.specs.declared.forms.AnswerFormat.TheVariants as answer_format
+use Rattle.command_words.specs.declared.forms.Blocks.TheVariants as blocks
+use Rattle.command_words.specs.declared.forms.Form.{Form}
+use Rattle.command_words.specs.declared.forms.Format.TheVariants as format
 use Rattle.command_words.specs.declared.values.Source.{Source}
 use Rattle.command_words.specs.declared.words.Words.{Words}
 use Rattle.command_words.specs.declared.words.Words.TheVariants.{Check, Draw, Explore, Judge}
@@ -76,13 +82,26 @@ pub record GivesDrawing (rows : List Row) (d : Drawing) : Type 0 where
   pub nodes : GivesTable (codes "nodes") rows d.nodes.items
   pub html : IsTrue d.html ↔ HasFlag (codes "html") rows
 
+-- the format of an answer, which is text without `--format`
+abbrev pub GivesFormat : List Row → AnswerFormat → Type 0
+GivesFormat rows f = GivesOr answer_format.Text (codes "format") AnswerFormatText rows f
+
+-- what the options of a report say; without `--format` it's text, and without `--by` a table's
+-- blocks are rounds
+pub record GivesForm (rows : List Row) (f : Form) : Type 0 where
+  pub format : GivesOr format.Text (codes "format") FormatText rows f.format
+  pub blocks : GivesOr blocks.Rounds (codes "by") BlocksText rows f.blocks
+  pub variables : first_of (codes "vars") rows ≡ option_map (λ text. text.now) f.variables
+  pub changed : IsTrue f.changed ↔ HasFlag (codes "changed") rows
+  pub decided : IsTrue f.decided ↔ IsDecidedAsked rows
+
 -- the command of this name with these matches is what the words say
 abbrev pub Gives : Text → List Row → Words → Type 0
-Gives name rows (Check source) = (name ≡ codes "check") × GivesSource rows source
+Gives name rows (Check source f) =
+    (name ≡ codes "check") × GivesSource rows source × GivesFormat rows f
 Gives name rows (Show source) = (name ≡ codes "show") × GivesSource rows source
-Gives name rows (Run source schedule decided) = (name ≡ codes "run") × GivesSource rows source
-    × (first_of (codes "schedule") rows ≡ Some schedule.now)
-    × (IsTrue decided ↔ IsDecidedAsked rows)
+Gives name rows (Run source schedule form) = (name ≡ codes "run") × GivesSource rows source
+    × (first_of (codes "schedule") rows ≡ Some schedule.now) × GivesForm rows form
 Gives name rows (Draw source schedule drawing) = (name ≡ codes "draw")
     × GivesSource rows source × (first_of (codes "schedule") rows ≡ Some schedule.now)
     × GivesDrawing rows drawing
@@ -90,9 +109,9 @@ Gives name rows (Threads source setup trace decided) = (name ≡ codes "threads"
     × GivesSource rows source × (first_of (codes "setup") rows ≡ Some setup.now)
     × (first_of (codes "trace") rows ≡ Some trace.now)
     × (IsTrue decided ↔ IsDecidedAsked rows)
-Gives name rows (Judge source schedule correct delta gst) = (name ≡ codes "judge")
+Gives name rows (Judge source schedule correct delta gst f) = (name ≡ codes "judge")
     × GivesSource rows source × (first_of (codes "schedule") rows ≡ Some schedule.now)
-    × GivesTerms rows correct.items delta gst
+    × GivesTerms rows correct.items delta gst × GivesFormat rows f
 Gives name rows (Lockstep source header correct delta gst delays orders ticks changes) =
     (name ≡ codes "lockstep")
     × GivesSource rows source × (first_of (codes "header") rows ≡ Some header.now)
@@ -102,13 +121,12 @@ Gives name rows (Lockstep source header correct delta gst delays orders ticks ch
 Gives name rows (Realise source header omissions) = (name ≡ codes "realise")
     × GivesSource rows source × (first_of (codes "header") rows ≡ Some header.now)
     × (first_of (codes "omissions") rows ≡ Some omissions.now)
-Gives name rows (Rounds source header omissions decided) = (name ≡ codes "rounds")
+Gives name rows (Rounds source header omissions form) = (name ≡ codes "rounds")
     × GivesSource rows source × (first_of (codes "header") rows ≡ Some header.now)
-    × (first_of (codes "omissions") rows ≡ Some omissions.now)
-    × (IsTrue decided ↔ IsDecidedAsked rows)
-Gives name rows (Explore source header exploring) = (name ≡ codes "explore")
+    × (first_of (codes "omissions") rows ≡ Some omissions.now) × GivesForm rows form
+Gives name rows (Explore source header exploring f) = (name ≡ codes "explore")
     × GivesSource rows source × (first_of (codes "header") rows ≡ Some header.now)
-    × GivesExploring rows exploring
+    × GivesExploring rows exploring × GivesFormat rows f
 
 -- the words name a command, and give it its values
 abbrev pub Means : List Text → Words → Type 0
@@ -173,9 +191,28 @@ FailsByRange rows _ = ⊥
 abbrev pub FailsByDrawing : List Row → WordsFault → Type 0
 FailsByDrawing rows fault = FailsByRange rows fault ⊎ FailsByTable (codes "nodes") rows fault
 
--- the fault of a value of `run`
+-- the fault of the format of an answer
+abbrev pub FailsByFormat : List Row → WordsFault → Type 0
+FailsByFormat rows fault.AnswerFormat = HasNoValue (codes "format") AnswerFormatText rows
+FailsByFormat rows _ = ⊥
+
+-- the fault of an option of a report
+abbrev pub FailsByForm : List Row → WordsFault → Type 0
+FailsByForm rows fault.Format = HasNoValue (codes "format") FormatText rows
+FailsByForm rows fault.Blocks = HasNoValue (codes "by") BlocksText rows
+FailsByForm rows _ = ⊥
+
+-- the fault of a value of `check`
+abbrev pub FailsByCheck : List Row → WordsFault → Type 0
+FailsByCheck rows fault = FailsBySource rows fault ⊎ FailsByFormat rows fault
+
+-- the fault of a source or a schedule
 abbrev pub FailsByRun : List Row → WordsFault → Type 0
 FailsByRun rows fault = FailsBySource rows fault ⊎ FailsByFile (codes "schedule") rows fault
+
+-- the fault of a value of `run`
+abbrev pub FailsByReport : List Row → WordsFault → Type 0
+FailsByReport rows fault = FailsByRun rows fault ⊎ FailsByForm rows fault
 
 -- the fault of a value of `draw`
 abbrev pub FailsByDraw : List Row → WordsFault → Type 0
@@ -193,7 +230,8 @@ FailsByTerms rows fault =
 
 -- the fault of a value of `judge`
 abbrev pub FailsByJudge : List Row → WordsFault → Type 0
-FailsByJudge rows fault = FailsByRun rows fault ⊎ FailsByTerms rows fault
+FailsByJudge rows fault =
+    FailsByRun rows fault ⊎ (FailsByTerms rows fault ⊎ FailsByFormat rows fault)
 
 -- the fault of a value of `lockstep`
 abbrev pub FailsByLockstep : List Row → WordsFault → Type 0
@@ -205,28 +243,33 @@ FailsByLockstep rows fault =
     ⊎ (FailsByTable (codes "orders") rows fault
     ⊎ (FailsByTicks rows fault ⊎ FailsByChanges rows fault)))))
 
--- the fault of a value of `realise` or `rounds`
+-- the fault of a value of `realise`
 abbrev pub FailsByOmissions : List Row → WordsFault → Type 0
 FailsByOmissions rows fault = FailsBySource rows fault
     ⊎ (FailsByFile (codes "header") rows fault ⊎ FailsByFile (codes "omissions") rows fault)
 
+-- the fault of a value of `rounds`
+abbrev pub FailsByRounds : List Row → WordsFault → Type 0
+FailsByRounds rows fault = FailsByOmissions rows fault ⊎ FailsByForm rows fault
+
 -- the fault of a value of `explore`
 abbrev pub FailsByExplore : List Row → WordsFault → Type 0
 FailsByExplore rows fault = FailsBySource rows fault
-    ⊎ (FailsByFile (codes "header") rows fault ⊎ FailsByExploring rows fault)
+    ⊎ (FailsByFile (codes "header") rows fault
+    ⊎ (FailsByExploring rows fault ⊎ FailsByFormat rows fault))
 
 -- the fault of a command's values; a command of another name lacks all
 abbrev pub FailsByValue : Text → List Row → WordsFault → Type 0
 FailsByValue name rows fault =
-    (((name ≡ codes "check") × FailsBySource rows fault)
+    (((name ≡ codes "check") × FailsByCheck rows fault)
     ⊎ ((name ≡ codes "show") × FailsBySource rows fault))
-    ⊎ ((((name ≡ codes "run") × FailsByRun rows fault)
+    ⊎ ((((name ≡ codes "run") × FailsByReport rows fault)
     ⊎ ((name ≡ codes "draw") × FailsByDraw rows fault))
     ⊎ (((name ≡ codes "threads") × FailsByThreads rows fault)
     ⊎ (((name ≡ codes "judge") × FailsByJudge rows fault)
     ⊎ (((name ≡ codes "lockstep") × FailsByLockstep rows fault)
     ⊎ (((name ≡ codes "realise") × FailsByOmissions rows fault)
-    ⊎ (((name ≡ codes "rounds") × FailsByOmissions rows fault)
+    ⊎ (((name ≡ codes "rounds") × FailsByRounds rows fault)
     ⊎ (((name ≡ codes "explore") × FailsByExplore rows fault)
     ⊎ (((name ≢ codes "check") × (name ≢ codes "show") × (name ≢ codes "run")
     × (name ≢ codes "draw") × (name ≢ codes "threads") × (name ≢ codes "judge")

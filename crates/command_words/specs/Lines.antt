@@ -4,8 +4,8 @@ use Rattle.command_words.specs.declared.words.WordsFault.{WordsFault}
 use Rattle.command_words.specs.declared.words.WordsFault.TheVariants.{Refused, Missing, Source}
 use Rattle.command_words.specs.declared.words.WordsFault.TheVariants.{List as BadList, Delta, Gst}
 use Rattle.command_words.specs.declared.words.WordsFault.TheVariants.{Ticks, Change, Inputs}
-use Rattle.command_words.specs.declared.words.WordsFault.TheVariants.{Range}
-use Rattle.command_words.specs.declared.words.WordsFault.TheVariants.{Faults, Clear}
+use Rattle.command_words.specs.declared.words.WordsFault.TheVariants.{AnswerFormat, Blocks, Format}
+use Rattle.command_words.specs.declared.words.WordsFault.TheVariants.{Faults, Clear, Range}
 use Rattle.command_words.specs.declared.words.WordsFault.TheVariants.{Hears, Checks, NoMemory}
 
 -- a mistake in the words; the text of one that `clap` finds is its own
@@ -28,4 +28,7 @@ words_line Checks = Some (codes
     "error: LIST is `agreement`, `validity`, `final` or `termination` with commas between them\n")
 words_line Range = Some (codes
     "error: RANGE is A-B, two numbers of 1 to 4294967295 with A <= B\n")
+words_line Format = Some (codes "error: FORMAT is `text`, `json`, `table` or `summary`\n")
+words_line AnswerFormat = Some (codes "error: FORMAT is `text` or `json`\n")
+words_line Blocks = Some (codes "error: BY is `round` or `node`\n")
 words_line NoMemory = Some (codes "no memory\n")

@@ -1,11 +1,17 @@
 -- The texts of SOURCE, LIST, RANGE and numbers, which `clap` passes on as they were written.
 use Rattle.std.specs.Prelude.{◌≡◌, ◌≢◌, ◌++◌, ◌∷◌, ◌==◌, ◌&&◌, ◌||◌, ◌<◌, ◌≤◌, ◌^◌, [], ℕ, Bool}
-use Rattle.std.specs.Prelude.{IsTrue, List, false, min, ⊤}
+use Rattle.std.specs.Prelude.{IsTrue, List, codes, false, min, ⊤}
 use Rattle.std.specs.Char.{is_ascii_alphabetic, is_ascii_alphanumeric, is_ascii_digit}
 use Rattle.std.specs.List.{list_all, slice_split}
 use Rattle.std.specs.Str.Parse.{IsNumeral, digits_value}
 use Rattle.clap.specs.Words.{Text}
 use Rattle.command_words.specs.declared.drawing.RoundRange.{RoundRange}
+use Rattle.command_words.specs.declared.forms.AnswerFormat.{AnswerFormat}
+use Rattle.command_words.specs.declared.forms.AnswerFormat.TheVariants as answer_format
+use Rattle.command_words.specs.declared.forms.Blocks.{Blocks}
+use Rattle.command_words.specs.declared.forms.Blocks.TheVariants as blocks
+use Rattle.command_words.specs.declared.forms.Format.{Format}
+use Rattle.command_words.specs.declared.forms.Format.TheVariants as format
 use Rattle.command_words.specs.declared.values.Source.{Source}
 use Rattle.command_words.specs.declared.words.WordsFault.{WordsFault}
 use Rattle.command_words.specs.declared.words.WordsFault.TheVariants as fault
@@ -60,6 +66,23 @@ is_dash b = b == dash
 abbrev pub RangeText : Text → RoundRange → Type 0
 RangeText text r = (first : Text) × (last : Text) × (text ≡ first ++ dash ∷ last)
     × NumberText first r.first × NumberText last r.last × (1 ≤ r.first) × (r.first ≤ r.last)
+
+-- a report's format
+abbrev pub FormatText : Text → Format → Type 0
+FormatText text format.Text = text ≡ codes "text"
+FormatText text format.Json = text ≡ codes "json"
+FormatText text format.Table = text ≡ codes "table"
+FormatText text format.Summary = text ≡ codes "summary"
+
+-- the format of an answer that is no report
+abbrev pub AnswerFormatText : Text → AnswerFormat → Type 0
+AnswerFormatText text answer_format.Text = text ≡ codes "text"
+AnswerFormatText text answer_format.Json = text ≡ codes "json"
+
+-- what a table's blocks are
+abbrev pub BlocksText : Text → Blocks → Type 0
+BlocksText text blocks.Rounds = text ≡ codes "round"
+BlocksText text blocks.Nodes = text ≡ codes "node"
 
 -- the delay bound is at most this
 abbrev pub max_delta : ℕ

@@ -33,7 +33,7 @@ pub struct OwnDelay {
 #[derive(Debug, Drop, PartialEq, Eq)]
 pub struct Changes<'a> {
     pub stops: Vec<NodeStop>,
-    /// The FILE of the omissions as it was written, where it isn't left out.
+    /// The FILE of the omissions as it was written, if it isn't left out.
     pub omissions: Option<&'a str>,
     pub delays: Vec<OwnDelay>,
 }

@@ -1,14 +1,14 @@
 //! The commands, made by `clap`'s builders: one function for each argument and each command.
 ghost use Rattle.std.specs.Prelude.{◌≡◌, IfOk, codes, false, length};
-ghost use Rattle.clap.specs.Words.{rule_of};
+ghost use Rattle.clap.specs.Words.{App, rule_of};
 ghost use Rattle.command_words.specs.Commands.{IsCommandOf, bare_app, check_app, decided_rule};
 ghost use Rattle.command_words.specs.Commands.{draw_app, explore_app, explore_by_header_app};
 ghost use Rattle.command_words.specs.Commands.{paced_lockstep_app, repeated_rule};
-ghost use Rattle.command_words.specs.Commands.{explore_some_runs_app, flag_rule};
+ghost use Rattle.command_words.specs.Commands.{explore_some_runs_app, flag_rule, format_rule};
 ghost use Rattle.command_words.specs.Commands.{judge_app, lockstep_app, optional_rule};
 ghost use Rattle.command_words.specs.Commands.{realise_app, required_lockstep_app, roundc_app};
 ghost use Rattle.command_words.specs.Commands.{rounds_app, run_app, show_app, source_rule};
-ghost use Rattle.command_words.specs.Commands.{text_rule, threads_app};
+ghost use Rattle.command_words.specs.Commands.{text_rule, threads_app, with_form};
 
 use clap::{Arg, ArgAction, Command};
 use std::alloc::{AllocError, Global};
@@ -119,13 +119,22 @@ fn decided_arg<'a>(alloc: Global) -> Arg<'a>
     )
 }
 
-/// `check SOURCE`.
+/// `--format FORMAT`.
+fn format_arg<'a>(alloc: Global, help: &'a str) -> Arg<'a>
+    ensures rule { rule_of result ≡ format_rule }
+    ensures local { result.global ≡ false }
+{
+    optional_arg(alloc, "format", "FORMAT", help)
+}
+
+/// `check SOURCE [--format FORMAT]`.
 fn check_command<'a>(alloc: Global) -> Result<Command<'a>, AllocError>
     ensures { IfOk result (IsCommandOf check_app) }
 {
     Command::new(alloc, "check")
         .about("Reads a source and says what it declares")
-        .arg(source_arg(alloc))
+        .arg(source_arg(alloc))?
+        .arg(format_arg(alloc, "text (by default) or json"))
 }
 
 /// `show SOURCE`.
@@ -137,7 +146,7 @@ fn show_command<'a>(alloc: Global) -> Result<Command<'a>, AllocError>
         .arg(source_arg(alloc))
 }
 
-/// `judge SOURCE --schedule FILE --correct LIST --delta D --gst G`.
+/// `judge SOURCE --schedule FILE --correct LIST --delta D --gst G [--format FORMAT]`.
 fn judge_command<'a>(alloc: Global) -> Result<Command<'a>, AllocError>
     ensures { IfOk result (IsCommandOf judge_app) }
 {
@@ -147,7 +156,8 @@ fn judge_command<'a>(alloc: Global) -> Result<Command<'a>, AllocError>
         .arg(schedule_arg(alloc))?
         .arg(correct_arg(alloc))?
         .arg(delta_arg(alloc))?
-        .arg(gst_arg(alloc, "The step from which the bound is to hold"))
+        .arg(gst_arg(alloc, "The step from which the bound is to hold"))?
+        .arg(format_arg(alloc, "text (by default) or json"))
 }
 
 /// `--header FILE`.
@@ -226,15 +236,42 @@ fn lockstep_command<'a>(alloc: Global) -> Result<Command<'a>, AllocError>
         ))
 }
 
-/// `run SOURCE --schedule FILE [--decided]`.
+/// A command with `[--decided] [--format FORMAT] [--by BY] [--vars LIST] [--changed]`.
+fn with_form<'a>(alloc: Global, command: Command<'a>) -> Result<Command<'a>, AllocError>
+    ensures { (app : App) → IsCommandOf app command.entry
+        → IfOk result (IsCommandOf (with_form app)) }
+{
+    command
+        .arg(decided_arg(alloc))?
+        .arg(format_arg(alloc, "text (by default), json, table or summary"))?
+        .arg(optional_arg(
+            alloc,
+            "by",
+            "BY",
+            "What the blocks of a table are: round (by default) or node",
+        ))?
+        .arg(optional_arg(
+            alloc,
+            "vars",
+            "LIST",
+            "The variables of a table, as x,seen; all by default",
+        ))?
+        .arg(flag_arg(
+            alloc,
+            "changed",
+            "Has a table show only rows whose state or decision changed",
+        ))
+}
+
+/// `run SOURCE --schedule FILE` and the form of the report.
 fn run_command<'a>(alloc: Global) -> Result<Command<'a>, AllocError>
     ensures { IfOk result (IsCommandOf run_app) }
 {
-    Command::new(alloc, "run")
+    let command = Command::new(alloc, "run")
         .about("Runs a schedule and reports each completed round")
         .arg(source_arg(alloc))?
-        .arg(schedule_arg(alloc))?
-        .arg(decided_arg(alloc))
+        .arg(schedule_arg(alloc))?;
+    with_form(alloc, command)
 }
 
 /// `draw SOURCE --schedule FILE [--rounds RANGE] [--nodes LIST] [--html]`.
@@ -322,16 +359,16 @@ fn realise_command<'a>(alloc: Global) -> Result<Command<'a>, AllocError>
         .arg(omissions_arg(alloc))
 }
 
-/// `rounds SOURCE --header FILE --omissions FILE [--decided]`.
+/// `rounds SOURCE --header FILE --omissions FILE` and the form of the report.
 fn rounds_command<'a>(alloc: Global) -> Result<Command<'a>, AllocError>
     ensures { IfOk result (IsCommandOf rounds_app) }
 {
-    Command::new(alloc, "rounds")
+    let command = Command::new(alloc, "rounds")
         .about("Runs a program in rounds that omit the messages of a file")
         .arg(source_arg(alloc))?
         .arg(header_arg(alloc))?
-        .arg(omissions_arg(alloc))?
-        .arg(decided_arg(alloc))
+        .arg(omissions_arg(alloc))?;
+    with_form(alloc, command)
 }
 
 /// `explore SOURCE --header FILE`.
@@ -397,7 +434,8 @@ fn explore_command<'a>(alloc: Global) -> Result<Command<'a>, AllocError>
             "trace",
             "FILE",
             "The file that a run's schedule is written to if a property fails",
-        ))
+        ))?
+        .arg(format_arg(alloc, "text (by default) or json"))
 }
 
 /// The command line with no command in it yet.

@@ -45,14 +45,14 @@ pub struct Checks {
 pub struct Exploring<'a> {
     pub inputs: InputChoice,
     pub faults: FaultChoice,
-    /// C, where it isn't left out.
+    /// C, if it isn't left out.
     pub clear: Option<u32>,
-    /// M, or 0 where it is left out.
+    /// M, or 0 if it is left out.
     pub hears: u32,
     pub checks: Checks,
-    /// EXPR, where it isn't left out.
+    /// EXPR, if it isn't left out.
     pub always: Option<&'a str>,
-    /// The FILE of a schedule as it was written, where it isn't left out.
+    /// The FILE of a schedule as it was written, if it isn't left out.
     pub trace: Option<&'a str>,
 }
 
@@ -69,7 +69,7 @@ impl Checks {
         }
     }
 
-    /// Those that are asked where `--check` is left out.
+    /// Those that are asked if `--check` is left out.
     fn usual() -> Checks
         ensures { result ≡ usual_checks }
     {
@@ -150,7 +150,7 @@ fn faults_of(matches: &ArgMatches<'_>) -> Result<FaultChoice, WordsFault>
     }
 }
 
-/// The value of C, where it isn't left out.
+/// The value of C, if it isn't left out.
 fn clear_of(matches: &ArgMatches<'_>) -> Result<Option<u32>, WordsFault>
     ensures ok { IfOk result (GivesClear (rows_of (found_of matches.now))) }
     ensures err { IfErr result (FailsByExploring (rows_of (found_of matches.now))) }

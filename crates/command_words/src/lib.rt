@@ -1,32 +1,37 @@
 //! The words of the command line of `roundc`, read by `clap`.
 //!
 //! ```text
-//! roundc check SOURCE
+//! roundc check SOURCE [--format FORMAT]
 //! roundc show SOURCE
-//! roundc run SOURCE --schedule FILE [--decided]
+//! roundc run SOURCE --schedule FILE [--decided] [--format FORMAT] [--by BY] [--vars LIST]
+//!     [--changed]
 //! roundc draw SOURCE --schedule FILE [--rounds RANGE] [--nodes LIST] [--html]
 //! roundc threads SOURCE --setup FILE --trace FILE [--decided]
-//! roundc judge SOURCE --schedule FILE --correct LIST --delta D --gst G
+//! roundc judge SOURCE --schedule FILE --correct LIST --delta D --gst G [--format FORMAT]
 //! roundc lockstep SOURCE --header FILE --correct LIST --delta D --gst G [--delays LIST]
 //!     [--orders LIST] [--ticks T] [--stop I C].. [--omissions FILE] [--delay J I R W]..
 //! roundc realise SOURCE --header FILE --omissions FILE
-//! roundc rounds SOURCE --header FILE --omissions FILE [--decided]
+//! roundc rounds SOURCE --header FILE --omissions FILE [--decided] [--format FORMAT] [--by BY]
+//!     [--vars LIST] [--changed]
 //! roundc explore SOURCE --header FILE [--inputs INPUTS] [--faults FAULTS] [--clear C]
-//!     [--hears M] [--check LIST] [--always EXPR] [--trace FILE]
+//!     [--hears M] [--check LIST] [--always EXPR] [--trace FILE] [--format FORMAT]
 //! ```
 //!
 //! SOURCE is a file's name, or `@NAME:VALUES`, a program of the library. FILE is a file's name, or
 //! `-` for standard input: what `-` means is left to the caller, who opens the file. LIST is
-//! numbers with commas, or for `--check` names of properties. INPUTS are `header` or `any`, FAULTS
-//! `none`, `omission` or `crash`. D is a number of 1 to 1,024, and all others are numbers of 32
-//! bits, C of `--clear` of 1 on. RANGE is `A-B`, two such numbers of 1 on with A no larger than B.
-//! EXPR is any text. What two dots follow may be there several times.
+//! numbers with commas, for `--check` names of properties, or for `--vars` any text, which is to
+//! be names of variables. INPUTS are `header` or `any`, FAULTS `none`, `omission` or `crash`. D is
+//! a number of 1 to 1,024, and all others are numbers of 32 bits, C of `--clear` of 1 on. RANGE is
+//! `A-B`, two such numbers of 1 on with A no larger than B. EXPR is any text. FORMAT is `text` or
+//! `json`, or for `run` and `rounds` also `table` or `summary`, and BY is `round` or `node`. What
+//! two dots follow may be there several times.
 #![tactic(auto)]
 
 mod changes;
 mod commands;
 mod drawing;
 mod exploring;
+mod forms;
 mod negative;
 mod values;
 mod words;
@@ -34,5 +39,6 @@ mod words;
 pub use changes::{Changes, NodeStop, OwnDelay};
 pub use drawing::{Drawing, RoundRange};
 pub use exploring::{Checks, Exploring, FaultChoice, InputChoice};
+pub use forms::{AnswerFormat, Blocks, Form, Format};
 pub use values::Source;
 pub use words::{Words, WordsFault, read_words};

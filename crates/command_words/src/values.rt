@@ -19,7 +19,7 @@ pub enum Source<'a> {
     /// library has.
     Library {
         name: &'a str,
-        /// The number that the digits write, or `u32::MAX` where that is larger.
+        /// The number that the digits write, or `u32::MAX` if that is larger.
         values: u32,
     },
 }
@@ -68,7 +68,7 @@ fn is_numeral(text: &str) -> bool
     !text.is_empty() && has_only_digits(text)
 }
 
-/// The number that the digits write, or the largest `u32` where it is larger.
+/// The number that the digits write, or the largest `u32` if it is larger.
 fn capped_number(digits: &str) -> u32
     requires { IsNumeral 10 digits.now }
     ensures { result ≡ min (digits_value 10 digits.now) u32.MAX }
@@ -79,7 +79,7 @@ fn capped_number(digits: &str) -> u32
 /// The largest delay bound that D may be.
 pub(crate) const MAX_DELTA: u32 = 1024;
 
-/// The number that decimal digits write, where it has 32 bits; a sign is no digit.
+/// The number that decimal digits write, if it has 32 bits; a sign is no digit.
 pub(crate) fn read_number(text: &str) -> Option<u32>
     ensures some { IfSome result (NumberText text.now) }
     ensures none { IfNone result ((n : ℕ) → ¬ (NumberText text.now n)) }
@@ -138,7 +138,7 @@ fn read_library(text: &str) -> Option<Source<'_>>
     })
 }
 
-/// The source that the text names, or `None` where it begins with `@` and doesn't go on as a name,
+/// The source that the text names, or `None` if it begins with `@` and doesn't go on as a name,
 /// `:` and digits.
 pub(crate) fn read_source(text: &str) -> Option<Source<'_>>
     ensures some { IfSome result (SourceText text.now) }

@@ -3,10 +3,10 @@ ghost use Rattle.std.specs.Prelude.{◌≡◌, ◌≢◌, ◌⊎◌, ◌↔◌, 
 ghost use Rattle.std.specs.Prelude.{codes, map, option_map};
 ghost use Rattle.clap.specs.Words.{fault_of, first_of, found_of, kind_of, rows_of};
 ghost use Rattle.command_words.specs.Commands.{roundc_app};
-ghost use Rattle.command_words.specs.Given.{Explains, FailsByDelta, FailsByDraw, FailsByExplore};
-ghost use Rattle.command_words.specs.Given.{FailsByFile, FailsByGst};
+ghost use Rattle.command_words.specs.Given.{Explains, FailsByCheck, FailsByDelta, FailsByDraw};
+ghost use Rattle.command_words.specs.Given.{FailsByExplore, FailsByFile, FailsByGst};
 ghost use Rattle.command_words.specs.Given.{FailsByJudge, FailsByList, FailsByLockstep};
-ghost use Rattle.command_words.specs.Given.{FailsByOmissions};
+ghost use Rattle.command_words.specs.Given.{FailsByOmissions, FailsByReport, FailsByRounds};
 ghost use Rattle.command_words.specs.Given.{FailsBySource, FailsByTable, FailsByThreads};
 ghost use Rattle.command_words.specs.Given.{FailsByTicks};
 ghost use Rattle.command_words.specs.Given.{FailsByValue, Gives, GivesDelta, GivesGst, GivesList};
@@ -20,6 +20,7 @@ use crate::changes::{Changes, changes_of};
 use crate::commands::roundc_command;
 use crate::drawing::{Drawing, drawing_of};
 use crate::exploring::{Exploring, exploring_of};
+use crate::forms::{AnswerFormat, Form, answer_format_of, form_of};
 use crate::negative::{has_negative, has_negative_change, has_negative_list};
 use crate::values::{MAX_DELTA, Source, read_list, read_number, read_source};
 use clap::ArgMatches;
@@ -30,20 +31,21 @@ use std::fmt;
 /// A command with its values.
 #[derive(Debug, Drop, PartialEq, Eq)]
 pub enum Words<'a> {
-    /// `check SOURCE`.
+    /// `check SOURCE [--format FORMAT]`.
     Check {
         source: Source<'a>,
+        format: AnswerFormat,
     },
     /// `show SOURCE`.
     Show {
         source: Source<'a>,
     },
-    /// `run SOURCE --schedule FILE [--decided]`; `schedule` is FILE as it was written, `-`
-    /// included.
+    /// `run SOURCE --schedule FILE [--decided] [--format FORMAT] [--by BY] [--vars LIST]
+    /// [--changed]`; `schedule` is FILE as it was written, `-` included.
     Run {
         source: Source<'a>,
         schedule: &'a str,
-        decided: bool,
+        form: Form<'a>,
     },
     /// `draw SOURCE --schedule FILE [--rounds RANGE] [--nodes LIST] [--html]`; `schedule` is as in
     /// `Run`.
@@ -60,14 +62,15 @@ pub enum Words<'a> {
         trace: &'a str,
         decided: bool,
     },
-    /// `judge SOURCE --schedule FILE --correct LIST --delta D --gst G`; `correct` has the numbers
-    /// of LIST in their order, also those that are there twice.
+    /// `judge SOURCE --schedule FILE --correct LIST --delta D --gst G [--format FORMAT]`; `correct`
+    /// has the numbers of LIST in their order, also those that are there twice.
     Judge {
         source: Source<'a>,
         schedule: &'a str,
         correct: Vec<u32>,
         delta: u32,
         gst: u32,
+        format: AnswerFormat,
     },
     /// `lockstep SOURCE --header FILE --correct LIST --delta D --gst G [--delays LIST]
     /// [--orders LIST] [--ticks T] [--stop I C].. [--omissions FILE] [--delay J I R W]..`; a LIST
@@ -90,21 +93,22 @@ pub enum Words<'a> {
         header: &'a str,
         omissions: &'a str,
     },
-    /// `rounds SOURCE --header FILE --omissions FILE [--decided]`; `header` and `omissions` are as
-    /// in `Realise`.
+    /// `rounds SOURCE --header FILE --omissions FILE [--decided] [--format FORMAT] [--by BY]
+    /// [--vars LIST] [--changed]`; `header` and `omissions` are as in `Realise`.
     Rounds {
         source: Source<'a>,
         header: &'a str,
         omissions: &'a str,
-        decided: bool,
+        form: Form<'a>,
     },
     /// `explore SOURCE --header FILE [--inputs INPUTS] [--faults FAULTS] [--clear C] [--hears M]
-    /// [--check LIST] [--always EXPR] [--trace FILE]`; `header` is FILE as it was written, `-`
-    /// included.
+    /// [--check LIST] [--always EXPR] [--trace FILE] [--format FORMAT]`; `header` is FILE as it was
+    /// written, `-` included.
     Explore {
         source: Source<'a>,
         header: &'a str,
         exploring: Exploring<'a>,
+        format: AnswerFormat,
     },
 }
 
@@ -143,6 +147,12 @@ pub enum WordsFault {
     /// A RANGE that isn't two numbers of 1 to the largest of 32 bits with `-` between them, or
     /// whose first is larger than its last; also one that begins with a number below 0.
     Range,
+    /// A report's FORMAT that isn't `text`, `json`, `table` or `summary`.
+    Format,
+    /// An answer's FORMAT that isn't `text` or `json`.
+    AnswerFormat,
+    /// A BY that isn't `round` or `node`.
+    Blocks,
     /// Memory ran out. Nothing is known of the words.
     NoMemory,
 }
@@ -192,6 +202,11 @@ impl fmt::Display for WordsFault {
                     "error: RANGE is A-B, two numbers of 1 to 4294967295 with A <= B"
                 )
             }
+            WordsFault::Format => {
+                writeln!(f, "error: FORMAT is `text`, `json`, `table` or `summary`")
+            }
+            WordsFault::AnswerFormat => writeln!(f, "error: FORMAT is `text` or `json`"),
+            WordsFault::Blocks => writeln!(f, "error: BY is `round` or `node`"),
             WordsFault::NoMemory => writeln!(f, "no memory"),
         }
     }
@@ -301,7 +316,7 @@ pub(crate) fn table_of(
     }
 }
 
-/// The value of T, where it isn't left out.
+/// The value of T, if it isn't left out.
 fn ticks_of(matches: &ArgMatches<'_>) -> Result<Option<u32>, WordsFault>
     ensures ok { IfOk result (GivesTicks (rows_of (found_of matches.now))) }
     ensures err { IfErr result (FailsByTicks (rows_of (found_of matches.now))) }
@@ -326,7 +341,7 @@ pub(crate) fn has_flag(matches: &ArgMatches<'_>, id: &str) -> bool
 }
 
 /// Whether `--decided` stands there.
-fn is_decided(matches: &ArgMatches<'_>) -> bool
+pub(crate) fn is_decided(matches: &ArgMatches<'_>) -> bool
     ensures { IsTrue result ↔ IsDecidedAsked (rows_of (found_of matches.now)) }
 {
     has_flag(matches, "decided")
@@ -351,6 +366,29 @@ fn gst_of(matches: &ArgMatches<'_>) -> Result<u32, WordsFault>
 {
     let text = text_of(matches, "gst")?;
     read_number(text).ok_or(WordsFault::Gst)
+}
+
+/// The values of the command `check`.
+fn check_of<'a>(matches: &ArgMatches<'a>) -> Result<Words<'a>, WordsFault>
+    ensures ok { IfOk result (Gives (codes "check") (rows_of (found_of matches.now))) }
+    ensures err { IfErr result (FailsByCheck (rows_of (found_of matches.now))) }
+{
+    Ok(Words::Check {
+        source: source_of(matches)?,
+        format: answer_format_of(matches)?,
+    })
+}
+
+/// The values of the command `run`.
+fn run_of<'a>(matches: &ArgMatches<'a>) -> Result<Words<'a>, WordsFault>
+    ensures ok { IfOk result (Gives (codes "run") (rows_of (found_of matches.now))) }
+    ensures err { IfErr result (FailsByReport (rows_of (found_of matches.now))) }
+{
+    Ok(Words::Run {
+        source: source_of(matches)?,
+        schedule: text_of(matches, "schedule")?,
+        form: form_of(matches)?,
+    })
 }
 
 /// The values of the command `draw`.
@@ -389,6 +427,7 @@ fn judge_of<'a>(alloc: Global, matches: &ArgMatches<'a>) -> Result<Words<'a>, Wo
         correct: correct_of(alloc, matches)?,
         delta: delta_of(matches)?,
         gst: gst_of(matches)?,
+        format: answer_format_of(matches)?,
     })
 }
 
@@ -425,14 +464,13 @@ fn realise_of<'a>(matches: &ArgMatches<'a>) -> Result<Words<'a>, WordsFault>
 /// The values of the command `rounds`.
 fn rounds_of<'a>(matches: &ArgMatches<'a>) -> Result<Words<'a>, WordsFault>
     ensures ok { IfOk result (Gives (codes "rounds") (rows_of (found_of matches.now))) }
-    ensures err { IfErr result (FailsByOmissions (rows_of (found_of matches.now))) }
+    ensures err { IfErr result (FailsByRounds (rows_of (found_of matches.now))) }
 {
-    let decided = is_decided(matches);
     Ok(Words::Rounds {
         source: source_of(matches)?,
         header: header_of(matches)?,
         omissions: omissions_of(matches)?,
-        decided,
+        form: form_of(matches)?,
     })
 }
 
@@ -445,6 +483,7 @@ fn explore_of<'a>(matches: &ArgMatches<'a>) -> Result<Words<'a>, WordsFault>
         source: source_of(matches)?,
         header: header_of(matches)?,
         exploring: exploring_of(matches)?,
+        format: answer_format_of(matches)?,
     })
 }
 
@@ -458,17 +497,11 @@ fn command_of<'a>(
     ensures err { IfErr result (FailsByValue name.entry.now (rows_of (found_of matches.now))) }
 {
     match name {
-        "check" => Ok(Words::Check {
-            source: source_of(matches)?,
-        }),
+        "check" => check_of(matches),
         "show" => Ok(Words::Show {
             source: source_of(matches)?,
         }),
-        "run" => Ok(Words::Run {
-            source: source_of(matches)?,
-            schedule: text_of(matches, "schedule")?,
-            decided: is_decided(matches),
-        }),
+        "run" => run_of(matches),
         "draw" => draw_of(alloc, matches),
         "threads" => threads_of(matches),
         "judge" => judge_of(alloc, matches),

@@ -82,7 +82,7 @@ first_shown s (t ∷ ts) name c all (inl same) =
 first_shown s (t ∷ ts) name c all (inr (held, later)) =
     first_shown s ts name c (λ k d lt. all (suc k) d (omega (arith, lt))) later
 
--- where one fails, not all hold
+-- if one fails, not all hold
 pub first_no : (told : List Told) (name : PropertyName) (c : Counterexample)
     → IsFirstNo told name c → all_hold told ≡ false
 first_no [] name c h = absurd h

@@ -2,8 +2,8 @@
 use Rattle.std.proofs.Common.{◌≡◌, ◌∙◌, ◌+◌, ◌<◌, ◌≤◌, ◌++◌, ◌∷◌, [], ℕ, List, None, Option, Some}
 use Rattle.std.proofs.Common.{ap, append_assoc, get_or, length, sym, take}
 use Rattle.std.specs.Io.KnownBytes.{Appends}
+use Rattle.std.specs.List.{flat_map}
 use Rattle.std.proofs.lemmas.List.{append-nil, take_all, take_more}
-use Rattle.exploration_texts.specs.Lines.{answers_text, told_line}
 use Rattle.exploration_texts.specs.declared.told.Told.{Told}
 
 pub none_written : (a : Option (List ℕ)) → Appends a a []
@@ -21,25 +21,27 @@ both_written (Some xs) (Some ys) (Some zs) x y h k =
 as_written : (a b : Option (List ℕ)) (x y : List ℕ) → x ≡ y → Appends a b x → Appends a b y
 as_written a b x y same h = rw (← same) h
 
-lines_more : (told : List Told) (one : Told)
-    → answers_text (told ++ one ∷ []) ≡ answers_text told ++ told_line one
-lines_more [] one = append-nil (told_line one)
-lines_more (t ∷ ts) one =
-    ap (λ l. told_line t ++ l) (lines_more ts one)
-    ∙ sym (append_assoc (told_line t) (answers_text ts) (told_line one))
+-- what each answer's line is, in words or as an object
+module _ (line : Told → List ℕ) where
+  lines_more : (told : List Told) (one : Told)
+      → flat_map line (told ++ one ∷ []) ≡ flat_map line told ++ line one
+  lines_more [] one = append-nil (line one)
+  lines_more (t ∷ ts) one =
+      ap (λ l. line t ++ l) (lines_more ts one)
+      ∙ sym (append_assoc (line t) (flat_map line ts) (line one))
 
-pub one_written : (a b c : Option (List ℕ)) (told : List Told) (i : ℕ) (one : Told)
-    → i < length told → one ≡ get_or told i one → Appends a b (answers_text (take i told))
-    → Appends b c (told_line one) → Appends a c (answers_text (take (i + 1) told))
-one_written a b c told i one lt is h k =
-    as_written a c (answers_text (take i told) ++ told_line one)
-    (answers_text (take (i + 1) told))
-    (sym (ap answers_text (take_more told i one lt ∙ ap (λ y. take i told ++ y ∷ []) (sym is))
-    ∙ lines_more (take i told) one))
-    (both_written a b c (answers_text (take i told)) (told_line one) h k)
+  pub one_written : (a b c : Option (List ℕ)) (told : List Told) (i : ℕ) (one : Told)
+      → i < length told → one ≡ get_or told i one → Appends a b (flat_map line (take i told))
+      → Appends b c (line one) → Appends a c (flat_map line (take (i + 1) told))
+  one_written a b c told i one lt is h k =
+      as_written a c (flat_map line (take i told) ++ line one)
+      (flat_map line (take (i + 1) told))
+      (sym (ap (flat_map line) (take_more told i one lt
+      ∙ ap (λ y. take i told ++ y ∷ []) (sym is)) ∙ lines_more (take i told) one))
+      (both_written a b c (flat_map line (take i told)) (line one) h k)
 
-pub all_written : (a b : Option (List ℕ)) (told : List Told) (i : ℕ) → length told ≤ i
-    → Appends a b (answers_text (take i told)) → Appends a b (answers_text told)
-all_written a b told i all h =
-    as_written a b (answers_text (take i told)) (answers_text told)
-    (ap answers_text (take_all i told all)) h
+  pub all_written : (a b : Option (List ℕ)) (told : List Told) (i : ℕ) → length told ≤ i
+      → Appends a b (flat_map line (take i told)) → Appends a b (flat_map line told)
+  all_written a b told i all h =
+      as_written a b (flat_map line (take i told)) (flat_map line told)
+      (ap (flat_map line) (take_all i told all)) h

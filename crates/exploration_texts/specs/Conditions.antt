@@ -36,13 +36,13 @@ IsNoCondition p text (fault.Check e) =
     (f : Tree) × IsFormula text f × (condition_fault p f ≡ Some e)
 IsNoCondition p text fault.NoMemory = ⊤
 
--- the condition of a text, where there is a text
+-- the condition of a text, if there is a text
 abbrev pub IsConditionFor : ProgramTree → Option (Bor (List ℕ)) → Option Tree → Type 0
 IsConditionFor p None None = ⊤
 IsConditionFor p (Some text) (Some f) = IsCondition p text.now f
 IsConditionFor p _ _ = ⊥
 
--- why the text of a condition is refused, where there is a text
+-- why the text of a condition is refused, if there is a text
 abbrev pub IsFaultFor : ProgramTree → Option (Bor (List ℕ)) → ConditionFault → Type 0
 IsFaultFor p _ fault.NoMemory = ⊤
 IsFaultFor p None e = ⊥

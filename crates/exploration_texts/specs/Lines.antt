@@ -2,6 +2,8 @@
 use Rattle.std.specs.Prelude.{ℕ, ◌++◌, List, codes}
 use Rattle.std.specs.Fmt.{decimal}
 use Rattle.std.specs.List.{flat_map}
+use Rattle.command_words.specs.declared.forms.AnswerFormat.{AnswerFormat}
+use Rattle.command_words.specs.declared.forms.AnswerFormat.TheVariants as format
 use Rattle.exploration_texts.specs.declared.condition.ConditionFault.{ConditionFault}
 use Rattle.exploration_texts.specs.declared.condition.ConditionFault.TheVariants as fault
 use Rattle.exploration_texts.specs.declared.told.PropertyName.{PropertyName}
@@ -37,6 +39,25 @@ told_line t = told_text t ++ codes "\n"
 -- a line for each property
 abbrev pub answers_text : List Told → List ℕ
 answers_text told = flat_map told_line told
+
+abbrev pub answer_data : Answer → List ℕ
+answer_data Holds = codes "true,\"round\":null"
+answer_data (Fails c) = codes "false,\"round\":" ++ decimal c.round
+
+-- the property and its answer as an object, `{"property":"final","holds":false,"round":2}`
+abbrev pub told_data : Told → List ℕ
+told_data t =
+    codes "{\"property\":\"" ++ name_text t.name ++ codes "\",\"holds\":"
+    ++ answer_data t.answer ++ codes "}\n"
+
+-- an object a line for each property
+abbrev pub answers_data : List Told → List ℕ
+answers_data told = flat_map told_data told
+
+-- the lines of all answers in a format
+abbrev pub answers_as : AnswerFormat → List Told → List ℕ
+answers_as format.Text told = answers_text told
+answers_as format.Json told = answers_data told
 
 -- the comment of a schedule that shows a property failing
 abbrev pub comment_text : PropertyName → (round : ℕ) → List ℕ

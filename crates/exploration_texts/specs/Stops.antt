@@ -9,14 +9,14 @@ use Rattle.round_explorer.specs.declared.question.Failure.{Failure}
 use Rattle.round_explorer.specs.declared.question.Failure.TheVariants.{Crashes, Never, Omits}
 use Rattle.round_meaning.specs.declared.setup.Setup.{Setup}
 
--- how many steps a node with this failure takes, where a round is so many sends, and begins at this
--- step: all of the run; or where it crashes in a round, those before that round and the sends of it
+-- how many steps a node with this failure takes, if a round is so many sends, and begins at this
+-- step: all of the run; or if it crashes in a round, those before that round and the sends of it
 abbrev pub steps_with : (nodes : ℕ) → (start : ℕ → ℕ) → (rounds : ℕ) → Failure → ℕ
 steps_with nodes start rounds Never = start (rounds + 1)
 steps_with nodes start rounds Omits = start (rounds + 1)
 steps_with nodes start rounds (Crashes c) = start c + nodes
 
--- the same of node i, where a pattern has the failures
+-- the same of node i, if a pattern has the failures
 abbrev pub steps_of : (nodes : ℕ) → (start : ℕ → ℕ) → (rounds : ℕ) → List Failure → ℕ → ℕ
 steps_of nodes start rounds pattern i =
     steps_with nodes start rounds (failure_of pattern i)

@@ -49,7 +49,7 @@ pub fn answer_all<W: Watch>(
     Ok(answers(alloc, &search, exploring.checks, always.as_ref(), watch)?)
 }
 
-/// The condition, where there is one.
+/// The condition, if there is one.
 fn condition_of(
     alloc: Global,
     program: &Checked,

@@ -36,7 +36,7 @@ pub fn read_condition(
     }
 }
 
-/// The number of the cause, and its place in the text where it has one.
+/// The number of the cause, and its place in the text if it has one.
 impl fmt::Display for ConditionFault {
     ghost use Rattle.std.specs.Prelude.{Some};
     ghost use Rattle.exploration_texts.specs.Lines.{condition_text};

@@ -1,9 +1,11 @@
 //! What is told of properties.
 ghost use Rattle.std.specs.Prelude.{◌≡◌, IfNone, IfSome, OnOk, true};
 ghost use Rattle.std.specs.Io.KnownBytes.{Appends};
-ghost use Rattle.exploration_texts.specs.Lines.{answers_text, name_text, told_line};
+ghost use Rattle.exploration_texts.specs.Lines.{answers_as, answers_data, answers_text, name_text};
+ghost use Rattle.exploration_texts.specs.Lines.{told_data, told_line};
 ghost use Rattle.exploration_texts.specs.Told.{IsFirstNo, all_hold, name_of};
 
+use command_words::AnswerFormat;
 use round_explorer::{Answer, Counterexample, Property};
 use std::io::Write;
 use std::{fmt, io};
@@ -98,8 +100,19 @@ pub fn first_failure(told: &[Told]) -> Option<Failed<'_>>
     }
 }
 
-/// Writes a line for each property. The first fault of the writer is answered as it came.
-pub fn write_answers<W: Write>(told: &[Told], out: &mut W) -> io::Result<()>
+/// Writes a line for each property, in words or as an object of JSON. The first fault of the writer
+/// is answered as it came.
+pub fn write_answers<W: Write>(told: &[Told], format: AnswerFormat, out: &mut W) -> io::Result<()>
+    ensures { OnOk result
+        (Appends (W.contents out.old) (W.contents out.new) (answers_as format told.now)) }
+{
+    match format {
+        AnswerFormat::Text => write_lines(told, out),
+        AnswerFormat::Json => write_data(told, out),
+    }
+}
+
+fn write_lines<W: Write>(told: &[Told], out: &mut W) -> io::Result<()>
     ensures { OnOk result
         (Appends (W.contents out.old) (W.contents out.new) (answers_text told.now)) }
 {
@@ -114,4 +127,36 @@ fn write_answer<W: Write>(told: &Told, out: &mut W) -> io::Result<()>
         (Appends (W.contents out.old) (W.contents out.new) (told_line told.now)) }
 {
     writeln!(out, "{told}")
+}
+
+fn write_data<W: Write>(told: &[Told], out: &mut W) -> io::Result<()>
+    ensures { OnOk result
+        (Appends (W.contents out.old) (W.contents out.new) (answers_data told.now)) }
+{
+    for one in told {
+        write_object(one, out)?;
+    }
+    Ok(())
+}
+
+fn write_object<W: Write>(told: &Told, out: &mut W) -> io::Result<()>
+    ensures { OnOk result
+        (Appends (W.contents out.old) (W.contents out.new) (told_data told.now)) }
+{
+    let name = told.name.as_str();
+    match &told.answer {
+        Answer::Holds => {
+            writeln!(
+                out,
+                "{{\"property\":\"{name}\",\"holds\":true,\"round\":null}}"
+            )
+        }
+        Answer::Fails(found) => {
+            let round = found.round;
+            writeln!(
+                out,
+                "{{\"property\":\"{name}\",\"holds\":false,\"round\":{round}}}"
+            )
+        }
+    }
 }

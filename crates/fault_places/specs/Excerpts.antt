@@ -25,7 +25,7 @@ abbrev pub characters_in : (text : List ℕ) → Span → ℕ
 characters_in text span =
     count_by begins_character (drop span.first (take span.after text))
 
--- how many characters of a line are left out at its beginning, where so many stand before the part:
+-- how many characters of a line are left out at its beginning, if so many stand before the part:
 -- none of a line that is short enough; else the part is in the middle, or the line's end is shown
 abbrev pub left_out : (line : List ℕ) (first : ℕ) → ℕ
 left_out line first = min (first - 80) (length line - max_shown)

@@ -147,7 +147,7 @@ impl<'a> Earliest<'a> {
         (is_left && is_right).then_some(result)
     }
 
-    /// The type of an expression; where it has none, the fault is noted.
+    /// The type of an expression; if it has none, the fault is noted.
     #[cycle(typing)]
     fn type_of(
         &mut self,

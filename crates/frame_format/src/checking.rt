@@ -15,7 +15,7 @@ use crate::reading::{copy_of, fields_in, from_of, round_of, to_of, version_of};
 use byteorder::{BigEndian, ByteOrder};
 use round_lang::Kind;
 
-/// The first fault of the bytes, none where they spell a frame.
+/// The first fault of the bytes, none if they spell a frame.
 pub fn first_fault(layout: &Layout, bytes: &[u8]) -> Option<FrameFault>
     ensures fault { result ≡ first_fault layout.now bytes.now }
     ensures found { IfNone result (IsFrame layout.now bytes.now) }

@@ -17,7 +17,7 @@ use byteorder::{BigEndian, ByteOrder};
 use round_lang::{Kind, Message, NoMemory, Row, Shape, Value, ValueSet, VarsBuilder};
 use std::alloc::Global;
 
-/// The frame that the bytes spell, or the first fault; NoMemory only where they do spell a frame.
+/// The frame that the bytes spell, or the first fault; NoMemory only if they do spell a frame.
 pub fn decode(alloc: Global, layout: &Layout, bytes: &[u8]) -> Result<Frame, FrameFault>
     // What is read is spelled by the bytes.
     ensures found { IfOk result (λ f. Spells layout.now bytes.now f) }

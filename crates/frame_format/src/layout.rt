@@ -88,7 +88,7 @@ impl Layout {
         self.blocks.get(self.position(round) as usize)
     }
 
-    /// The kinds of the fields in a round's messages, as a shape where there are any.
+    /// The kinds of the fields in a round's messages, as a shape if there are any.
     pub fn shape(&self, round: u32) -> Option<&Shape>
         ensures { unwrap_or (option_copied result) [] ≡ kinds_at self.now round }
     {

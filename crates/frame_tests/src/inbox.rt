@@ -25,7 +25,7 @@ fn held_in(alloc: Global, layout: &Layout, text: &str) -> Result<Vec<Option<Byte
     Ok(held)
 }
 
-/// The frame of a text, none where it is `-`.
+/// The frame of a text, none if it is `-`.
 fn frame_in(alloc: Global, layout: &Layout, text: &str) -> Result<Option<Bytes>, Fault>
     ensures { IfOk result (λ one. AreFrames layout.now (one ∷ [])) }
 {

@@ -8,7 +8,7 @@ use frame_views::write_frame;
 use std::alloc::Global;
 use test_kit::Fault;
 
-/// The bytes of a frame's message as a copy of it, or none where the ways of writing differ.
+/// The bytes of a frame's message as a copy of it, or none if the ways of writing differ.
 fn written(alloc: Global, layout: &Layout, frame: &Frame, copy: u32) -> Result<Vec<u8>, Fault>
     requires frame { (bytes : List ℕ) × Spells layout.now bytes frame.now }
     requires copy { copy ≤ 3 }

@@ -33,7 +33,7 @@ pub record HasFields (kinds : List Kind) (bytes : List ℕ) : Type 0 where
   pub block : IsBlock kinds
   pub room : size kinds ≤ length bytes
 
--- what is read at a place that was found, the number 0 where none was
+-- what is read at a place that was found, the number 0 if none was
 abbrev pub spot_value : Option (Kind × Bor (List ℕ)) → Value
 spot_value None = Num 0
 spot_value (Some spot) = field_at spot.0 spot.1.now

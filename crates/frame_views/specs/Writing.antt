@@ -28,7 +28,7 @@ pub record IsSplit (kinds : List Kind) (bytes first : List ℕ) (others : List K
 abbrev pub frame_size : Format → ℕ → ℕ
 frame_size s round = 13 + size (kinds_at s round)
 
--- the bytes of the frame at a place, where frames of n bytes each lie one behind the other
+-- the bytes of the frame at a place, if frames of n bytes each lie one behind the other
 abbrev pub nth_frame : ℕ → List ℕ → ℕ → List ℕ
 nth_frame n bytes place = slice_range bytes (place * n) (place * n + n)
 

@@ -107,28 +107,28 @@ impl<'a> FrameView<'a> {
         FieldsView::over(&self.kinds[..self.count], fields_in(self.bytes))
     }
 
-    /// The number that field `place` is, 0 where it is none.
+    /// The number that field `place` is, 0 if it is none.
     pub fn num(&self, place: usize) -> u32
         ensures { result ≡ num (at self.now.message place) }
     {
         self.fields().num(place)
     }
 
-    /// The truth value that field `place` is, false where it is none.
+    /// The truth value that field `place` is, false if it is none.
     pub fn flag(&self, place: usize) -> bool
         ensures { result ≡ flag (at self.now.message place) }
     {
         self.fields().flag(place)
     }
 
-    /// The set that field `place` is, the empty one where it is none.
+    /// The set that field `place` is, the empty one if it is none.
     pub fn set(&self, place: usize) -> ValueSet
         ensures { result.bits ≡ set (at self.now.message place) }
     {
         self.fields().set(place)
     }
 
-    /// The row that field `place` is, one of no entries where it is none.
+    /// The row that field `place` is, one of no entries if it is none.
     pub fn row(&self, place: usize) -> RowView<'a>
         ensures { result ≡ row (at self.now.message place) }
     {

@@ -1,4 +1,4 @@
-//! `==` on what derives it, which tells two values apart exactly where they are two.
+//! `==` on what derives it, which tells two values apart exactly if they are two.
 ghost use Rattle.std.specs.Prelude.{◌≡◌, ◌↔◌, IsTrue};
 
 use round_check::Checked;

@@ -57,7 +57,7 @@ fn show_programs(out: &mut String, one: &Program, other: &Program) -> Result<(),
     Ok(())
 }
 
-/// The checked program, or none where a cause stands against it.
+/// The checked program, or none if a cause stands against it.
 fn if_checked(alloc: Global, program: Program) -> Result<Option<Checked>, Fault> {
     match check(alloc, program) {
         Ok(checked) => Ok(Some(checked)),

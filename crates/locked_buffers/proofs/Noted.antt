@@ -92,7 +92,7 @@ all_noted s frames before now n gone size h =
     h.names ∙ ap names_in (ap (λ k. take k frames) (sym size)
     ∙ take_all n frames (past_all frames n gone))
 
--- where one is of no message of the run, not all are
+-- if one is of no message of the run, not all are
 pub one_unknown : (s : Setup) (frames : List Frame) (n : ℕ) (f : Frame) (name : Name)
     → slice_get frames n ≡ Some f → name ≡ f.name
     → (IsName s name → ⊥) → All (IsName s) (names_in frames) → ⊥

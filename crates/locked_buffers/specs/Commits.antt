@@ -42,7 +42,7 @@ pub record LetsGo (round place : ℕ) (old new : BufferView) : Type 0 where
   pub flying : Puts None old.flying new.flying round place None
   pub waiting : new.waiting ≡ old.waiting ++ option_to_list (flying_at old round place)
 
--- where a copy was made, copy 0's frame stands in flight at its place too, and else nothing changed
+-- if a copy was made, copy 0's frame stands in flight at its place too, and else nothing changed
 abbrev pub AddsCopy : ℕ → Name → BufferView → BufferView → Bool → Type 0
 AddsCopy nodes n old new true = PutsFrame n.round (place_among nodes n)
     (option_map (copied_as n.copy) (flying_at old n.round (place_among nodes (original n)))) old new
@@ -63,12 +63,12 @@ abbrev pub HasFrame : Option Frame → Bool → Type 0
 HasFrame o true = IsSome o
 HasFrame o false = o ≡ None
 
--- a frame is there just where the mark says that the copy is in flight
+-- a frame is there just if the mark says that the copy is in flight
 pub record HoldsFrame (m : Mark) (o : Option Frame) : Type 0 where
   pub flies : m ≡ Flying → HasFrame o true
   pub stays : (m ≡ Flying → ⊥) → HasFrame o false
 
--- the book is of the run, so is the buffer, and it has a frame at the place of this name just where
+-- the book is of the run, so is the buffer, and it has a frame at the place of this name just if
 -- the book says that the copy is in flight
 pub record Agrees {P : Type 0} (start : P → ℕ → ℕ) (r : Run P) (s : BufferView)
     (b : Recorded P) (n : Name)

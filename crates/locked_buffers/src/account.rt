@@ -1,4 +1,4 @@
-//! The end of a run under locks: its journal, where the seats and the relay were told what the book
+//! The end of a run under locks: its journal, if the seats and the relay were told what the book
 //! has recorded.
 ghost use Rattle.std.specs.Prelude.{◌≡◌, ◌<◌, ◌∷◌, ◌↔◌, [], IfOk, IsOk, IsTrue};
 ghost use Rattle.std.specs.Prelude.{if◌then◌else◌, map};
@@ -17,7 +17,7 @@ use step_book::{Book, Buffer, Mailbox, StoredEvent, StoredName};
 use step_journal::Journal;
 use step_machine::{Event, StoredState};
 
-/// The journal of a book and its buffers, where the book is of the run, the buffers are of it too
+/// The journal of a book and its buffers, if the book is of the run, the buffers are of it too
 /// and hold the frames that the book names, and the seats and the relay were told what it has
 /// recorded. Takes no memory.
 pub(crate) fn joined<P: Plan>(

@@ -1,6 +1,6 @@
 //! What is recorded under the locks. Each call records the whole of it or nothing: all room is made
 //! before the book is called, and from then on nothing can fail. The names that a receive hands out
-//! are noted before, and taken back where the book refuses. The buffer was made ready before the
+//! are noted before, and taken back if the book refuses. The buffer was made ready before the
 //! book's lock was taken.
 ghost use Rattle.std.specs.Arc.{arc_value};
 ghost use Rattle.std.specs.Prelude.{◌≡◌, ◌≢◌, ◌↔◌, ◌+◌, ◌^◌, ◌<◌, ◌∷◌, ◌++◌, [], All, IfErr};

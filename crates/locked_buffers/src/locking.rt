@@ -36,7 +36,7 @@ pub(crate) fn take_buffer<'a, T, R: Wait>(rt: &R, lock: &'a Mutex<T>) -> MutexGu
     }
 }
 
-/// The book's lock, where it can be had at once. Whoever holds a buffer's lock lets go of it before
+/// The book's lock, if it can be had at once. Whoever holds a buffer's lock lets go of it before
 /// it gives way: the thread that has the book would soon wait for that buffer.
 pub(crate) fn try_book<T>(lock: &Mutex<T>) -> Option<MutexGuard<'_, T>> {
     tried(lock, BOOK_TRIES)

@@ -20,7 +20,7 @@ use step_book::{Book, Buffer, StoredEvent, room};
 use step_machine::{Event, Name, Sealed};
 
 /// Whether the book is of the run, as the buffer is, and says that this copy is in flight just
-/// where the buffer has a frame at its place.
+/// if the buffer has a frame at its place.
 pub(crate) fn agree<P: Plan>(
     run: &Run<P>,
     buffer: &Buffer,
@@ -39,7 +39,7 @@ pub(crate) fn agree<P: Plan>(
     run.has_book(book) && book.is_flying(name) == has_frame
 }
 
-/// A release: true where a copy went from flight to those that wait.
+/// A release: true if a copy went from flight to those that wait.
 pub(crate) fn commit_release<P: Plan>(
     run: &Run<P>,
     relay: &mut Relay,
@@ -86,7 +86,7 @@ pub(crate) fn commit_release<P: Plan>(
     Ok(moved)
 }
 
-/// A drop: true where a copy was in flight; its frame is gone.
+/// A drop: true if a copy was in flight; its frame is gone.
 pub(crate) fn commit_drop<P: Plan>(
     run: &Run<P>,
     relay: &mut Relay,
@@ -132,8 +132,8 @@ pub(crate) fn commit_drop<P: Plan>(
     Ok(lost)
 }
 
-/// A copy: true where copy 0 was in flight and this one, 1 to 3, was never made; its frame, the
-/// same message, is in flight. The frame was copied before, where there is one.
+/// A copy: true if copy 0 was in flight and this one, 1 to 3, was never made; its frame, the
+/// same message, is in flight. The frame was copied before, if there is one.
 pub(crate) fn commit_copy<P: Plan>(
     run: &Run<P>,
     relay: &mut Relay,

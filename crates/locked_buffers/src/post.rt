@@ -245,7 +245,7 @@ impl<P: Plan> Post<P> {
         commit_close(&self.run, seat, &mut book, finished, state)
     }
 
-    /// A release: true where a copy went from flight to its buffer.
+    /// A release: true if a copy went from flight to its buffer.
     pub fn release<R: Wait>(
         &self,
         rt: &R,
@@ -270,7 +270,7 @@ impl<P: Plan> Post<P> {
         unreachable!()
     }
 
-    /// A drop: true where a copy was in flight; its frame is gone.
+    /// A drop: true if a copy was in flight; its frame is gone.
     pub fn drop_frame<R: Wait>(
         &self,
         rt: &R,
@@ -297,7 +297,7 @@ impl<P: Plan> Post<P> {
         unreachable!()
     }
 
-    /// A copy: true where copy 0 was in flight and this one, 1 to 3, was never made; its frame is
+    /// A copy: true if copy 0 was in flight and this one, 1 to 3, was never made; its frame is
     /// in flight.
     pub fn copy_frame<R: Wait>(
         &self,
@@ -356,7 +356,7 @@ impl<P: Plan> Post<P> {
 
     /// The least copy of a message that the network can make. `None`: the name is that of a copy
     /// itself, copy 0 isn't in flight, or all copies were made. Refused as [`RelayFault::Stranger`]
-    /// where the book is of another setup.
+    /// if the book is of another setup.
     pub fn next_copy<R: Wait>(&self, rt: &R, name: Name) -> Result<Option<Name>, RelayFault>
         requires { IsName self.now.setup name }
         ensures ok { IfOk result (IsNextCopyInOne P.start name) }
@@ -369,7 +369,7 @@ impl<P: Plan> Post<P> {
         Ok(book.next_copy(name))
     }
 
-    /// The journal of the run, where the seats and the relay were told what is recorded of it, and
+    /// The journal of the run, if the seats and the relay were told what is recorded of it, and
     /// the buffers hold the frames that are in flight or wait. Takes no memory. The calls above
     /// write only what is of this run, but no contract can say that of what stands under a lock; so
     /// it's compared again here.

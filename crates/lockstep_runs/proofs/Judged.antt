@@ -71,7 +71,7 @@ module _ (w : World) (b : Timing) (correct ticks : ℕ) (t : List Event)
 
   -- ---- lockstep
 
-  -- where a node has taken fewer steps than another, the next one stands nowhere
+  -- if a node has taken fewer steps than another, the next one stands nowhere
   behind : (i j : ℕ) (m : List Event) → At m (Step i) t → steps j m < steps i m
       → (a : StepAt j (steps j m) t) → (length m ≡ length a.moment)
       ⊎ ((length m < length a.moment) ⊎ (length a.moment < length m)) → ⊥

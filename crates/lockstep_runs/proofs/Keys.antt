@@ -30,7 +30,7 @@ before_ticks a b (Tick l) = omega arith
 before_ticks a b (Part e l) = omega arith
 before_ticks a b (Turn e f l) = omega arith
 
--- where the first part is the later one, the first tick is the earlier one
+-- if the first part is the later one, the first tick is the earlier one
 pub before_parts : (a b : Key) → b.part < a.part → IsBefore a b → a.tick < b.tick
 before_parts a b p (Tick l) = l
 before_parts a b p (Part e l) = absurd (omega arith)

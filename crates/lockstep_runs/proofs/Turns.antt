@@ -90,7 +90,7 @@ module _ (w : World) (b : Timing) (tick : ℕ) (some : 0 < nodes_of w) where
   abbrev node_at : ℕ → ℕ
   node_at j = (first_in b (nodes_of w) tick + j) % nodes_of w
 
-  -- the ticks that are over for a node, where it's so that its turn is
+  -- the ticks that are over for a node, if it's so that its turn is
   abbrev over : ℕ → Bool → ℕ
   over i done = steps_in (if done then tick + 1 else tick) (b.stop i)
 

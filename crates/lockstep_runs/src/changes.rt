@@ -22,7 +22,7 @@ pub struct MessageDelay {
 /// A node with a stop takes so many steps, one in each tick from the first on, in the same turns as
 /// the correct nodes. Of several stops of a node the last holds. A message that is omitted is never
 /// released. A message with a delay of its own is due by that one, of which 0 counts as 1, even
-/// where it's above the bound; of several delays of a message the last holds.
+/// if it's above the bound; of several delays of a message the last holds.
 #[derive(Drop)]
 pub struct Changes {
     pub stops: Vec<Stop>,
@@ -53,7 +53,7 @@ impl Changes {
     }
 }
 
-/// The number of steps of a node's last stop, or 0 where it has none.
+/// The number of steps of a node's last stop, or 0 if it has none.
 pub fn last_stop(stops: &[Stop], node: u32) -> u32
     ensures { result ≡ stop_or 0 stops.now node }
 {

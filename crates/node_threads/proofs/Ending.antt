@@ -115,7 +115,7 @@ have_ended start b stops seats ends t agree h = record {
       (agree.each i d l) (h.each i d e m));
 }
 
--- where a thread ended with memory, no due round is open
+-- if a thread ended with memory, no due round is open
 over : (start : ℕ → ℕ) (v : Log) (i r : ℕ) (stop : Option ℕ) (e : Ended) → HasEnded start v i stop e
     → e ≢ NoMemory → r ≤ v.setup.rounds → r ≤ round_of v i → start (r + 1) ≤ count_of v i
     → (r < round_of v i) ⊎ (round_of v i ≤ r) → r < round_of v i

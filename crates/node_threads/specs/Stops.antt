@@ -12,6 +12,6 @@ abbrev pub stop_or : Option ℕ → List Stop → ℕ → Option ℕ
 stop_or found [] i = found
 stop_or found (stop ∷ stops) i = stop_or (if stop.node == i then Some stop.steps else found) stops i
 
--- after how many steps node i stops: what its last stop says, none where it has no stop
+-- after how many steps node i stops: what its last stop says, none if it has no stop
 abbrev pub stop_of : List Stop → ℕ → Option ℕ
 stop_of stops i = stop_or None stops i

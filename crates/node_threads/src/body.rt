@@ -183,7 +183,7 @@ fn next_step<P: Plan, M: Mail<P>, G: Gate, B: Beat>(
     }
 }
 
-/// One step, and the end of the round where it makes that due.
+/// One step, and the end of the round if it makes that due.
 fn step<P: Plan, M: Mail<P>, G: Gate, B: Beat>(
     mail: &M,
     gate: &G,
@@ -209,7 +209,7 @@ fn step<P: Plan, M: Mail<P>, G: Gate, B: Beat>(
 }
 
 /// A node's thread, from where its seat stands up to its end: after the last round, at its stop, or
-/// where it has no memory. `None`: a call was refused for another cause than memory.
+/// if it has no memory. `None`: a call was refused for another cause than memory.
 pub fn run_steps<P: Plan, M: Mail<P>, G: Gate, B: Beat>(
     mail: &M,
     gate: &G,

@@ -82,7 +82,7 @@ impl Clock {
         }
     }
 
-    /// Tells the network of a step, where it isn't told of one already. Most steps only look, so
+    /// Tells the network of a step, if it isn't told of one already. Most steps only look, so
     /// that the nodes share the cache line.
     fn tell<R: Wait>(&self, rt: &R, steps: u64) {
         if steps == 0 || self.is_new.load(Ordering::SeqCst) {

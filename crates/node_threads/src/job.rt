@@ -110,7 +110,7 @@ impl<'a, P: Plan> Job<'a, P> {
 }
 
 impl<P: Plan> ThreadEnd<P> {
-    /// The seat and its end, where they are of this plan, these rounds and this stop, and no
+    /// The seat and its end, if they are of this plan, these rounds and this stop, and no
     /// call was refused.
     pub(crate) fn into_parts(self, plan: P, rounds: u32, stop: Option<u32>) -> Option<(Seat, Ended)>
         ensures { IfSome result (λ r. IsEnded (P.start plan) rounds stop r.0 r.1) }

@@ -118,7 +118,7 @@ impl<'a, P: Plan> Network<'a, P> {
         Ok(())
     }
 
-    /// What the network does by a choice; nothing where it counts as none.
+    /// What the network does by a choice; nothing if it counts as none.
     fn event_of<R: Wait>(&self, rt: &R, choice: Choice) -> Result<Option<Event>, Halt>
         ensures { IfOk result (ComesToInOne P.start self.now.flight (Option.Some choice)) }
     {
@@ -224,7 +224,7 @@ impl<'a, P: Plan> Network<'a, P> {
         unreachable!()
     }
 
-    /// The thread, which ends after the nodes, or where it can't go on.
+    /// The thread, which ends after the nodes, or if it can't go on.
     pub(crate) fn run<R: Wait, Q: Policy + Drop>(
         mut self,
         rt: &R,

@@ -105,7 +105,7 @@ impl Progress {
     }
 }
 
-/// Lets other threads go on: at first by a yield, which takes a microsecond where no other thread
+/// Lets other threads go on: at first by a yield, which takes a microsecond if no other thread
 /// wants the processor, and then asleep.
 fn give_way<R: Wait>(rt: &R, attempt: u32) {
     if attempt < YIELDS {

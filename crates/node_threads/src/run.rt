@@ -67,7 +67,7 @@ fn jobs<'a, P: Plan>(
     Ok(jobs)
 }
 
-/// The fault that is told where another one comes up: the one that stands first in [`ThreadFault`].
+/// The fault that is told if another one comes up: the one that stands first in [`ThreadFault`].
 fn with_fault(fault: Option<ThreadFault>, other: ThreadFault) -> Option<ThreadFault>
     ensures { result ≡ with_least fault other }
 {

@@ -218,7 +218,7 @@ module _ (w : World) (t p : List Event) (n : Name) (plan : IsPlan w) (few : n.to
       subst (λ x. x ≤ steps n.to t) (sym (open_spoken w t n (steps n.to t) m e was_made))
       (omega arith)
 
-  -- where a copy is let in before each receive, none finds it too late
+  -- if a copy is let in before each receive, none finds it too late
   pub not_late : (delta : ℕ)
       → ((c : List Event) → is_some (message w t n) ≡ true → At c (Step n.to) t
       → is_receive w (steps n.to c) ≡ true → steps n.from p + delta ≤ steps n.to c

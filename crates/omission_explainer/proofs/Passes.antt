@@ -90,7 +90,7 @@ lockstep_other correct p e other = (
         ∙ eq-eqb i i refl in let off = other i x in absurd cc
     by h i j m x y (inr s) = h i j m x y s
 
--- a step of a correct node keeps it where the node isn't ahead of another
+-- a step of a correct node keeps it if the node isn't ahead of another
 pub lockstep_step : (correct k : ℕ) (p : List Event) (counts : List ℕ) → is_in correct k ≡ true
     → Tallied correct p counts → (IsPacedTo correct p × KeepsPace correct counts k)
     ↔ IsPacedTo correct (Step k ∷ p)

@@ -145,7 +145,7 @@ least_by f x l (inl a) (inr b) c = (1, omega arith, b)
 least_by f x l (inl a) (inl b) (inr c) = (2, omega arith, c)
 least_by f x l (inl a) (inl b) (inl c) = (3, omega arith, omega arith)
 
--- where it doesn't pass a number, one of them doesn't
+-- if it doesn't pass a number, one of them doesn't
 pub least_found : (f : ℕ → ℕ) (x : ℕ) → least_copy f ≤ x → (k : ℕ) × (k ≤ 3) × (f k ≤ x)
 least_found f x l = least_by f x l (cases_lt _ _) (cases_lt _ _) (cases_lt _ _)
 

@@ -65,6 +65,6 @@ decided_text d.None = codes "-"
 decided_text (d.One v) = decimal v
 decided_text d.Split = codes "split"
 
--- the line of it, where one is asked for
+-- the line of it, if one is asked for
 abbrev pub decided_line : Bool → Decided → List ℕ
 decided_line told all = if told then codes "decided " ++ decided_text all ++ codes "\n" else []

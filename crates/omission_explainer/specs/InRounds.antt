@@ -4,7 +4,7 @@ use Rattle.round_lang.specs.Sets.{is_in}
 use Rattle.round_meaning.specs.Rounds.{Algorithm, rounds}
 use Rattle.omission_explainer.specs.Rows.{ClosedRound}
 
--- the set that rows print as omitted for round r of node i, empty where they have no such row
+-- the set that rows print as omitted for round r of node i, empty if they have no such row
 unfoldable pub printed_omitted : List ClosedRound → ℕ → ℕ → ℕ
 printed_omitted [] i r = 0
 printed_omitted (row ∷ rows) i r =

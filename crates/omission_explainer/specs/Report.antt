@@ -57,7 +57,7 @@ value_text k ty.Bool v = if flag v then codes "true" else codes "false"
 value_text k ty.Set v = set_text (set v)
 value_text k ty.Row v = entries_text k (row v)
 
--- the type at a place, num where there is none
+-- the type at a place, num if there is none
 abbrev pub type_at : List Ty → ℕ → Ty
 type_at types i = slice_index_or types i ty.Num
 

@@ -6,7 +6,7 @@ use Rattle.round_lang.specs.Values.{at, set}
 use Rattle.round_lang.specs.declared.value.Value.{Value}
 use Rattle.round_meaning.specs.Turn.{decision, first_member}
 
--- the set that a state holds at a place, empty where there is no place
+-- the set that a state holds at a place, empty if there is no place
 abbrev pub set_in : Option ℕ → List Value → ℕ
 set_in None state = 0
 set_in (Some place) state = set (at state place)

@@ -166,7 +166,7 @@ struct Outcomes {
 
 /// What came of the messages of a node's closed round.
 ///
-/// A message is carried where one of its copies was released while its receiver was in one of the
+/// A message is carried if one of its copies was released while its receiver was in one of the
 /// rounds in which it's kept.
 fn outcomes_of<P: Plan>(book: &Book<P>, node: u32, round: u32) -> Outcomes
     requires node { node < book.now.log.setup.nodes }
@@ -205,7 +205,7 @@ fn outcomes_of<P: Plan>(book: &Book<P>, node: u32, round: u32) -> Outcomes
     }
 }
 
-/// The row of a node's closed round, where the decided variable has this place.
+/// The row of a node's closed round, if the decided variable has this place.
 fn row_of<P: Plan>(
     book: &Book<P>,
     decided: Option<usize>,

@@ -17,7 +17,7 @@ use step_machine::{Event, Name};
 
 /// The judgement of a run for a set of correct nodes: whether they stepped in lockstep, whether
 /// their messages kept the bound on the delay, and the first round, from 1, from which on messages
-/// arrive if both hold; `None` where the plan has no such round.
+/// arrive if both hold; `None` if the plan has no such round.
 #[derive(Clone, Copy, PartialEq, Eq, Debug)]
 pub struct Verdict {
     pub lockstep: bool,
@@ -49,7 +49,7 @@ fn yes_or_no(flag: bool) -> &'static str
 /// For how many nodes step counts are kept: a run has no more.
 const COUNTS: usize = MAX_NODES as usize;
 
-/// Judges the run of a journal, where the nodes `correct` are correct, for the bound `delta` on the
+/// Judges the run of a journal, if the nodes `correct` are correct, for the bound `delta` on the
 /// delay that is to hold from the step number `gst` on.
 ///
 /// Where the run kept lockstep and the bound and a round is clear, no closed round from that one on
@@ -123,8 +123,8 @@ fn keeps_pace(correct: NodeSet, counts: &[u64], node: u32) -> bool
 /// Whether the message that a node sends at its next step, if it does, comes in time for the
 /// receives of its receiver.
 ///
-/// A receive comes after the send where its step number isn't below the receiver's count at the
-/// send, and after the release of a copy where it isn't below the receiver's count there.
+/// A receive comes after the send if its step number isn't below the receiver's count at the
+/// send, and after the release of a copy if it isn't below the receiver's count there.
 fn keeps_bound<P: Plan>(book: &Book<P>, terms: Terms, counts: &[u64], node: u32) -> bool
     requires sized { length counts.now ≡ 16 }
     requires node { node < book.now.log.setup.nodes }

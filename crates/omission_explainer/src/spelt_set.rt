@@ -38,7 +38,7 @@ impl SpeltSet {
         }
     }
 
-    /// Appends the members of a set in rising order with commas. They are spelt anew only where the
+    /// Appends the members of a set in rising order with commas. They are spelt anew only if the
     /// set is another than the last one.
     pub(crate) fn push_members(&mut self, set: ValueSet, text: &mut ShortText)
         requires { length text.old + 192 ≤ room }

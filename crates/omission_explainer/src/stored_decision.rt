@@ -23,7 +23,7 @@ fn place_of(variables: &[Variable], name: &Identifier) -> Option<usize>
     variables.iter().position(|variable| variable.name.is(name))
 }
 
-/// The decision in a state, by the place of the decided variable: its least member, none where it's
+/// The decision in a state, by the place of the decided variable: its least member, none if it's
 /// empty. Takes no memory.
 pub(crate) fn decision_at(place: Option<usize>, state: &StoredState) -> Option<u32>
     ensures { result ≡ decision_at place state.now }

@@ -53,7 +53,7 @@ struct SpeltSets {
     values: SpeltSet,
 }
 
-/// Makes room for a piece: where too little is left, what was kept back goes out.
+/// Makes room for a piece: if too little is left, what was kept back goes out.
 #[inline(always)]
 fn make_room<W: Write>(text: &mut ShortText, out: &mut W) -> io::Result<()>
     ensures same { OnOk result
@@ -235,7 +235,7 @@ fn write_variable<W: Write>(
     write_value(report.values, ty, left, spelt, text, out)
 }
 
-/// The type of the variable at a place, num where there is none.
+/// The type of the variable at a place, num if there is none.
 fn type_at(types: &[Ty], place: usize) -> Ty
     ensures { result ≡ type_at types.now place }
 {
@@ -314,7 +314,7 @@ fn write_entries<W: Write>(
     Ok(())
 }
 
-/// Appends an entry, behind a comma where it isn't the first.
+/// Appends an entry, behind a comma if it isn't the first.
 fn push_entry(is_next: bool, value: u32, entry: u64, text: &mut ShortText)
     requires { length text.old + piece ≤ room }
     ensures { text.new ≡ text.old

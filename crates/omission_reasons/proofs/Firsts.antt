@@ -64,7 +64,7 @@ module _ (q : Event → Bool) (t : List Event) (Is : ℕ → Type 0) (passes : P
           let less = listed_less q s.moment s.event l.moment within s.passes in
           none (length (places_where q s.moment)) k (omega arith) s.there low own
 
-  -- where none of the list is, there is none
+  -- if none of the list is, there is none
   pub none_of_list : (after c : ℕ) → NoneOf (places_where q t) Is after c
       → length (places_where q t) ≤ c → (k : ℕ) → after < k → Is k → ⊥
   none_of_list after c none all k low own =

@@ -65,7 +65,7 @@ line_is l = go (line_found l)
         subst P (sym bad) (λ said h. sized_no_bad (are_small (numbers_of said)) said
         (sym (line_read l said h) ∙ bad))
 
--- something is wrong with the line of this number, where the first has the number k, and with none
+-- something is wrong with the line of this number, if the first has the number k, and with none
 -- before it
 record FirstAt (Wrong : List ℕ → Type 0) (k : ℕ) (ls : List (List ℕ)) (n : ℕ) : Type 0 where
   index : ℕ

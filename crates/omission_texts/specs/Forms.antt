@@ -30,7 +30,7 @@ are_small vs = list_all (λ v. nat_le v max_number) vs
 abbrev pub sized : {T : Type 0} → List ℕ → T → Result T LineFault
 sized vs x = if are_small vs then Ok x else Err line.Large
 
--- what is made of numbers, where the words have that form
+-- what is made of numbers, if the words have that form
 abbrev pub formed : {T : Type 0} → Bool → List ℕ → T → Result T LineFault
 formed has_form vs x = if has_form then sized vs x else Err line.Bad
 
@@ -66,7 +66,7 @@ rounds_of word = rounds_at (parts_of 45 word)
 abbrev pub sized_rounds : RoundRange → Result RoundRange LineFault
 sized_rounds rs = sized (rs.first ∷ rs.last ∷ []) rs
 
--- the same, where each number fits
+-- the same, if each number fits
 abbrev pub rounds_in : List ℕ → Result RoundRange LineFault
 rounds_in word = sized_rounds (rounds_of word)
 
@@ -78,7 +78,7 @@ are_nodes word = bytes_eq word (codes "-") || list_all is_number (parts_of 44 wo
 abbrev pub nodes_of : List ℕ → List ℕ
 nodes_of word = if bytes_eq word (codes "-") then [] else map value_of (parts_of 44 word)
 
--- the numbers of words of digits, where each fits
+-- the numbers of words of digits, if each fits
 abbrev pub numbers_in : List (List ℕ) → Result (List ℕ) LineFault
 numbers_in words = sized (map value_of words) (map value_of words)
 
@@ -146,7 +146,7 @@ from_line k [] = Ok []
 from_line k (l ∷ ls) =
     if counts l then behind k (line_in l) (from_line (k + 1) ls) else from_line (k + 1) ls
 
--- what a text says: TooLong where it is that, or else what its lines say
+-- what a text says: TooLong if it is that, or else what its lines say
 unfoldable pub answer_of : List ℕ → Answer
 answer_of text =
     if nat_lt max_text (length text) then Err fault.TooLong else from_line 1 (lines text)

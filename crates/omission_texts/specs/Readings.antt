@@ -34,7 +34,7 @@ pub record IsFirst (Wrong : List ℕ → Type 0) (ls : List (List ℕ)) (n : ℕ
 abbrev pub Answer : Type 0
 Answer = Result (List OmissionLine) ScheduleFault
 
--- the answer of reading a text, where there is memory: what it says, TooLong where it is that, or
+-- the answer of reading a text, if there is memory: what it says, TooLong if it is that, or
 -- else the first line at fault, with its number
 abbrev pub IsReading : List ℕ → Answer → Type 0
 IsReading text (Ok said) = Says text said

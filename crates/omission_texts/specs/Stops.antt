@@ -16,8 +16,8 @@ crash_in i (Crash node round reached) = if node == i then Some round else None
 abbrev pub crash_round : Setup → List OmissionLine → ℕ → ℕ
 crash_round s ls i = fold min (s.rounds + 1) (filter_map (crash_in i) ls)
 
--- how many steps node i takes, where a round is so many sends, and begins at this step: all of the
--- run; or where it crashes in a round, those before that round and the sends of it
+-- how many steps node i takes, if a round is so many sends, and begins at this step: all of the
+-- run; or if it crashes in a round, those before that round and the sends of it
 abbrev pub steps_of : (nodes : ℕ) → (start : ℕ → ℕ) → Setup → List OmissionLine → ℕ → ℕ
 steps_of nodes start s ls i =
     if nat_le (crash_round s ls i) s.rounds then start (crash_round s ls i) + nodes

@@ -2,7 +2,7 @@
 
 use crate::nodes::NodeList;
 
-/// Rounds from a first to a last; none where the first comes after the last.
+/// Rounds from a first to a last; none if the first comes after the last.
 #[derive(Clone, Copy, PartialEq, Eq, Debug)]
 pub struct RoundRange {
     pub first: u32,

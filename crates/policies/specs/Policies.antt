@@ -9,7 +9,7 @@ use Rattle.policies.specs.declared.policy.Choice.{Choice}
 use Rattle.policies.specs.declared.policy.Choice.TheVariants.{Release}
 use Rattle.policies.specs.Tables.{round_entry}
 
--- the release of the first message in flight, where there is one
+-- the release of the first message in flight, if there is one
 abbrev pub prompt_choice : List InFlight → Option Choice
 prompt_choice [] = None
 prompt_choice (m ∷ rest) = Some (Release 0)
@@ -24,7 +24,7 @@ IsFirstPlace Such flight k =
 abbrev pub IsOriginalOf : Name → InFlight → Type 0
 IsOriginalOf n m = m.name ≡ original n
 
--- the next message of a script is released by its copy 0 and used up; where that isn't in flight
+-- the next message of a script is released by its copy 0 and used up; if that isn't in flight
 -- nothing is chosen, and the script stays
 abbrev pub ScriptChooses : List Name → List InFlight → Option Choice → List Name → Type 0
 ScriptChooses [] flight answer new = (answer ≡ None) × (new ≡ [])
@@ -49,7 +49,7 @@ pub record HoardChooses (count : ℕ) (flight : List InFlight)
 abbrev pub table_delay : Bounded → InFlight → ℕ
 table_delay b m = max (round_entry b.delays m.serial 1) 1
 
--- the delay of a message: within the bound where it was sent at `gst` or later
+-- the delay of a message: within the bound if it was sent at `gst` or later
 abbrev pub delay_of : Bounded → InFlight → ℕ
 delay_of b m = if ltb m.sent_at b.gst then table_delay b m else min (table_delay b m) b.delta
 
@@ -71,7 +71,7 @@ pub record IsLeastDue (b : Bounded) (now : ℕ) (flight : List InFlight) (k : �
   pub first : (j : ℕ) (d : InFlight) → j < k → IsDue b now (slice_index_or flight j d)
       → (slice_index_or flight k d).serial < (slice_index_or flight j d).serial
 
--- the least serial of those that are due is released, and nothing where none is
+-- the least serial of those that are due is released, and nothing if none is
 abbrev pub BoundedChooses : Bounded → ℕ → List InFlight → Option Choice → Type 0
 BoundedChooses b now flight None = All (λ m. ¬ (IsDue b now m)) flight
 BoundedChooses b now flight (Some (Release k)) = IsLeastDue b now flight k

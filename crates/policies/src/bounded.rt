@@ -8,8 +8,8 @@ use step_machine::InFlight;
 
 /// Delays each message by a table, within a bound from a step on.
 ///
-/// The message with the serial k has the delay `delays[k mod len]`: 1 where the table is empty or
-/// the entry is 0, and at most `delta` where it was sent at the step `gst` or later. It's released
+/// The message with the serial k has the delay `delays[k mod len]`: 1 if the table is empty or
+/// the entry is 0, and at most `delta` if it was sent at the step `gst` or later. It's released
 /// from the tick `sent_at + delay` on, and of those that are due the one with the least serial goes
 /// first. `orders` says which node takes its step first in a tick.
 #[derive(Drop, Debug)]

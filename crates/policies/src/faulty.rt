@@ -10,7 +10,7 @@ use std::marker::Model;
 use step_machine::InFlight;
 
 /// Makes these choices, one a call, each as it stands, and then chooses as
-/// [`Prompt`](crate::Prompt) does. A choice is used up also where it counts as none.
+/// [`Prompt`](crate::Prompt) does. A choice is used up also if it counts as none.
 #[derive(Drop)]
 pub struct Faulty {
     choices: VecDeque<Choice>,

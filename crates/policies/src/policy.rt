@@ -9,7 +9,7 @@ use step_machine::InFlight;
 /// from 0. A place past the end of the list counts as no choice.
 ///
 /// `Copy` makes the least copy that wasn't made of the message; at an entry that isn't copy 0, or
-/// where all copies were made, it counts as no choice.
+/// if all copies were made, it counts as no choice.
 #[derive(Clone, Copy, PartialEq, Eq, Debug)]
 pub enum Choice {
     Release(usize),

@@ -5,7 +5,7 @@ ghost use Rattle.policies.specs.Policies.{prompt_choice};
 use crate::policy::{Choice, Policy};
 use step_machine::InFlight;
 
-/// Releases the first message in flight, where there is one.
+/// Releases the first message in flight, if there is one.
 #[derive(Clone, Copy, PartialEq, Eq, Debug)]
 pub struct Prompt;
 
@@ -17,7 +17,7 @@ impl Policy for Prompt {
     }
 }
 
-/// The release of the first message in flight, where there is one.
+/// The release of the first message in flight, if there is one.
 pub fn release_first(flight: &[InFlight]) -> Option<Choice>
     ensures { result ≡ prompt_choice flight.now }
 {

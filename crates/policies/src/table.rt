@@ -29,7 +29,7 @@ impl Table {
         &self.entries
     }
 
-    /// The entry for the place `k`, counted round and round; where the table is empty, `or`.
+    /// The entry for the place `k`, counted round and round; if the table is empty, `or`.
     pub fn entry(&self, k: usize, or: u32) -> u32
         ensures { result ≡ round_entry self.now k or }
     {

@@ -100,7 +100,7 @@ fn run_all<R: Wait, P: Plan>(
     Ok(after)
 }
 
-/// How each node ended, and the run's journal, none where its accounts don't agree.
+/// How each node ended, and the run's journal, none if its accounts don't agree.
 fn ended<R: Wait, P: Plan>(
     rt: &R,
     alloc: Global,

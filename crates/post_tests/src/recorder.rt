@@ -126,7 +126,7 @@ impl<P: Plan> Recorder for Journal<P> {
 }
 
 /// A post, with the seats and the relay that its calls are made with. A call that is refused for
-/// memory is made once more, with the work that came back; where it's refused again, the answer is
+/// memory is made once more, with the work that came back; if it's refused again, the answer is
 /// that of a stranger, which no journal gives.
 #[derive(Drop)]
 pub struct Counter<'a, R: Wait, P: Plan> {

@@ -147,7 +147,7 @@ fn close<C: Recorder>(
     Ok(())
 }
 
-/// The node's next step, and the end of its round where that is due.
+/// The node's next step, and the end of its round if that is due.
 fn step<P: Plan, C: Recorder>(
     recorder: &mut C,
     plan: P,
@@ -293,7 +293,7 @@ fn by_journal<P: Plan>(
     Ok((out, journal))
 }
 
-/// What a post answers to them, and its journal in the end, none where its accounts don't agree.
+/// What a post answers to them, and its journal in the end, none if its accounts don't agree.
 fn by_post<R: Wait, P: Plan>(
     rt: &R,
     alloc: Global,

@@ -31,7 +31,7 @@ use step_book::Book;
 use step_journal::Journal;
 use step_machine::{Event, MAX_COPY, Name};
 
-/// The program in which each node tells what it has seen where the condition holds.
+/// The program in which each node tells what it has seen if the condition holds.
 fn gathering(alloc: Global, values: &str, condition: &str) -> Result<Checked, Fault> {
     let text = format!(in alloc;
         "values {values} period 1 input x state seen: set = single(x) decide seen

@@ -35,7 +35,7 @@ pub record IsClear (p : ProgramTree) : Type 0 where
   pub counts : field_count p ≡ false
   pub types : wrong_type p ≡ false
 
--- where none of eight causes stands, each test fails
+-- if none of eight causes stands, each test fails
 none_of_eight : (a b c d e f g h : Bool)
     → is_none
     (first_standing
@@ -90,7 +90,7 @@ some-decides p h = go (length p.decides) (IsClear-typed p h).decision
     go zero e = absurd cc
     go (suc n) e = omega arith
 
--- a program is typed exactly where it has no fault
+-- a program is typed exactly if it has no fault
 pub typed-none : (p : ProgramTree) → fault_of p ≡ None → is_typed p ≡ true
 unfolding is_typed
 typed-none p h = ap is_none h
@@ -99,7 +99,7 @@ pub none-typed : (p : ProgramTree) (f : CheckFault) → fault_of p ≡ Some f �
 unfolding is_typed
 none-typed p f h typed = cc (ap is_none h, typed)
 
--- where neither of two tests holds, each fails
+-- if neither of two tests holds, each fails
 pub neither : (a b : Bool) → a || b ≡ false → (a ≡ false) × (b ≡ false)
 neither true b h = absurd cc
 neither false b h = (refl, h)
@@ -146,7 +146,7 @@ IsWellTyped-typed p h =
     let one = neither starts blocks two.0 in
     record { starts = one.0; blocks = one.1; decides = two.1 }
 
--- a block in which nothing has a wrong type, where c has no fields
+-- a block in which nothing has a wrong type, if c has no fields
 pub record IsWellTypedBlock (c : Context) (b : BlockTree) : Type 0 where
   pub condition : type_of b.condition c ≡ Some Truth
   pub sent : wrong_sent c b.fields b.sent ≡ false

@@ -253,7 +253,7 @@ module _ (vs : List Variable) (bs : List BlockTree) (fs : List Field) (place : P
       reads_one e (x ∷ bound) (once_more x (bound ++ names) (binder_fresh bound x f2.0) once) f2.1 k
       a
 
--- where an element breaks none of three rules, so does each
+-- if an element breaks none of three rules, so does each
 all_of : {X : Type 0} (p q r : X → Bool) (P : X → Type 0)
     → ((x : X) → p x ≡ false → q x ≡ false → r x ≡ false → P x) → (xs : List X)
     → list_any p xs ≡ false → list_any q xs ≡ false → list_any r xs ≡ false → AllByRecursion P xs

@@ -179,7 +179,7 @@ module _ (p : ProgramTree) (typed : is_typed p ≡ true) where
       (neither starts blocks
       (neither (starts || blocks) targets (IsClear-typed p typed).allowed).0).0
 
--- the initial value has its variable's type where the input's name alone is known
+-- the initial value has its variable's type if the input's name alone is known
 abbrev pub StartsWith : List ℕ → VariableKind → Type 0
 StartsWith y Input = Unit {0}
 StartsWith y (State r e) =

@@ -126,7 +126,7 @@ program_then p rest = p.values ∷ p.period ∷ list_then variable_then p.variab
 abbrev pub spelled : ProgramTree → List ℕ
 spelled p = program_then p []
 
--- a number as bytes: itself where it is below 255, else 255 and its own bytes, the lowest first
+-- a number as bytes: itself if it is below 255, else 255 and its own bytes, the lowest first
 abbrev pub number_bytes : ℕ → List ℕ
 number_bytes n =
     if nat_lt n 255 then n ∷ []

@@ -79,17 +79,17 @@ name_type c x =
     if contains_name c.bound x then Some Num
     else or_else (field_type c.fields x) (variable_type c.variables x)
 
--- the result where the part has the type that is wanted
+-- the result if the part has the type that is wanted
 abbrev pub wants : Option Ty → Ty → Option Ty → Option Ty
 wants None t r = None
 wants (Some a) t r = if same_type a t then r else None
 
--- the result where both parts are of one type
+-- the result if both parts are of one type
 abbrev pub alike : Option Ty → Option Ty → Option Ty → Option Ty
 alike None b r = None
 alike (Some a) b r = wants b a r
 
--- the result type where the parts have the types s and t
+-- the result type if the parts have the types s and t
 abbrev pub both : Option Ty → Ty → Option Ty → Ty → Ty → Option Ty
 both a s b t r = wants a s (wants b t (Some r))
 
@@ -124,7 +124,7 @@ binary_type Entry a b = both a Row b Num Num
 abbrev pub under : List ℕ → Context → Context
 under x c = record c { bound = x ∷ c.bound }
 
--- the type of an expression, none where a name is unknown or a part has another type than is wanted
+-- the type of an expression, none if a name is unknown or a part has another type than is wanted
 abbrev pub type_of : Tree → Context → Option Ty
 type_of (TNumber n) c = Some Num
 type_of (TFixed k) c = Some (constant_type k)
@@ -168,7 +168,7 @@ wrong_assignment c a = not (is_same_type (variable_type c.variables a.target) (t
 abbrev pub wrong_decide : Context → List ℕ → Bool
 wrong_decide c x = not (has_type (variable_type c.variables x) Set)
 
--- a condition, sent expression or assignment of a block is of a wrong type, where c has no fields
+-- a condition, sent expression or assignment of a block is of a wrong type, if c has no fields
 abbrev pub wrong_block : Context → BlockTree → Bool
 wrong_block c b =
     not (has_type (type_of b.condition c) Truth)

@@ -37,7 +37,7 @@ impl Model for Checked {
     ghost invariant = { λ c. is_typed (arc_value c.shaped).program ≡ true };
 }
 
-/// The program where no cause stands against it, else the first that stands; NoMemory only where
+/// The program if no cause stands against it, else the first that stands; NoMemory only if
 /// none stands and memory runs out.
 pub fn check(alloc: Global, program: Program) -> Result<Checked, CheckFault>
     ensures ok { IfOk result (λ checked. checked ≡ program) }
@@ -126,7 +126,7 @@ impl Checked {
     }
 }
 
-/// Equal where both are one program, wherever they lie.
+/// Equal if both are one program, wherever they lie.
 impl PartialEq for Checked {
     ghost use Rattle.round_lang.specs.Equality.{is_same, is_same_per};
     ghost use Rattle.round_check.specs.contracts.checked.Checked as checked;

@@ -65,7 +65,7 @@ fn field_type(fields: &[Field], name: &Identifier) -> Option<Ty>
     }
 }
 
-/// The type of the variable with the name, none where there is no such variable.
+/// The type of the variable with the name, none if there is no such variable.
 pub(crate) fn variable_type(variables: &[Variable], name: &Identifier) -> Option<Ty>
     ensures { result ≡ variable_type variables.now name.now }
 {
@@ -146,7 +146,7 @@ fn binary_type(operator: BinaryOperator, a: Option<Ty>, b: Option<Ty>) -> Option
     }
 }
 
-/// The type of an expression, none where a name is unknown or a part has another type than its
+/// The type of an expression, none if a name is unknown or a part has another type than its
 /// operator wants.
 #[cycle(typing)]
 pub(crate) fn type_of(expr: &Expr, context: &Context<'_>) -> Option<Ty>

@@ -1,4 +1,4 @@
--- `==` on these types, which is derived, answers true exactly where the two are one.
+-- `==` on these types, which is derived, answers true exactly if the two are one.
 use Rattle.std.proofs.Common.{◌≡◌, Decides, rules}
 use Rattle.round_lang.specs.declared.block.Field.{Field}
 use Rattle.round_lang.specs.declared.block.Assignment.{Assignment}

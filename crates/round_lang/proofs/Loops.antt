@@ -27,7 +27,7 @@ use Rattle.round_lang.proofs.Lists.{PartLaws, after_none, after_some}
 use Rattle.round_lang.proofs.Items.{expr_laws, field_laws, assignment_laws, declaration_laws}
 use Rattle.round_lang.proofs.Blocks.{block_laws}
 
--- where reading less fails, reading more does
+-- if reading less fails, reading more does
 pub fails_by : {A B : Type 0} (e : Fault) (o : Option A) (p : Option B) → (o ≡ None → p ≡ None)
     → Fails e o → Fails e p
 fails_by fault.NoMemory o p h f = tt

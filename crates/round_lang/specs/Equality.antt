@@ -38,7 +38,7 @@ code_decides (gcons a b) (gcons c d) =
     )
 
 module _ {A : Type 0} (c : Coded A) where
-  -- what a caller of `==` needs: the test answers true exactly where the values are one
+  -- what a caller of `==` needs: the test answers true exactly if the values are one
   pub is_same_decides : (x y : A) → Decides (is_same c x y) (x ≡ y)
   unfolding is_same
   is_same_decides x y =

@@ -98,7 +98,7 @@ or_else (Some a) f b = f a
 
 -- inner reads what nests one less deep than the room
 module _ (inner : Level → Reader) (room : ℕ) where
-  -- the second operand, where there is an operator, and then next
+  -- the second operand, if there is an operator, and then next
   unfoldable pub operand : Level → (Tree → ℕ → Reader) → Tree → ℕ → List Lexeme
       → Option (BinaryOperator × List Lexeme) → Option Found
   operand level next a d ws None = Some (a, d, ws)

@@ -19,17 +19,17 @@ abbrev pub num : Value → ℕ
 num (Num n) = n
 num v = 0
 
--- the truth value that a value is, false where it's of another type
+-- the truth value that a value is, false if it's of another type
 abbrev pub flag : Value → Bool
 flag (Flag b) = b
 flag v = false
 
--- the set that a value is, empty where it's of another type
+-- the set that a value is, empty if it's of another type
 abbrev pub set : Value → ℕ
 set (Set s) = s.bits
 set v = 0
 
--- the entries of the row that a value is, none where it's of another type
+-- the entries of the row that a value is, none if it's of another type
 abbrev pub row : Value → List ℕ
 row (Row r) = r
 row v = []
@@ -51,14 +51,14 @@ div_or_0 a b = if b == 0 then 0 else a / b
 abbrev pub mod_or_0 : ℕ → ℕ → ℕ
 mod_or_0 a b = if b == 0 then 0 else a % b
 
--- what an operator gives of one value, where there are k values
+-- what an operator gives of one value, if there are k values
 abbrev pub unary : ℕ → UnaryOperator → Value → Value
 unary k Not a = Flag (not (flag a))
 unary k Single a = of_set (only k (num a))
 unary k Size a = Num (size (set a))
 unary k Least a = Num (least k (set a))
 
--- what an operator gives of two values, where there are k values
+-- what an operator gives of two values, if there are k values
 abbrev pub binary : ℕ → BinaryOperator → Value → Value → Value
 binary k Add a b = Num (min (num a + num b) 4294967295)
 binary k Sub a b = Num (num a - num b)
@@ -78,6 +78,6 @@ binary k Minus a b = of_set (minus (set a) (set b))
 binary k Has a b = Flag (nat_lt (num b) k && is_in (set a) (num b))
 binary k Entry a b = Num (slice_index (row a) (num b))
 
--- the value at a place, the number 0 where there is none
+-- the value at a place, the number 0 if there is none
 abbrev pub at : List Value → ℕ → Value
 at vs i = slice_index_or vs i (Num 0)

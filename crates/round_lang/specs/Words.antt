@@ -14,7 +14,7 @@ use Rattle.round_lang.specs.declared.value.Value.{Value}
 use Rattle.round_lang.specs.declared.value.Value.TheVariants.{Num, Flag, Set, Row}
 use Rattle.round_lang.specs.Values.{of_set}
 
--- the kind of a type's values, where a row has k entries
+-- the kind of a type's values, if a row has k entries
 abbrev pub kind_for : ℕ → Ty → Kind
 kind_for k TyNum = NumKind
 kind_for k TyBool = FlagKind
@@ -38,7 +38,7 @@ abbrev pub values_of : List Kind → List ℕ → List Value
 values_of [] words = []
 values_of (kind ∷ kinds) words = read kind words ∷ values_of kinds (drop (size kind) words)
 
--- what is read at the place that was found, the number 0 where none was
+-- what is read at the place that was found, the number 0 if none was
 abbrev pub read_spot : Option (Kind × Bor (List ℕ)) → Value
 read_spot None = Num 0
 read_spot (Some spot) = read spot.0 spot.1.now

@@ -144,7 +144,7 @@ impl Block {
     }
 }
 
-/// Equal where both are one block, wherever they lie.
+/// Equal if both are one block, wherever they lie.
 impl PartialEq for Block {
     ghost use Rattle.round_lang.specs.Equality.{is_same, is_same_per};
     ghost use Rattle.round_lang.specs.contracts.block.Block as block;

@@ -56,7 +56,7 @@ impl VarsBuilder {
         Ok(())
     }
 
-    /// The values, under the given shape where it is theirs, else under one of their own.
+    /// The values, under the given shape if it is theirs, else under one of their own.
     pub fn finish(self, shape: &Shape) -> Result<Vars, NoMemory>
         ensures { IfOk result (λ v. v ≡ self) }
     {

@@ -98,7 +98,7 @@ fn nests_within(expr: &Expr, depth: usize) -> bool
     }
 }
 
-/// Equal where both are one tree, wherever they lie.
+/// Equal if both are one tree, wherever they lie.
 impl PartialEq for Formula {
     ghost use Rattle.round_lang.specs.Equality.{is_same, is_same_per};
     ghost use Rattle.round_lang.specs.contracts.formula.Formula as formula;

@@ -75,7 +75,7 @@ impl Identifier {
     }
 }
 
-/// Equal where both are one name, wherever they lie.
+/// Equal if both are one name, wherever they lie.
 impl PartialEq for Identifier {
     ghost use Rattle.round_lang.specs.Equality.{is_same, is_same_per};
     ghost use Rattle.round_lang.specs.contracts.identifier.Identifier as identifier;

@@ -16,7 +16,7 @@ pub enum Kind {
 }
 
 impl Kind {
-    /// The kind of the values of a type, where a row has so many entries.
+    /// The kind of the values of a type, if a row has so many entries.
     pub fn of(ty: Ty, entries: u32) -> Kind
         ensures { result ≡ kind_for entries ty }
     {

@@ -135,7 +135,7 @@ impl Program {
     }
 }
 
-/// Equal where both are one program, wherever they lie.
+/// Equal if both are one program, wherever they lie.
 impl PartialEq for Program {
     ghost use Rattle.round_lang.specs.Equality.{is_same, is_same_per};
     ghost use Rattle.round_lang.specs.contracts.program.Program as program;

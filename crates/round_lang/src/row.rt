@@ -57,7 +57,7 @@ impl Row {
     }
 }
 
-/// Equal where both have the same entries, wherever they lie.
+/// Equal if both have the same entries, wherever they lie.
 impl PartialEq for Row {
     ghost use Rattle.round_lang.specs.Equality.{is_same, is_same_per};
     ghost use Rattle.round_lang.specs.contracts.row.Row as row;

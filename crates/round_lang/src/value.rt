@@ -64,7 +64,7 @@ impl Value {
         }
     }
 
-    /// The number that it is, 0 where it is none.
+    /// The number that it is, 0 if it is none.
     pub fn num(&self) -> u32
         ensures { result ≡ num self.now }
     {

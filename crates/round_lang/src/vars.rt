@@ -108,7 +108,7 @@ impl Vars {
         self.shape.kinds().is_empty()
     }
 
-    /// Writes the value at a place, where it has one. Memory is wanted only where the value is of
+    /// Writes the value at a place, if it has one. Memory is wanted only if the value is of
     /// another kind than the one before.
     pub fn put(&mut self, place: usize, value: &Value) -> Result<(), NoMemory>
         ensures ok { OnOk result (self.new ≡ slice_set self.old place value.now) }
@@ -159,7 +159,7 @@ impl Vars {
         Some((kind, &self.words.as_slice()[first..]))
     }
 
-    /// A copy of the value at a place, the number 0 where there is none.
+    /// A copy of the value at a place, the number 0 if there is none.
     pub fn value(&self, place: usize) -> Result<Value, NoMemory>
         ensures { IfOk result (λ v. v ≡ at self.now place) }
     {
@@ -234,7 +234,7 @@ impl Vars {
     }
 }
 
-/// Equal where both hold the same values, wherever they lie.
+/// Equal if both hold the same values, wherever they lie.
 impl PartialEq for Vars {
     ghost use Rattle.round_lang.specs.Equality.{is_same, is_same_per};
     ghost use Rattle.round_lang.specs.contracts.vars.Vars as vars;

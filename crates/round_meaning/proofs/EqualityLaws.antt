@@ -1,4 +1,4 @@
--- `==` on setups, which is derived, answers true exactly where the two are one.
+-- `==` on setups, which is derived, answers true exactly if the two are one.
 use Rattle.std.proofs.Common.{◌≡◌, Decides, rules}
 use Rattle.round_lang.specs.Equality.{is_same_decides}
 use Rattle.round_meaning.specs.declared.setup.Setup.{Setup}

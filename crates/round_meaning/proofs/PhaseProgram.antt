@@ -74,7 +74,7 @@ sends4 : (s : Setting) (r k i j : ℕ) (n : Node)
     (Some (two (message4 n))) None
 sends4 s r k i j n = refl
 
--- what i hears of j: nothing where it is omitted or silent
+-- what i hears of j: nothing if it is omitted or silent
 heard : (j : ℕ) (o t : Bool) (m : List Value) (d : Option (List Value)) → d ≡ cond t (Some m) None
     → cond o None (received j d) ≡ cond (not o && t) (Some (record { from = j; message = m })) None
 heard j true t m d e = refl

@@ -55,7 +55,7 @@ nothing_omitted_second = refl
 abbrev omission : Omission
 omission = record { receiver = 0; round = 1; sender = 1 }
 
--- where node 0 doesn't get node 1's message, it has seen 0 alone
+-- if node 0 doesn't get node 1's message, it has seen 0 alone
 omitted_first : after_one (omission ∷ []) 0 ≡ Num 0 ∷ of_set 1 ∷ []
 unfolding algorithm inbox rounds set_of is_in
 omitted_first = refl

@@ -9,7 +9,7 @@ use Rattle.round_meaning.specs.Meaning.{Env, value}
 use Rattle.round_meaning.specs.Rounds.{Algorithm, inbox, rounds}
 use Rattle.round_meaning.specs.Turn.{IsInbox}
 
--- a sum is the numbers' sum, where that isn't past the greatest number
+-- a sum is the numbers' sum, if that isn't past the greatest number
 abbrev pub SumsAreExact : Type 0
 SumsAreExact =
     (a b : ℕ) (env : Env) → a + b ≤ max_number

@@ -18,7 +18,7 @@ pub record SetsAreMembers : Type 0 where
       → ((v : ℕ) → v < 64 → is_in a v ≡ is_in b v) → a ≡ b
   -- the size is how many values are members
   pub counted : (s : ℕ) → size s ≡ count_by (is_in s) (range_with_len 0 64)
-  -- the least member is one, and no member is less; it's K where there is none
+  -- the least member is one, and no member is less; it's K if there is none
   pub least_member : (k s v : ℕ) → v < 64 → is_in s v ≡ true
       → (is_in s (least k s) ≡ true) × (least k s ≤ v)
   pub least_of_none : (k s : ℕ) → ((v : ℕ) → v < 64 → is_in s v ≡ false) → least k s ≡ k

@@ -29,7 +29,7 @@ with_message j fs m env = record env { from = j; fields = fs; message = m }
 abbrev pub with_dest : ℕ → Env → Env
 with_dest i env = record env { dest = i }
 
--- puts a value at a place of a list, and leaves the list as it is where there is no place
+-- puts a value at a place of a list, and leaves the list as it is if there is no place
 abbrev pub put : List Value → Option ℕ → Value → List Value
 put vs None v = vs
 put vs (Some i) v = slice_set vs i v
@@ -71,7 +71,7 @@ node_env p n t r i = record {
   bound = [];
 }
 
--- what a block sends: the values of its fields where its condition is true, else nothing
+-- what a block sends: the values of its fields if its condition is true, else nothing
 abbrev pub sent : Option BlockTree → Env → Option (List Value)
 sent None env = None
 sent (Some b) env =
@@ -117,7 +117,7 @@ abbrev pub initial : ProgramTree → ℕ → ℕ → ℕ → ℕ → List Value
 initial p n t x i =
     map (λ (d : Variable). begins (bind (input_name p) (node_env p n t 0 i) x) x d.kind) p.variables
 
--- the set that the variable of the first `decide` line holds, empty where there is no such line
+-- the set that the variable of the first `decide` line holds, empty if there is no such line
 abbrev pub decided : ProgramTree → List Value → List (List ℕ) → ℕ
 decided p vs [] = 0
 decided p vs (x ∷ xs) = set (or_value (find_var p.variables vs x) (Num 0))

@@ -60,7 +60,7 @@ TypedValuesFit =
     (e : Tree) (c : Context) (env : Env) (t : Ty) → Fits c env → type_of e c ≡ Some t
     → HasType env.values t (value e env)
 
--- the fields of a round's message, none where there is no block
+-- the fields of a round's message, none if there is no block
 abbrev pub fields_in : Option BlockTree → List Field
 fields_in None = []
 fields_in (Some b) = b.fields

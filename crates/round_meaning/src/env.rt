@@ -89,7 +89,7 @@ impl<'a> Env<'a> {
         }
     }
 
-    /// The set that a name stands for, empty where it's none.
+    /// The set that a name stands for, empty if it's none.
     pub(crate) fn members(&self, name: &Identifier) -> ValueSet
         ensures { result.bits ≡ set (look_up (env_of self.now) name.now) }
     {

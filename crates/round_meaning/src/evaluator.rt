@@ -81,7 +81,7 @@ pub fn eval(alloc: Global, expr: &Expr, env: &Env<'_>) -> Result<Value, NoMemory
     }
 }
 
-/// The set that an expression is, empty where it's none; that of a name is read where it lies.
+/// The set that an expression is, empty if it's none; that of a name is read where it lies.
 #[cycle(eval)]
 fn eval_members(alloc: Global, expr: &Expr, env: &Env<'_>) -> Result<ValueSet, NoMemory>
     requires { env.now.values ≤ 64 }

@@ -49,7 +49,7 @@ impl Inputs {
         &self.values
     }
 
-    /// The input of a node, 0 where it has none.
+    /// The input of a node, 0 if it has none.
     pub fn of(&self, node: u32) -> u32
         ensures { result ≡ slice_index self.now node }
     {
@@ -75,7 +75,7 @@ impl Inputs {
     }
 }
 
-/// Equal where both give each node the same input, wherever they lie.
+/// Equal if both give each node the same input, wherever they lie.
 impl PartialEq for Inputs {
     ghost use Rattle.round_lang.specs.Equality.{is_same, is_same_per};
     ghost use Rattle.round_meaning.specs.contracts.setup.Inputs as inputs;

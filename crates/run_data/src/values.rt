@@ -51,7 +51,7 @@ fn push_variable(
     push_value(report.values, ty, left, line)
 }
 
-/// The type of the variable at a place, num where there is none.
+/// The type of the variable at a place, num if there is none.
 fn type_at(types: &[Ty], place: usize) -> Ty
     ensures { result ≡ type_at types.now place }
 {

@@ -48,7 +48,7 @@ pub(crate) struct Arrow {
 }
 
 impl Arrow {
-    /// Where the arrow ends: by the reason why it isn't heard, where the report has one.
+    /// Where the arrow ends: by the reason why it isn't heard, if the report has one.
     pub(crate) fn ending(&self) -> Ending {
         match self.standing {
             Standing::Heard => Ending::Taken,

@@ -92,7 +92,7 @@ impl Grid {
     }
 }
 
-/// Half the width of a column, where this is the last one: few columns are drawn wider.
+/// Half the width of a column, if this is the last one: few columns are drawn wider.
 fn half_width(last: u32) -> u32 {
     match last {
         0..=50 => 13,

@@ -188,7 +188,7 @@ impl History {
 
     fn add_release<P: Plan>(&mut self, book: &Book<P>, name: Name, place: usize) {
         if self.has_effect(book) {
-            let row = if self.is_left(book, name.to) {
+            let row = if self.has_received_all(book, name.to) {
                 self.row(name, End::Ring)
             } else {
                 0
@@ -221,8 +221,8 @@ impl History {
         }
     }
 
-    /// Whether a node takes no receive any more.
-    fn is_left<P: Plan>(&self, book: &Book<P>, node: u32) -> bool {
+    /// Whether a node has taken its last receive.
+    fn has_received_all<P: Plan>(&self, book: &Book<P>, node: u32) -> bool {
         if node >= book.setup().nodes {
             return false;
         }

@@ -199,7 +199,8 @@ fn drawn(sign: Sign) -> &'static str {
         Sign::Dropped => "<g class=\"missed\"><path class=\"dropped\" d=\"M0 0h22\"/></g>",
         Sign::Flying => {
             "<g class=\"missed\"><path class=\"flying\" d=\"M0 0h14\"/>\
-             <circle class=\"ring\" cx=\"21\" r=\"7\"/><text class=\"to\" x=\"21\" y=\"4\">1</text></g>"
+             <circle class=\"ring\" cx=\"21\" r=\"7\"/>\
+             <text class=\"to\" x=\"21\" y=\"4\">1</text></g>"
         }
         Sign::Waiting => "<g class=\"missed\"><path class=\"waiting\" d=\"M0 0h24\"/></g>",
         Sign::Open => "<g class=\"open\"><path class=\"taken\" d=\"M0 0h28\"/></g>",

@@ -69,7 +69,8 @@ pub(crate) const MARKERS: &str = "\
 <marker id=\"heard\" markerUnits=\"userSpaceOnUse\" markerWidth=\"9\" markerHeight=\"8\" \
 refX=\"8\" refY=\"4\" orient=\"auto\"><path class=\"heard-head\" d=\"M0 0.5L9 4L0 7.5z\"/></marker>
 <marker id=\"small\" markerUnits=\"userSpaceOnUse\" markerWidth=\"6\" markerHeight=\"5\" \
-refX=\"5\" refY=\"2.5\" orient=\"auto\"><path class=\"heard-head\" d=\"M0 0.5L6 2.5L0 4.5z\"/></marker>
+refX=\"5\" refY=\"2.5\" orient=\"auto\">\
+<path class=\"heard-head\" d=\"M0 0.5L6 2.5L0 4.5z\"/></marker>
 <marker id=\"late\" markerUnits=\"userSpaceOnUse\" markerWidth=\"9\" markerHeight=\"8\" \
 refX=\"8\" refY=\"4\" orient=\"auto\"><path class=\"late-head\" d=\"M0 0.5L9 4L0 7.5z\"/></marker>
 <marker id=\"open\" markerUnits=\"userSpaceOnUse\" markerWidth=\"9\" markerHeight=\"8\" \

@@ -12,7 +12,8 @@ use std::io::Write;
 /// The most characters of a title for which a picture is made wider.
 const MAX_HEADING: usize = 400;
 
-/// Writes the element. What stands later lies above what stands before it: rounds, arrows, steps.
+/// Writes the element. What stands later lies above what stands before it: rounds, arrows, steps,
+/// flags.
 pub(crate) fn write_svg<O: Write>(
     drawing: &Drawing,
     words: &Words<'_>,

@@ -89,11 +89,10 @@ fn write_band<O: Write>(
     let class = band_class(words, lane, band);
     writeln!(out, "<g data-band=\"{node} {round}\">")?;
     write_band_title(words, lane, band, out)?;
-    write!(
+    writeln!(
         out,
-        "<rect class=\"{class}\" x=\"{x}\" y=\"{top}\" width=\"{width}\" height=\"{height}\"/>"
-    )?;
-    write!(out, "</g>")
+        "<rect class=\"{class}\" x=\"{x}\" y=\"{top}\" width=\"{width}\" height=\"{height}\"/></g>"
+    )
 }
 
 /// Writes the number of a round into its band, and that of the node where its name may be out of

@@ -59,7 +59,7 @@ fn perform(
     doing::perform(journal, node, deed, out)
 }
 
-/// Makes room for events, and is asked again where there was none.
+/// Makes room for events, and is asked again if there was none.
 fn reserve(journal: &mut Journal<Known>, events: u32, out: &mut String) -> Result<(), Fault>
     ensures { journal.new ≡ journal.old }
 {

@@ -34,7 +34,7 @@ use test_kit::{Fault, texts};
 /// The room for answers, so that giving one takes no memory.
 const ROOM: usize = 65_536;
 
-/// The source in which each node tells what it has seen where the condition holds.
+/// The source in which each node tells what it has seen if the condition holds.
 fn gathering(alloc: Global, values: &str, condition: &str) -> Result<String, Fault> {
     Ok(format!(in alloc;
         "values {values} period 1 input x state seen: set = single(x) decide seen

@@ -220,7 +220,7 @@ static CASES: [Case; 6] = [
         }],
         counts: &[],
     },
-    // As many variables as names, where the lists differ in length.
+    // As many variables as names, if the lists differ in length.
     Case {
         name: "lengths",
         values: 2,

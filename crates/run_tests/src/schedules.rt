@@ -25,7 +25,7 @@ fn show(alloc: Global, schedule: &Schedule, out: &mut String) -> Result<(), Faul
     Ok(())
 }
 
-/// Why a text is refused; where memory is wanting the program gives up.
+/// Why a text is refused; if memory is wanting the program gives up.
 fn tell_fault(fault: ScheduleFault, out: &mut String) -> Result<(), Fault> {
     if fault == ScheduleFault::NoMemory {
         return Err(Fault::NoMemory);

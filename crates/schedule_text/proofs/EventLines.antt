@@ -20,7 +20,7 @@ pub few_digits : (n : ℕ) → IsSmall n → length (decimal n) ≤ 10
 few_digits n small = length-decimal-le 10 n (omega arith) (omega (arith, small))
     (omega (arith, small))
 
--- so many bytes more, where a number and a byte follow
+-- so many bytes more, if a number and a byte follow
 pub number_short : (text new : List ℕ) (n end : ℕ) → IsSmall n
     → new ≡ text ++ (decimal n ++ end ∷ []) → length new ≤ length text + 11
 number_short text new n end small e =

@@ -21,7 +21,7 @@ pub record Keeps (first text kept : List ℕ) (es : List Event) : Type 0 where
   pub utf8 : IsUtf8 kept
   pub small : All IsSmallEvent es
 
--- one line more, where some of those before may have been added to the text
+-- one line more, if some of those before may have been added to the text
 pub keeps_more : (first text kept text_now kept_now new : List ℕ) (es : List Event) (i : ℕ)
     (d e : Event) → i < length es → e ≡ get_or es i d → Keeps first text kept (take i es)
     → text_now ++ kept_now ≡ text ++ kept → IsUtf8 kept_now

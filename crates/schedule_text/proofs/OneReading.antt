@@ -25,7 +25,7 @@ use Rattle.schedule_text.specs.Readings.{MayStandAt, ReadOf, fewest_lines, line_
 use Rattle.schedule_text.proofs.Places.{sized_ok, sized_small, tells_one, tells_read}
 use Rattle.schedule_text.proofs.Sound.{zip_length}
 
--- where something is wrong, not all is good
+-- if something is wrong, not all is good
 bad_or_good : (kind : Kind) (ls : List (List ℕ)) (k : ℕ) → k < length ls → IsGood kind ls k
     → IsBad kind ls k → ⊥
 bad_or_good kind ls k lt good (inr ends) = absurd (omega (arith, lt, ends.0))
@@ -90,7 +90,7 @@ bad_and_large kind ls m n f g =
     (bad_or_good kind ls) (λ k lt. large_or_good kind ls k) m n f g in
     bad_or_large kind ls g.index (subst (λ k. IsBad kind ls k) same f.wrong) g.wrong
 
--- where a line counts, it stands at its place among those that do
+-- if a line counts, it stands at its place among those that do
 module _ (ls : List (List ℕ)) (j : ℕ) (lt : j < length ls) (c : counts (line_at ls j) ≡ true) where
   filtered : filter counts ls ≡ filter counts (take j ls)
       ++ line_at ls j ∷ filter counts (drop (j + 1) ls)

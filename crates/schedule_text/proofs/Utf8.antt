@@ -86,7 +86,7 @@ fault_behind a b front =
     ap utf8_error_len (ap (λ n. drop n (a ++ b)) (valid_behind a b front)
     ∙ drop_behind (utf8_valid_len b) a b)
 
--- bytes behind a text begin one exactly where all of them do
+-- bytes behind a text begin one exactly if all of them do
 pub begins_all : (a b : List ℕ) → IsUtf8 a → BeginsUtf8 b → BeginsUtf8 (a ++ b)
 begins_all a b front (inl u) = inl (IsUtf8-append a b front u)
 begins_all a b front (inr e) = inr (fault_behind a b front ∙ e)

@@ -12,7 +12,7 @@ use Rattle.std.specs.Char.{is_ascii_digit}
 use Rattle.std.specs.Str.Lines.{lines}
 use Rattle.step_machine.specs.declared.event.Event.{Event}
 
--- a number, where each above the largest counts as the next one
+-- a number, if each above the largest counts as the next one
 abbrev pub capped : ℕ → ℕ
 capped n = min n 4294967296
 
@@ -27,7 +27,7 @@ HasRest (Some rest) text =
     (numbers_in text ≡ option_map (λ vs. front_value text ∷ vs) (numbers_in rest.now))
     × (length rest.now < length text)
 
--- the number at the front, capped, with what follows; none where the first word is no number
+-- the number at the front, capped, with what follows; none if the first word is no number
 abbrev pub IsFront : Option Front → List ℕ → Type 0
 IsFront None text = numbers_in text ≡ None
 IsFront (Some f) text = (f.value ≡ capped (front_value text)) × HasRest f.rest text

@@ -24,7 +24,7 @@ use Rattle.slot_plans.specs.declared.kind.PlanKind.{PlanKind}
 abbrev pub EndsLine : List ℕ → Type 0
 EndsLine bytes = (bytes ≡ []) ⊎ ((line : List ℕ) × (bytes ≡ line ++ 10 ∷ []))
 
--- what the lines that come next say, where no line is at fault yet; else its fault
+-- what the lines that come next say, if no line is at fault yet; else its fault
 abbrev pub says : LineReader → Option ScheduleFault → List (List ℕ) → Answer
 says reader None ls = said_by kinds.Schedule reader ls
 says reader (Some e) ls = Err e
@@ -54,7 +54,7 @@ without_events r = record r { draft = record r.draft { events = [] } }
 abbrev pub HasNoEvents : (old new : Intake) → Type 0
 HasNoEvents old new = new ≡ record old { reader = without_events old.reader }
 
--- the setup and the plan of the header, where it is whole
+-- the setup and the plan of the header, if it is whole
 abbrev pub header_at : Stage → List ℕ → Option (Setup × PlanKind)
 header_at (Whole n t r p) vs =
     Some (record { nodes = n; faults = t; inputs = vs; rounds = r }, p)

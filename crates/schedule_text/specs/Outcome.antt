@@ -87,7 +87,7 @@ GivesOf kind show (Ok a) said = said ≡ Ok (show a)
 GivesOf kind show (Err fault.NoMemory) said = Unit {0}
 GivesOf kind show (Err e) said = said ≡ Err e
 
--- what was returned is the text's reading, where there was memory
+-- what was returned is the text's reading, if there was memory
 abbrev pub IsReadOf :
     {A : Type 0} → (kind : Kind) → (A → ReadOf kind) → List ℕ → Result A ScheduleFault → Type 0
 IsReadOf kind show text (Ok a) = IsReadingOf kind text (Ok (show a))
@@ -118,14 +118,14 @@ GivesThreads result said = GivesOf kinds.Threads threads_read result said
 abbrev pub GivesHeader : Result (Setup × PlanKind) ScheduleFault → AnswerOf kinds.Header → Type 0
 GivesHeader result said = GivesOf kinds.Header header_read result said
 
--- what was returned is the text's reading as a schedule, where there was memory
+-- what was returned is the text's reading as a schedule, if there was memory
 abbrev pub IsRead : List ℕ → Result Schedule ScheduleFault → Type 0
 IsRead text result = IsReadOf kinds.Schedule schedule_read text result
 
--- what was returned is the text's reading as a thread setup, where there was memory
+-- what was returned is the text's reading as a thread setup, if there was memory
 abbrev pub IsThreadsRead : List ℕ → Result ThreadSetup ScheduleFault → Type 0
 IsThreadsRead text result = IsReadOf kinds.Threads threads_read text result
 
--- what was returned is the text's reading as a header, where there was memory
+-- what was returned is the text's reading as a header, if there was memory
 abbrev pub IsHeaderRead : List ℕ → Result (Setup × PlanKind) ScheduleFault → Type 0
 IsHeaderRead text result = IsReadOf kinds.Header header_read text result

@@ -15,7 +15,7 @@ use Rattle.schedule_text.specs.declared.source.TextFault.{TextFault}
 use Rattle.slot_plans.specs.declared.kind.PlanKind.{PlanKind}
 use Rattle.step_machine.specs.declared.event.Event.{Event}
 
--- a reader: what is left in its source, where that says so, what it took in, how many bytes these
+-- a reader: what is left in its source, if that says so, what it took in, how many bytes these
 -- were, and whether the text has ended
 pub record Reading : Type 0 where
   pub left : Option (List ℕ)
@@ -37,7 +37,7 @@ abbrev pub behind : List Event → Answer → Answer
 behind before (Ok x) = Ok (x.0, x.1, before ++ x.2)
 behind before (Err e) = Err e
 
--- the setup and the plan are those of a header, where there is one
+-- the setup and the plan are those of a header, if there is one
 abbrev pub IsOf : Option (Setup × PlanKind) → Setup → PlanKind → Type 0
 IsOf None s k = ⊤
 IsOf (Some h) s k = (s ≡ h.0) × (k ≡ h.1)

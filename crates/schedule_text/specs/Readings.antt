@@ -87,8 +87,8 @@ ReadOf kind = Setup × PlanKind × Tail kind
 abbrev pub AnswerOf : Kind → Type 0
 AnswerOf kind = Result (ReadOf kind) ScheduleFault
 
--- the answer of reading a text as one of this kind, where there is memory: what it says, TooLong
--- where it is that, or else the first line at fault, with its number
+-- the answer of reading a text as one of this kind, if there is memory: what it says, TooLong
+-- if it is that, or else the first line at fault, with its number
 abbrev pub IsReadingOf : (kind : Kind) → List ℕ → AnswerOf kind → Type 0
 IsReadingOf kind text (Ok r) = SaysOf kind text r.0 r.1 r.2
 IsReadingOf kind text (Err fault.TooLong) = max_text < length text

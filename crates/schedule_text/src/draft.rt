@@ -73,7 +73,7 @@ impl Draft {
         if let Kind::Schedule = kind {
             if let Stage::Whole(..) = self.stage {
                 // Most lines are events, so these are read without a look for the line's end. Each
-                // kind is stored at a place of its own, where its bytes need no further test.
+                // kind is stored at a place of its own, if its bytes need no further test.
                 if let Some((node, rest)) = front_step(text) {
                     self.events.push(Event::Step(node))?;
                     return Ok(rest);
@@ -133,7 +133,7 @@ impl Draft {
         Ok(())
     }
 
-    /// The schedule, where the header is whole; else the fault at the line past the last.
+    /// The schedule, if the header is whole; else the fault at the line past the last.
     pub fn schedule(self, number: u64) -> Result<Schedule, ScheduleFault>
         ensures ended { Gives result
             (spec.answer_at_end kinds.Schedule number self.stage (state_of self)) }
@@ -153,7 +153,7 @@ impl Draft {
         })
     }
 
-    /// The thread setup, where the pace was read; else the fault at the line past the last.
+    /// The thread setup, if the pace was read; else the fault at the line past the last.
     pub fn threads(self, number: u64) -> Result<ThreadSetup, ScheduleFault>
         ensures ended { GivesThreads result
             (spec.answer_at_end kinds.Threads number self.stage (state_of self)) }
@@ -176,7 +176,7 @@ impl Draft {
         })
     }
 
-    /// The header so far, where it is whole.
+    /// The header so far, if it is whole.
     pub(crate) fn whole_header(&self, alloc: Global) -> Result<Option<(Setup, PlanKind)>, NoMemory>
         ensures { IfOk result (λ header. header ≡ header_in self.now) }
     {
@@ -189,7 +189,7 @@ impl Draft {
         }
     }
 
-    /// The header, where it is whole; else the fault at the line past the last.
+    /// The header, if it is whole; else the fault at the line past the last.
     pub fn header(self, number: u64) -> Result<(Setup, PlanKind), ScheduleFault>
         ensures ended { GivesHeader result
             (spec.answer_at_end kinds.Header number self.stage (state_of self)) }
@@ -212,7 +212,7 @@ fn setup_of(nodes: u32, faults: u32, inputs: Vec<u32>, rounds: u32) -> Setup
     }
 }
 
-/// The header that stands at this stage, where it is whole; else the fault at this line.
+/// The header that stands at this stage, if it is whole; else the fault at this line.
 fn header_of(
     stage: Stage,
     inputs: Vec<u32>,

@@ -7,7 +7,7 @@ use thiserror::Error;
 /// Why a text is no schedule; lines count from 1.
 #[derive(Clone, Copy, PartialEq, Eq, Debug, Error)]
 pub enum ScheduleFault {
-    /// The line has no form that may stand where it does. Where a text ends within its header, or a
+    /// The line has no form that may stand where it does. If a text ends within its header, or a
     /// thread setup before its pace, it is the number of the last line and one more.
     #[error("line {0} has no form that may stand there")]
     BadLine(u64),

@@ -17,7 +17,7 @@ const NODE_DIGITS: usize = 2;
 const LONGEST: usize = 8 + 2 * (NODE_DIGITS + 1) + ROUND_DIGITS + 1;
 
 /// The node of a first line that is a step and that LF ends, and what follows the line; `None`
-/// where the line is none, has a number of many digits or stands near the text's end.
+/// if the line is none, has a number of many digits or stands near the text's end.
 #[inline(always)]
 pub fn front_step(text: &[u8]) -> Option<(u32, &[u8])>
     ensures { IfSome result (λ r. IsFrontEvent text.now (Step r.0) r.1.now) }
@@ -81,7 +81,7 @@ pub fn first_line(text: &[u8]) -> (&[u8], &[u8])
     (without_return(&text[..end]), &text[end + 1..])
 }
 
-/// How many bytes come before the first LF, or all where there is none.
+/// How many bytes come before the first LF, or all if there is none.
 fn line_length(text: &[u8]) -> usize
     ensures value { result ≡ prefix_len (λ b. not (b == 10)) text.now }
     ensures within { result ≤ length text.now }

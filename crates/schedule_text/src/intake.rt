@@ -45,7 +45,7 @@ impl Intake {
         })
     }
 
-    /// Takes in the whole lines at the front of the bytes, where they're UTF-8. So many bytes were
+    /// Takes in the whole lines at the front of the bytes, if they're UTF-8. So many bytes were
     /// looked through already, and no line ends within these.
     pub(crate) fn take_lines(&mut self, alloc: Global, searched: usize) -> Result<(), NoMemory>
         requires searched { searched ≤ length self.old.bytes.items }
@@ -66,7 +66,7 @@ impl Intake {
         Ok(())
     }
 
-    /// Reads the lines of the first bytes, where none is at fault yet.
+    /// Reads the lines of the first bytes, if none is at fault yet.
     fn read(&mut self, alloc: Global, count: usize) -> Result<(), NoMemory>
         requires within { count ≤ length self.old.bytes.items }
         requires sized { self.old.reader.number + count ≤ max_text + 1 }
@@ -112,7 +112,7 @@ impl Intake {
         }
     }
 
-    /// The setup and the plan of the header, where that is whole.
+    /// The setup and the plan of the header, if that is whole.
     pub(crate) fn header(&self, alloc: Global) -> Result<Option<(Setup, PlanKind)>, NoMemory>
         ensures { IfOk result (λ header. header ≡ header_in self.now.reader.draft) }
     {
@@ -138,8 +138,8 @@ impl Intake {
     }
 }
 
-/// How many bytes the whole lines at the front take, where no line ends within the first `searched`
-/// bytes; `None` where they aren't UTF-8.
+/// How many bytes the whole lines at the front take, if no line ends within the first `searched`
+/// bytes; `None` if they aren't UTF-8.
 fn whole_lines(bytes: &[u8], searched: usize) -> Option<usize>
     requires { searched ≤ length bytes.now }
     ensures within { IfSome result (λ n. n ≤ length bytes.now) }
@@ -154,8 +154,8 @@ fn whole_lines(bytes: &[u8], searched: usize) -> Option<usize>
     }
 }
 
-/// How many bytes the whole lines at the front take, where no line ends within the first `searched`
-/// bytes; 0 where there is no whole line.
+/// How many bytes the whole lines at the front take, if no line ends within the first `searched`
+/// bytes; 0 if there is no whole line.
 fn lines_end(bytes: &[u8], searched: usize) -> usize
     requires { searched ≤ length bytes.now }
     ensures within { result ≤ length bytes.now }
@@ -170,7 +170,7 @@ fn lines_end(bytes: &[u8], searched: usize) -> usize
     searched + end
 }
 
-/// How many bytes come up to the last LF and with it, 0 where there is none.
+/// How many bytes come up to the last LF and with it, 0 if there is none.
 fn line_end(bytes: &[u8]) -> usize
     ensures within { result ≤ length bytes.now }
     ensures lines { EndsLine (take result bytes.now) }

@@ -6,7 +6,7 @@ ghost use Rattle.schedule_text.specs.Fronts.{IsNumberBefore};
 use crate::number::number_before;
 use std::marker::Model;
 
-/// How many digits the number of a round has at most where it is read here.
+/// How many digits the number of a round has at most if it is read here.
 pub const ROUND_DIGITS: usize = 8;
 
 /// How many bytes a round that is kept has at most, with its LF.
@@ -58,7 +58,7 @@ impl LastRound {
         self.read_anew(word, text)
     }
 
-    /// The same where the digits have to be read; the round is kept where it is short.
+    /// The same if the digits have to be read; the round is kept if it is short.
     #[inline(never)]
     fn read_anew<'a>(&mut self, word: u64, text: &'a [u8]) -> Option<(u32, &'a [u8])>
         requires long { 8 < length text.now }

@@ -126,7 +126,7 @@ fn step_of(text: &[u8]) -> Result<Event, LineFault>
     Ok(Event::Step(one_number(text)?))
 }
 
-/// Three numbers that a text is, and a fourth where it has one, each above the largest counting as
+/// Three numbers that a text is, and a fourth if it has one, each above the largest counting as
 /// the next one.
 fn three_or_four(text: &[u8]) -> Option<(u64, u64, u64, Option<u64>)>
     ensures { result ≡ three_or_four (numbers_in text.now) }
@@ -159,7 +159,7 @@ fn sized_name(from: u64, to: u64, round: u64, copy: u64) -> Result<Name, LineFau
     })
 }
 
-/// The name that a text `J I R` or `J I R Y` is; the copy is 0 where it's left out.
+/// The name that a text `J I R` or `J I R Y` is; the copy is 0 if it's left out.
 fn name_of(text: &[u8]) -> Result<Name, LineFault>
     ensures { result ≡ spec.name_of (numbers_in text.now) }
 {

@@ -15,7 +15,7 @@ pub struct Front<'a> {
     pub rest: Option<&'a [u8]>,
 }
 
-/// How many digits a text begins with, and their value, where each above the largest counts as the
+/// How many digits a text begins with, and their value, if each above the largest counts as the
 /// next one.
 fn front_digits(text: &[u8]) -> (usize, u64)
     ensures count { result.0 ≡ prefix_len is_ascii_digit text.now }
@@ -32,7 +32,7 @@ fn front_digits(text: &[u8]) -> (usize, u64)
     (text.len(), value)
 }
 
-/// The number that a text begins with; `None` where its first word is no number.
+/// The number that a text begins with; `None` if its first word is no number.
 pub fn first_number(text: &[u8]) -> Option<Front<'_>>
     ensures { IsFront result text.now }
 {

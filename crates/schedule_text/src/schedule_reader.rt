@@ -76,7 +76,7 @@ impl<S: TextSource + Drop> ScheduleReader<S> {
         &self.intake.reader.draft.events
     }
 
-    /// Reads the next events, of which there may be none; `false` where the text had already ended.
+    /// Reads the next events, of which there may be none; `false` if the text had already ended.
     /// A reader that has refused its text is of no use.
     pub fn advance(&mut self, alloc: Global) -> Result<bool, TextFault>
         ensures sinks { result ≡ Ok true → ahead self.new < ahead self.old }
@@ -101,7 +101,7 @@ impl<S: TextSource + Drop> ScheduleReader<S> {
         Ok(())
     }
 
-    /// Reads the next piece, and where the text ends in it, what is left of the text.
+    /// Reads the next piece, and if the text ends in it, what is left of the text.
     fn read_piece(&mut self, alloc: Global) -> Result<(), TextFault>
         requires { self.old.is_ended ≡ false }
         ensures sinks { OnOk result (ahead self.new < ahead self.old) }

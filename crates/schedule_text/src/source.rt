@@ -17,10 +17,10 @@ pub enum SourceFault {
 
 /// The bytes of a text, which are read piece by piece.
 pub trait TextSource {
-    // The bytes that are left, where they are known.
+    // The bytes that are left, if they are known.
     ghost left: { Self → Option (List ℕ) } = { λ _. None };
 
-    /// Adds the next bytes to a list: so many, or all that are left where these are fewer.
+    /// Adds the next bytes to a list: so many, or all that are left if these are fewer.
     fn add_next(&mut self, most: usize, bytes: &mut Vec<u8>) -> Result<(), SourceFault>
         ensures grows { OnOk result (length bytes.old.items ≤ length bytes.new.items) }
         ensures added { OnOk result (IfSome (left self.old)

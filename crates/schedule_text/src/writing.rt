@@ -22,7 +22,7 @@ use step_machine::{Event, Name};
 use stored_events::StoredEvent;
 
 /// How many bytes of room an event's line is given. It has 52 at most, but its last number is
-/// written only where there is room for 20 digits.
+/// written only if there is room for 20 digits.
 const LINE: usize = 64;
 
 /// The text of a schedule, with no comments, however long it grows. Where the setup has an input
@@ -90,7 +90,7 @@ fn write_stored_events(text: &mut String, events: &[StoredEvent]) -> Result<(), 
     push_lines(&lines, text)
 }
 
-/// Makes room for a line: where too little is left, the lines so far are added to the text.
+/// Makes room for a line: if too little is left, the lines so far are added to the text.
 #[inline]
 fn make_room(lines: &mut ShortText, text: &mut String) -> Result<(), NoMemory>
     requires { IsUtf8 lines.old }

@@ -5,7 +5,7 @@ use Rattle.std.specs.Prelude.{ℕ}
 abbrev pub max_nodes : ℕ
 max_nodes = 16
 
--- the bound Δ on the delay, in steps, where it is known
+-- the bound Δ on the delay, in steps, if it is known
 abbrev pub max_delta : ℕ
 max_delta = 1024
 

@@ -29,7 +29,7 @@ pub record IsClear (receives start : ℕ → ℕ) (delta gst r : ℕ) : Type 0 w
   pub stable : gst ≤ start r
   pub lasts : delta ≤ receives r
 
--- the first clear round, or none where no round is clear
+-- the first clear round, or none if no round is clear
 abbrev pub IsClearRound : (ℕ → ℕ) → (ℕ → ℕ) → ℕ → ℕ → Option ℕ → Type 0
 IsClearRound receives start delta gst (Some r) =
     IsRound r × IsClear receives start delta gst r

@@ -10,7 +10,7 @@ pub record IsSendSlot (nodes : ℕ) (start : ℕ → ℕ) (step round to : ℕ) 
   pub to_node : to < nodes
   pub place : step ≡ start round + to
 
--- the step is one of the round's receive steps, and told to be the last exactly where it is
+-- the step is one of the round's receive steps, and told to be the last exactly if it is
 pub record IsReceiveSlot (nodes : ℕ) (start : ℕ → ℕ) (step round : ℕ) (last : Bool) : Type 0 where
   pub of_round : IsRound round
   pub after_sends : start round + nodes ≤ step

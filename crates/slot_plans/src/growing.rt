@@ -15,7 +15,7 @@ pub struct Growing {
 impl Growing {
     ghost use Rattle.slot_plans.specs.Growing.{growing_nodes};
 
-    /// The plan for so many nodes; `None` where that is outside the limits.
+    /// The plan for so many nodes; `None` if that is outside the limits.
     pub fn new(nodes: u32) -> Option<Growing>
         ensures within_limits { IsSome result ↔ IsNodeCount nodes }
         ensures made { IfSome result (λ p. growing_nodes p ≡ nodes) }

@@ -17,7 +17,7 @@ pub struct Known {
 impl Known {
     ghost use Rattle.slot_plans.specs.Known.{known_nodes, known_delta};
 
-    /// The plan for so many nodes and this bound; `None` where a number is outside its limits.
+    /// The plan for so many nodes and this bound; `None` if a number is outside its limits.
     pub fn new(nodes: u32, delta: u32) -> Option<Known>
         ensures within_limits { IsSome result ↔ (IsNodeCount nodes × IsDelta delta) }
         ensures made { IfSome result (λ p. (known_nodes p ≡ nodes) × (known_delta p ≡ delta)) }

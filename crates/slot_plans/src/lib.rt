@@ -2,7 +2,7 @@
 //!
 //! Dwork, Lynch and Stockmeyer run a round of the basic model as a row of steps of a process: first
 //! one send step for each process, and then receive steps. There are Δ receive steps in each round
-//! where the bound Δ on the delay is known, and as many as the round's number where it is not.
+//! if the bound Δ on the delay is known, and as many as the round's number if it is not.
 #![tactic(auto)]
 
 mod growing;

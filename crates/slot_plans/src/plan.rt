@@ -62,7 +62,7 @@ pub trait Plan: Copy + PartialEq + Eq + Drop {
     }
 
     /// The first round that starts at the step `gst` or later and has `delta` receive steps: in it
-    /// each message arrives, where messages are delayed by at most `delta` steps from `gst` on.
+    /// each message arrives, if messages are delayed by at most `delta` steps from `gst` on.
     final fn clear_round(&self, delta: u32, gst: u32) -> Option<u32>
         ensures { IsClearRound (receives self.now) (start self.now) delta gst result }
     {

@@ -5,6 +5,6 @@
 pub enum Slot {
     /// The step in which a node sends its message of the round to the node `to`, counted from 0.
     Send { round: u32, to: u32 },
-    /// A step in which a node receives; `last` where the round ends with it.
+    /// A step in which a node receives; `last` if the round ends with it.
     Receive { round: u32, last: bool },
 }

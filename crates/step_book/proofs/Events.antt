@@ -511,7 +511,7 @@ module _ {start : ℕ → ℕ} {nodes : ℕ} {v : Log} {counts : List ℕ} {tabl
 
   -- ---- what the tests say
 
-  -- before the end of the last round a step is a receive exactly where the sends are over
+  -- before the end of the last round a step is a receive exactly if the sends are over
   pub receive_test : (k r low count : ℕ) → k < v.setup.nodes → (IsDue start v k → ⊥)
       → r ≡ round_of v k → r ≤ v.setup.rounds → low ≡ start r + v.setup.nodes → count ≡ count_of v k
       → is_receive (world_of start v) (count_of v k) ≡ leb low count

@@ -285,11 +285,11 @@ some_of a (suc (suc zero)) l h = or_third (a 0) (a 1) (a 2) (a 3) h
 some_of a (suc (suc (suc zero))) l h = or_fourth (a 0) (a 1) (a 2) (a 3) h
 some_of a (suc (suc (suc (suc k)))) l h = absurd (omega arith)
 
--- it holds of none where it holds of no copy
+-- it holds of none if it holds of no copy
 pub some_none : (a : ℕ → Bool) → ((k : ℕ) → k ≤ 3 → a k ≡ false) → some_copy a ≡ false
 some_none a h = rw (h 0 (omega arith), h 1 (omega arith), h 2 (omega arith), h 3 (omega arith)) refl
 
--- where it holds of none, it holds of no copy
+-- if it holds of none, it holds of no copy
 pub none_of : (a : ℕ → Bool) (k : ℕ) → k ≤ 3 → some_copy a ≡ false → a k ≡ false
 none_of a k l h = by (cases_Bool (a k))
   where

@@ -345,7 +345,7 @@ module _ (w : World) (t : List Event) (i q j : ℕ) (fs : List Frame)
       ap (λ (n : Name). is_buffered w t n) (sym name)
       ∙ counted_on _ _ (once f.name is.0.to (omega arith) (omega arith)) some
 
-  -- where no copy waits, none comes
+  -- if no copy waits, none comes
   none_comes : waits_for w t i (suc q) j ≡ false → (o : Option Frame) → frame_from (suc q) j fs ≡ o
       → o ≡ None
   none_comes off None e = refl
@@ -364,7 +364,7 @@ module _ (w : World) (t : List Event) (i q j : ℕ) (fs : List Frame)
   silence_comes none None e = refl
   silence_comes none (Some f) e = absurd (said_off _ _ none (waits_there f e))
 
-  -- where one waits, its frame does
+  -- if one waits, its frame does
   one_comes : (k : ℕ) → is_waiting (fate w t (copy_to j i (suc q) k)) ≡ true → (m : List Value)
       → message w t (sent_name j i (suc q)) ≡ Some m → (o : Option Frame)
       → frame_from (suc q) j fs ≡ o

@@ -24,7 +24,7 @@ use Rattle.step_book.proofs.Names.{own_name}
 use Rattle.step_book.proofs.Places.{steps_more}
 use Rattle.step_book.proofs.Plans.{start_le}
 
--- an entry of an inbox is the same where it's omitted in both, or the messages are the same
+-- an entry of an inbox is the same if it's omitted in both, or the messages are the same
 heard_same : (c d : Bool) (j : ℕ) (m k : Option (List Value)) → d ≡ c → (c ≡ true → m ≡ k)
     → ◌≡◌ {A = Option Received} (if not d then None else received j m)
     (if not c then None else received j k)

@@ -101,7 +101,7 @@ pub none_left : {A B : Type 0} (piece : List A) (full : List (Vec A B)) (last : 
 none_left piece full last a b c =
     ap (λ xs. left xs full last) a ∙ ap (λ f. joined f last) b ∙ c
 
--- where none is lent, the place is past the end
+-- if none is lent, the place is past the end
 pub past_all : {A : Type 0} (xs : List A) (k : ℕ) → slice_get xs k ≡ None → length xs ≤ k
 past_all [] k e = omega arith
 past_all (x ∷ xs) zero e = absurd (none-some x (sym e))

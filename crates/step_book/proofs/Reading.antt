@@ -128,7 +128,7 @@ module _ {start : ℕ → ℕ} {nodes : ℕ} {v : Log} {counts : List ℕ} {tabl
       ∙ ap (λ m. ((n.round - 1) * m + n.from) * m + n.to) (sym (nodes_are start v)) in
       ap (read_at Unsent tables n.copy) same ∙ h.book.mark n (named start v n a)
 
-  -- where a copy number has no table, none of its copies was made
+  -- if a copy number has no table, none of its copies was made
   pub none_made : (n : Name) (k : ℕ) → IsName v.setup n → n.copy ≡ k → (k < length tables → ⊥)
       → mark_in start v n ≡ Unsent
   none_made n k a e none = by (cases_lt k (length tables))

@@ -212,7 +212,7 @@ module _ (w : World) (p : IsPlan w) (e : Event) (t : List Event) where
     place = sym (serial_kept w n e t off) ∙ s.place;
   }
 
-  -- where nothing is sent, no slot is of what was sent
+  -- if nothing is sent, no slot is of what was sent
   quiet_slot : (n : Name) → IsNameOf (nodes_of w) w.rounds n → n.copy ≡ 0 → sends w e t ≡ false
       → IsSent w (e ∷ t) n → (is_slot w n e t ≡ true) ⊎ (is_slot w n e t ≡ false)
       → is_slot w n e t ≡ false
@@ -295,7 +295,7 @@ module _ (w : World) (p : IsPlan w) (n : Name) (t : List Event) (names : List Na
       rw append-nil (quiet w p (Step n.from) t names none a)
   spoken_by (Some m) e = more (ap is_some (sym e))
 
-  -- a slot adds its message, or nothing where there is silence
+  -- a slot adds its message, or nothing if there is silence
   pub spoken_sent : AreSent w (Step n.from ∷ t) (names ++ arrival n (spoken (message w t n)))
   spoken_sent = spoken_by (message w t n) refl
 

@@ -50,7 +50,7 @@ marked w k (Some m) Lost = mark.Lost
 unfoldable pub mark_of : World → List Event → Name → Mark
 mark_of w t n = marked w n.copy (message w t n) (fate w t n)
 
--- what a release adds to its receiver's buffer: the copy, where it was in flight
+-- what a release adds to its receiver's buffer: the copy, if it was in flight
 abbrev pub arrival : Name → Mark → List Name
 arrival n mark.Flying = n ∷ []
 arrival n mark.Unsent = []

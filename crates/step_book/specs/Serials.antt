@@ -16,7 +16,7 @@ use Rattle.step_machine.specs.declared.event.Name.{Name}
 abbrev pub sends_in : World → ℕ → ℕ → Bool
 sends_in w r x = nat_le (w.start r) x && nat_lt x (w.start r + nodes_of w)
 
--- the name of what node i sends at its step number x, where that is a send of one of the first
+-- the name of what node i sends at its step number x, if that is a send of one of the first
 -- rounds
 abbrev pub slot_by : World → ℕ → ℕ → ℕ → Option Name
 slot_by w i x zero = None

@@ -19,7 +19,7 @@ pub record Tag : Type 0 where
 abbrev pub tag_of : Frame → Tag
 tag_of f = record { name = original f.name; state = f.state }
 
--- the tag of a message that a node had for another, none where it had none
+-- the tag of a message that a node had for another, none if it had none
 abbrev pub tag_by : Option (List Value) → Name → List Value → Option Tag
 tag_by None n s = None
 tag_by (Some m) n s = Some (record { name = n; state = s })
@@ -28,7 +28,7 @@ tag_by (Some m) n s = Some (record { name = n; state = s })
 abbrev pub sent_name : ℕ → ℕ → ℕ → Name
 sent_name j i r = record { from = j; to = i; round = r; copy = 0 }
 
--- the tag of what was carried from j to i in round q + 1, none where nothing was
+-- the tag of what was carried from j to i in round q + 1, none if nothing was
 abbrev pub heard_from : World → List Event → ℕ → ℕ → ℕ → Option Tag
 heard_from w t i q j =
     if carried w t i (suc q) j then tag_by (message w t (sent_name j i (suc q)))

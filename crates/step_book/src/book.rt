@@ -1,16 +1,16 @@
 //! What a run has recorded, by the names of its messages.
-ghost use Rattle.std.specs.Prelude.{◌≡◌, ◌+◌, ◌-◌, ◌*◌, ◌^◌, ◌<◌, ◌≤◌, ◌++◌, ◌↔◌, [], IfErr, IfOk};
+ghost use Rattle.std.specs.Prelude.{◌≡◌, ◌+◌, ◌-◌, ◌*◌, ◌^◌, ◌<◌, ◌≤◌, ◌↔◌, [], IfErr, IfOk};
 ghost use Rattle.std.specs.Prelude.{IfSome, IsTrue, MatchOption, None, OnErr, OnOk};
 ghost use Rattle.round_meaning.specs.Rounds.{algorithm_of};
 ghost use Rattle.round_meaning.specs.Setups.{IsLawful};
-ghost use Rattle.step_machine.specs.Sealed.{IsPrepared, original};
+ghost use Rattle.step_machine.specs.Sealed.{IsPrepared};
 ghost use Rattle.step_book.specs.Agreed.{JournalAgrees, KeepsClosed};
 ghost use Rattle.step_book.specs.Agreement.{IsBuffer, row};
 ghost use Rattle.step_book.specs.Causes.{IdleCause};
 ghost use Rattle.step_book.specs.Causes.{IsReceiveFit, IsSendFit, ReceiveCause, SendCause};
 ghost use Rattle.step_book.specs.Flight.{IsFlight, IsFlightBefore};
-ghost use Rattle.step_book.specs.History.{answers_of, arrival, copied, counted, dropped};
-ghost use Rattle.step_book.specs.History.{handed_of, let_go, spoken};
+ghost use Rattle.step_book.specs.History.{answers_of, copied, counted};
+ghost use Rattle.step_book.specs.History.{handed_of, spoken};
 ghost use Rattle.step_book.specs.Log.{CanCopy, HasNoCopy, IsDue, IsFaithful, IsFlying, IsLeastCopy};
 ghost use Rattle.step_book.specs.Log.{HasBook, IsReceive, SameMarks};
 ghost use Rattle.step_book.specs.Log.{SameMarksBut, SameWaiting, SameWaitingBut, count_of};
@@ -24,12 +24,13 @@ ghost use Rattle.step_book.specs.declared.mark.Mark.TheVariants.{Unsent};
 ghost use Rattle.step_machine.specs.declared.event.Name.{Name as OneName};
 
 mod closing;
+mod network;
 
 use crate::fault::{IdleFault, ReceiveFault, SendFault};
 use crate::mailbox::Mailbox;
 use crate::mark::Mark;
 use crate::marks::Marks;
-use crate::notes::{note_answer, note_receive, note_release, note_send, note_step};
+use crate::notes::{note_receive, note_send, note_step};
 use crate::opening::{first_rows, no_mail, no_steps};
 use round_check::Checked;
 use round_lang::NoMemory;
@@ -386,7 +387,7 @@ impl<P: Plan> Book<P> {
         self.count_of(node).min(self.start(self.setup.rounds + 1))
     }
 
-    /// The message for which a step of a node, from 0, is the slot; `None` where that step is a
+    /// The message for which a step of a node, from 0, is the slot; `None` if that step is a
     /// receive, or past the last round.
     pub fn message_at(&self, node: u32, step: u64) -> Option<Name>
         requires { node < self.now.log.setup.nodes }
@@ -433,7 +434,7 @@ impl<P: Plan> Book<P> {
         self.start(round) + u64::from(self.setup.nodes) <= self.count_of(node)
     }
 
-    /// Why a send would be refused, where it would be for another cause than memory.
+    /// Why a send would be refused, if it would be for another cause than memory.
     pub fn refuses_send(&self, prepared: &Prepared) -> Option<SendFault>
         requires { IsName self.now.log.setup prepared.now.name }
         ensures { MatchOption result
@@ -514,7 +515,7 @@ impl<P: Plan> Book<P> {
         Ok(())
     }
 
-    /// Why a receive would be refused, where it would be for another cause than memory.
+    /// Why a receive would be refused, if it would be for another cause than memory.
     pub fn refuses_receive(&self, node: u32) -> Option<ReceiveFault>
         requires { node < self.now.log.setup.nodes }
         ensures { MatchOption result
@@ -553,104 +554,6 @@ impl<P: Plan> Book<P> {
             node,
         )?;
         Ok(())
-    }
-
-    /// A release by the network: true where a copy went from flight to those that wait.
-    #[inline(always)]
-    pub fn release(&mut self, name: Name) -> Result<bool, NoMemory>
-        requires { IsName self.old.log.setup name }
-        ensures ok { OnOk result
-            (self.new ≡ record self.old { log = happened self.old.log (Event.Release name) }) }
-        ensures err { OnErr result (self.new ≡ self.old) }
-        ensures moved { IfOk result (λ moved. IsTrue moved
-            ↔ IsFlying (P.start self.old.plan) self.old.log name) }
-        ensures released { OnOk result (mark_in (P.start self.old.plan) self.new.log name
-            ≡ let_go (counted (world_of (P.start self.old.plan) self.old.log)
-            (count_of self.old.log name.to)) (mark_in (P.start self.old.plan) self.old.log name)) }
-        ensures marks { OnOk result
-            (SameMarksBut (P.start self.old.plan) name self.old.log self.new.log) }
-        ensures arrived { OnOk result (waiting_in (P.start self.old.plan) self.new.log name.to
-            ≡ waiting_in (P.start self.old.plan) self.old.log name.to
-            ++ arrival name (mark_in (P.start self.old.plan) self.old.log name)) }
-        ensures waiting { OnOk result
-            (SameWaitingBut (P.start self.old.plan) name.to self.old.log self.new.log) }
-        ensures kept { OnOk result (KeepsClosed (P.start self.old.plan) self.old.log self.new.log) }
-    {
-        let place = self.place(name);
-        if self.is_flying(name) {
-            let mark = Mark::Released(self.counted(name.to));
-            note_release(
-                &mut self.trace,
-                &mut self.answers,
-                &mut self.mails[name.to as usize],
-                name,
-            )?;
-            self.marks.put(name.copy, place, mark);
-            return Ok(true);
-        }
-        note_answer(
-            &mut self.trace,
-            &mut self.answers,
-            Event::Release(name),
-            false,
-        )?;
-        Ok(false)
-    }
-
-    /// A drop by the network: true where a copy was in flight; it's lost.
-    pub fn drop_copy(&mut self, name: Name) -> Result<bool, NoMemory>
-        requires { IsName self.old.log.setup name }
-        ensures ok { OnOk result
-            (self.new ≡ record self.old { log = happened self.old.log (Event.Drop name) }) }
-        ensures err { OnErr result (self.new ≡ self.old) }
-        ensures lost { IfOk result (λ lost. IsTrue lost
-            ↔ IsFlying (P.start self.old.plan) self.old.log name) }
-        ensures dropped { OnOk result (mark_in (P.start self.old.plan) self.new.log name
-            ≡ dropped (mark_in (P.start self.old.plan) self.old.log name)) }
-        ensures marks { OnOk result
-            (SameMarksBut (P.start self.old.plan) name self.old.log self.new.log) }
-        ensures waiting { OnOk result
-            (SameWaiting (P.start self.old.plan) self.old.log self.new.log) }
-        ensures kept { OnOk result (KeepsClosed (P.start self.old.plan) self.old.log self.new.log) }
-    {
-        let place = self.place(name);
-        if self.is_flying(name) {
-            note_answer(&mut self.trace, &mut self.answers, Event::Drop(name), true)?;
-            self.marks.put(name.copy, place, Mark::Lost);
-            return Ok(true);
-        }
-        note_answer(&mut self.trace, &mut self.answers, Event::Drop(name), false)?;
-        Ok(false)
-    }
-
-    /// A copy by the network: true where copy 0 was in flight and this one, 1 to 3, was never made;
-    /// it's in flight.
-    pub fn make_copy(&mut self, name: Name) -> Result<bool, NoMemory>
-        requires name { IsName self.old.log.setup name }
-        requires other { 0 < name.copy }
-        ensures ok { OnOk result
-            (self.new ≡ record self.old { log = happened self.old.log (Event.Copy name) }) }
-        ensures err { OnErr result (self.new ≡ self.old) }
-        ensures made { IfOk result (λ made. IsTrue made
-            ↔ CanCopy (P.start self.old.plan) self.old.log name) }
-        ensures copied { OnOk result (mark_in (P.start self.old.plan) self.new.log name
-            ≡ copied (mark_in (P.start self.old.plan) self.old.log (original name))
-            (mark_in (P.start self.old.plan) self.old.log name)) }
-        ensures marks { OnOk result
-            (SameMarksBut (P.start self.old.plan) name self.old.log self.new.log) }
-        ensures waiting { OnOk result
-            (SameWaiting (P.start self.old.plan) self.old.log self.new.log) }
-        ensures kept { OnOk result (KeepsClosed (P.start self.old.plan) self.old.log self.new.log) }
-    {
-        let place = self.place(name);
-        if self.can_copy(name) {
-            self.marks.reserve(name.copy, place)?;
-            note_answer(&mut self.trace, &mut self.answers, Event::Copy(name), true)?;
-            self.marks.put(name.copy, place, Mark::Flying);
-            return Ok(true);
-        }
-        note_answer(&mut self.trace, &mut self.answers, Event::Copy(name), false)?;
-        Ok(false)
     }
 
     /// A step after the last round.

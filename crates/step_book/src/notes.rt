@@ -42,7 +42,7 @@ pub(crate) fn note_step(
     Ok(())
 }
 
-/// A send step, with the mark of its message, which is one more sent where it flies.
+/// A send step, with the mark of its message, which is one more sent if it flies.
 #[inline(always)]
 pub(crate) fn note_send(
     trace: &mut Vec<StoredEvent>,

@@ -57,7 +57,7 @@ impl RoundFrames {
     }
 
     /// Makes room for a frame at a place; the first time, for one of each node, by the spare places
-    /// where there are some.
+    /// if there are some.
     #[inline(always)]
     pub(crate) fn reserve(
         &mut self,

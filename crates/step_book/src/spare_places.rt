@@ -5,7 +5,7 @@ use std::alloc::Global;
 use std::mem;
 use step_machine::FramePlace;
 
-/// Places without frames, kept for the next round of a node that begins: where its rounds follow
+/// Places without frames, kept for the next round of a node that begins: if its rounds follow
 /// each other, none takes memory anew.
 #[derive(Drop)]
 pub(crate) struct SparePlaces {

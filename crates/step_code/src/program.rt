@@ -136,7 +136,7 @@ impl StepProgram {
         Some(Part { block, code, free })
     }
 
-    /// The code of a round, none where the round has no block.
+    /// The code of a round, none if the round has no block.
     pub fn of_round(&self, round: u32) -> Option<RoundCode<'_>>
         ensures some { IfSome result (λ code. code
             ≡ record { program = self.now; round = round }) }

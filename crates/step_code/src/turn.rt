@@ -48,7 +48,7 @@ impl StepProgram {
         )
     }
 
-    /// What node `me` in a state sends to `dest` in a round, none where it's silent.
+    /// What node `me` in a state sends to `dest` in a round, none if it's silent.
     pub fn send(
         &self,
         alloc: Global,

@@ -785,7 +785,7 @@ run_spells {start} {v} {bs} f k b frame l h said =
     (subst (IsOfRun v.program v.setup) (sym h) (f.runs k b (let s = f.sized in omega arith)))
     said
 
--- also where room was made in it
+-- also if room was made in it
 pub run_honest_kept : {start : ℕ → ℕ} {v : Log} {bs : List BufferView} → Fits start v bs
     → (k : ℕ) (b0 b1 b2 : BufferView) (frame : Frame)
     → k < v.setup.nodes → b0 ≡ get_or bs k b0 → IsSameRun b0 b1 → b2 ≡ get_or (set bs k b1) k b2

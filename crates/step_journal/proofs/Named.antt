@@ -172,7 +172,7 @@ named_is : (v : Log) (i k r j : ℕ) → i < v.setup.nodes → k ≤ 3 → 0 < r
 named_is v i k r j to copy first last from =
     record { from = from; to = to; first = first; last = last; copy = copy }
 
--- where a copy number has neither marks nor places, nothing of it is to stand, and nothing does
+-- if a copy number has neither marks nor places, nothing of it is to stand, and nothing does
 pub flies_none : (start : ℕ → ℕ) (v : Log) (b : BufferView) (i k first : ℕ) → i < v.setup.nodes
     → k ≤ 3 → first ≡ k * v.setup.nodes
     → ((n : Name) → IsName v.setup n → n.copy ≡ k → mark_in start v n ≡ Unsent)
@@ -357,7 +357,7 @@ named_done rows fs ns n all gone h =
     let there = h.there in
     named_all rows fs ns n (omega arith) (omega arith) h.named
 
--- where frames have all names, there is one for each name, and none behind them
+-- if frames have all names, there is one for each name, and none behind them
 pub named_there : (rows : List Row) (fs : List Frame) (ns : List Name) (n : ℕ) → n < length ns
     → slice_get fs n ≡ None → AreNamed rows fs ns → ⊥
 named_there rows fs ns n within gone h =

@@ -38,7 +38,7 @@ pub record AreEmpty (p : ProgramTree) (s : Setup) (count : ℕ) (bs : List Buffe
   pub runs : All (IsOfRun p s) bs
   pub each : All (λ b. (b.flying ≡ []) × (b.waiting ≡ [])) bs
 
--- a frame is there exactly where the mark says that it's in flight
+-- a frame is there exactly if the mark says that it's in flight
 abbrev pub Flies : Algorithm → List Row → Name → Mark → Option Frame → Type 0
 Flies a rows n Flying o = IsSomeAnd o (λ f. (f.name ≡ n) × IsGenuine a rows f)
 Flies a rows n Unsent o = o ≡ None

@@ -22,7 +22,7 @@ pub record AreNamed (rows : List Row) (frames : List Frame) (ns : List Name) : T
   pub names : names_in frames ≡ ns
   pub recorded : All (IsRecorded rows) frames
 
--- there is a frame of this name just where the mark says that it's in flight
+-- there is a frame of this name just if the mark says that it's in flight
 pub record HoldsAt (rows : List Row) (n : Name) (m : Mark) (o : Option Frame) : Type 0 where
   pub flies : m ≡ Flying → IsSomeAnd o (λ f. (f.name ≡ n) × IsRecorded rows f)
   pub stays : (m ≡ Flying → ⊥) → o ≡ None

@@ -127,7 +127,7 @@ fn flies_as<P: Plan>(book: &Book<P>, buffer: &Buffer, node: u32, copy: u32) -> b
     true
 }
 
-/// Whether a buffer has a frame of this name, of its sender's recorded state, just where the book
+/// Whether a buffer has a frame of this name, of its sender's recorded state, just if the book
 /// says that it's in flight.
 fn holds<P: Plan>(book: &Book<P>, buffer: &Buffer, name: Name) -> bool
     requires { IsName book.now.log.setup name }

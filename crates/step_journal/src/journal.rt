@@ -310,7 +310,7 @@ impl<P: Plan> Journal<P> {
         Ok(Took { frames })
     }
 
-    /// A release: true where a copy went from flight to its buffer.
+    /// A release: true if a copy went from flight to its buffer.
     #[inline(always)]
     pub fn release(&mut self, name: Name) -> Result<bool, NoMemory>
         requires { IsName self.old.log.setup name }
@@ -343,7 +343,7 @@ impl<P: Plan> Journal<P> {
         Ok(false)
     }
 
-    /// A drop: true where a copy was in flight; its frame is gone.
+    /// A drop: true if a copy was in flight; its frame is gone.
     pub fn drop_frame(&mut self, name: Name) -> Result<bool, NoMemory>
         requires { IsName self.old.log.setup name }
         ensures ok { OnOk result
@@ -369,7 +369,7 @@ impl<P: Plan> Journal<P> {
         Ok(false)
     }
 
-    /// A copy: true where copy 0 was in flight and this one, 1 to 3, was never made; its frame, the
+    /// A copy: true if copy 0 was in flight and this one, 1 to 3, was never made; its frame, the
     /// same message, is in flight.
     pub fn copy_frame(&mut self, name: Name) -> Result<bool, NoMemory>
         requires name { IsName self.old.log.setup name }
@@ -404,7 +404,7 @@ impl<P: Plan> Journal<P> {
         Ok(false)
     }
 
-    /// The frame of a copy, where copy 0 is in flight.
+    /// The frame of a copy, if copy 0 is in flight.
     fn copy_of(&self, name: Name) -> Result<Option<Sealed>, NoMemory>
         requires { IsName self.now.log.setup name }
         ensures there { IfOk result (λ o. IsSome o

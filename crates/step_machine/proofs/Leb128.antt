@@ -8,7 +8,7 @@ use Rattle.std.proofs.lemmas.List.{append-nil}
 use Rattle.std.proofs.Math.Nat.{mul-le-mul_left, mod-eq_of_lt}
 use Rattle.step_machine.specs.StoredStates.{words_from, words_in, IsWhole}
 
--- a byte that isn't the last one of its number, where that stays below 2 ^ 64
+-- a byte that isn't the last one of its number, if that stays below 2 ^ 64
 read-more : (weight value byte : ℕ) (more : List ℕ) → 128 ≤ byte → weight * 128 < 2 ^ 64
     → value + weight * (byte - 128) < 2 ^ 64
     → words_from weight value (byte ∷ more) ≡ words_from (weight * 128)
@@ -95,7 +95,7 @@ words-short byte more short =
     read-last 1 0 byte more short (omega arith)
     ∙ ap (λ n. n ∷ words_in more) (let e : 0 + 1 * byte ≡ byte = omega arith in e)
 
--- where a number or more are passed, it doesn't matter which number is begun
+-- if a number or more are passed, it doesn't matter which number is begun
 passed_first : (last : Bool) (one two : ℕ) (more rest others : List ℕ) (n : ℕ) → 0 < n
     → drop n rest ≡ drop n others
     → drop n (cond last (one ∷ more) rest) ≡ drop n (cond last (two ∷ more) others)

@@ -134,7 +134,7 @@ lies_to n d m read within original h =
       named_frame s (arc_value d.origin).state n h.said (bytes_from d first) named.0 named.1,
     )
 
--- the same, where the place and the layout are read from further owners of what's said
+-- the same, if the place and the layout are read from further owners of what's said
 pub lies_shared : (n : Name) (d owned sized : Said) (s : Format) (m : Option (List Value))
     → owned ≡ d → sized ≡ d → s ≡ layout_in (arc_value d.origin) → SpelledIsRead s
     → n.to < (layout_in (arc_value d.origin)).nodes → n.copy ≡ 0 → (h : IsToAll n.from n.round m d)

@@ -16,7 +16,7 @@ abbrev pub IsSentAs : Name → Sending → Type 0
 IsSentAs n (Message f) = f.name ≡ n
 IsSentAs n (Silence o) = ⊤
 
--- the message, where there is one, has the name, which is that of a copy 0
+-- the message, if there is one, has the name, which is that of a copy 0
 pub record IsReady (n : Name) (x : Sending) : Type 0 where
   pub original : n.copy ≡ 0
   pub named : IsSentAs n x

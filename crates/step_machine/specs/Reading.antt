@@ -4,7 +4,7 @@ use Rattle.round_lang.specs.Syntax.{ProgramTree}
 use Rattle.step_code.specs.Turns.{IsOfRound}
 use Rattle.step_machine.specs.Sealed.{Frame, HeldRow}
 
--- the frame, where there is one, has a message of the kinds that the round's messages have
+-- the frame, if there is one, has a message of the kinds that the round's messages have
 abbrev pub MayBeOfRound : ProgramTree → ℕ → Option Frame → Type 0
 MayBeOfRound p r o = IfSome o (λ (f : Frame). IsOfRound p r f.message)
 

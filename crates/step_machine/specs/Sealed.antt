@@ -65,6 +65,6 @@ pub record IsPrepared (a : Algorithm) (p : Ready) : Type 0 where
 abbrev pub HeldRow : Type 0
 HeldRow = List (Option Frame)
 
--- the frame of a sender, none where none is held
+-- the frame of a sender, none if none is held
 abbrev pub held_at : HeldRow → ℕ → Option Frame
 held_at held j = slice_index_or held j None

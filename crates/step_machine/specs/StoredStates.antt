@@ -27,7 +27,7 @@ words_in bytes = words_from 1 0 bytes
 abbrev pub IsWhole : List ℕ → Type 0
 IsWhole bytes = (more : List ℕ) → words_in (bytes ++ more) ≡ words_in bytes ++ words_in more
 
--- the value of a kind that bytes begin with, the number 0 where there is none
+-- the value of a kind that bytes begin with, the number 0 if there is none
 abbrev pub read_next : Option (Kind × Bor (List ℕ)) → Value
 read_next None = Num 0
 read_next (Some next) = read next.0 (words_in next.1.now)

@@ -65,7 +65,7 @@ impl FramePlace {
         }
     }
 
-    /// The message, where there is one.
+    /// The message, if there is one.
     pub fn frame(&self) -> Option<SealedView<'_>>
         ensures { result ≡ self.now }
     {

@@ -66,7 +66,7 @@ impl Machine {
         self.code.init(alloc, setup, me, &mut self.room)
     }
 
-    /// What node `me` in a state sends to `dest` in a round, none where it's silent.
+    /// What node `me` in a state sends to `dest` in a round, none if it's silent.
     pub(crate) fn send(
         &mut self,
         alloc: Global,

@@ -174,7 +174,7 @@ impl Node {
         })
     }
 
-    /// What it sends where it hasn't said anything to all in its round. It stands apart, since that
+    /// What it sends if it hasn't said anything to all in its round. It stands apart, since that
     /// is rare.
     #[inline(never)]
     fn prepare_first(&mut self, name: Name) -> Result<Prepared, NoMemory>

@@ -129,7 +129,7 @@ impl Prepared {
         }
     }
 
-    /// The message under its name, where there is one.
+    /// The message under its name, if there is one.
     #[inline(always)]
     pub fn into_sealed(self) -> Option<Sealed>
         ensures { result ≡ frame_of self }

@@ -37,7 +37,7 @@ impl<'a> StateReader<'a> {
         StateReader { kinds, bytes }
     }
 
-    /// The next value as a number; 0 where it is of another kind or there is none.
+    /// The next value as a number; 0 if it is of another kind or there is none.
     pub fn next_num(&mut self) -> u32
         ensures value { result ≡ num (at self.old 0) }
         ensures rest { self.new ≡ drop 1 self.old }
@@ -48,7 +48,7 @@ impl<'a> StateReader<'a> {
         }
     }
 
-    /// The next value as a truth value; false where it is of another kind or there is none.
+    /// The next value as a truth value; false if it is of another kind or there is none.
     pub fn next_flag(&mut self) -> bool
         ensures value { result ≡ flag (at self.old 0) }
         ensures rest { self.new ≡ drop 1 self.old }
@@ -59,7 +59,7 @@ impl<'a> StateReader<'a> {
         }
     }
 
-    /// The next value as a set; the empty set where it is of another kind or there is none.
+    /// The next value as a set; the empty set if it is of another kind or there is none.
     pub fn next_set(&mut self) -> ValueSet
         ensures value { result.bits ≡ set (at self.old 0) }
         ensures rest { self.new ≡ drop 1 self.old }
@@ -72,7 +72,7 @@ impl<'a> StateReader<'a> {
         }
     }
 
-    /// The next value as a row; one without entries where it is of another kind or there is none.
+    /// The next value as a row; one without entries if it is of another kind or there is none.
     pub fn next_row(&mut self) -> RowReader<'a>
         ensures value { result ≡ row (at self.old 0) }
         ensures rest { self.new ≡ drop 1 self.old }

@@ -80,7 +80,7 @@ pub(crate) fn split_word(bytes: &[u8]) -> Option<(u64, &[u8])>
     split_long_word(bytes)
 }
 
-/// The same, byte by byte: `split_word` is faster where the word is one byte.
+/// The same, byte by byte: `split_word` is faster if the word is one byte.
 fn split_long_word(bytes: &[u8]) -> Option<(u64, &[u8])>
     ensures some { IfSome result (λ s. words_in bytes.now ≡ s.0 ∷ words_in s.1.now) }
     ensures none { IsNone result → words_in bytes.now ≡ [] }
@@ -96,7 +96,7 @@ fn split_long_word(bytes: &[u8]) -> Option<(u64, &[u8])>
     None
 }
 
-/// The first word that the bytes spell, 0 where there is none.
+/// The first word that the bytes spell, 0 if there is none.
 pub(crate) fn first_word(bytes: &[u8]) -> u64
     ensures { result ≡ slice_index (words_in bytes.now) 0 }
 {
@@ -183,7 +183,7 @@ impl Begun {
         }
     }
 
-    /// Reads its next byte. The number, where that was its last byte; then another one begins.
+    /// Reads its next byte. The number, if that was its last byte; then another one begins.
     #[inline(always)]
     fn take(&mut self, byte: u8) -> Option<u64>
         ensures reads { (bytes : List ℕ) → words_from self.old.weight self.old.value (byte ∷ bytes)

@@ -116,7 +116,7 @@ module _ (start : ℕ → ℕ) (v : Log) (correct delta gst : ℕ) where
       oldest_by other h l same (inr new) = let there = at.sent_there in omega arith
 
   module _ (e : Event) (p : List Event) (stands : At p e (history v)) where
-    -- where the bound is kept up to a moment, nothing that was sent before breaks it
+    -- if the bound is kept up to a moment, nothing that was sent before breaks it
     no_break : IsBoundTo (world_of start v) (history v) correct delta gst p
         → (b : BoundBreak) → IsBoundBreak start v correct delta gst b → b.sent < length p → ⊥
     no_break kept b h l =

@@ -131,7 +131,7 @@ module _ (start : ℕ → ℕ) (v : Log) (plan : IsPlan (world_of start v))
   same_due = ap (λ x. max (x + delta) (get_or counts n.to 0)) (sym sender)
       ∙ ap (max (steps n.from p + delta)) (sym receiver)
 
-  -- where it's let in before each receive that is due, none breaks the bound
+  -- if it's let in before each receive that is due, none breaks the bound
   none_late : ((c : List Event) → is_some (message w t n) ≡ true → At c (Step n.to) t
       → is_receive w (steps n.to c) ≡ true → steps n.from p + delta ≤ steps n.to c
       → length p < length c → IsLetInBetween w (reverse t) n (length p) (length c))

@@ -110,7 +110,7 @@ pub fn type_at<'t, 'a>(end: usize, tokens: &'t [Token<'a>]) -> Result<(Ty, &'t [
     }
 }
 
-/// The value of digits, where each above the largest number counts as the next one.
+/// The value of digits, if each above the largest number counts as the next one.
 #[tactic(auto, unfolding(crate::specs::Reading::capped_value))]
 pub fn value_of(digits: &[u8]) -> u64
     ensures { result ≡ reading.capped_value digits.now }

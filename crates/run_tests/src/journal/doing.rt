@@ -174,7 +174,7 @@ fn happen(journal: &mut Journal<Known>, deed: Network, name: Name) -> Result<boo
     }
 }
 
-/// An event of the network, which answers whether it moved, lost or made a copy; where it's refused
+/// An event of the network, which answers whether it moved, lost or made a copy; if it's refused
 /// for memory, it's made again.
 fn answer(journal: &mut Journal<Known>, deed: Network, name: Name) -> Answer<bool>
     ensures program { journal.new.log.program ≡ journal.old.log.program }

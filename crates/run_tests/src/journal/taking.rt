@@ -28,7 +28,7 @@ fn take_all(node: &mut Node, frames: Waiting, out: &mut String) -> Result<(), Fa
     Ok(())
 }
 
-/// A receive step; where it is refused for memory, it's made again.
+/// A receive step; if it is refused for memory, it's made again.
 pub fn receive(journal: &mut Journal<Known>, node: &mut Node, out: &mut String) -> Result<(), Fault>
     requires program { node.old.program ≡ journal.old.log.program }
     requires setup { node.old.setup ≡ journal.old.log.setup }

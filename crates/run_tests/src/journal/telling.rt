@@ -75,7 +75,7 @@ fn tell_event(journal: &Journal<Known>, place: u32, out: &mut String) -> Result<
     Ok(())
 }
 
-/// What the node has seen: the second variable of its last state, which is asked for again where
+/// What the node has seen: the second variable of its last state, which is asked for again if
 /// there was no memory for it.
 fn seen_by(alloc: Global, journal: &Journal<Known>, node: u32) -> Result<ValueSet, Fault>
     requires { node < journal.now.log.setup.nodes }
@@ -111,7 +111,7 @@ fn tell_node(
     tell_set(out, seen)
 }
 
-/// How many frames wait for a node; one more than names do where there are too many.
+/// How many frames wait for a node; one more than names do if there are too many.
 pub fn frames_of(journal: &Journal<Known>, node: u32) -> usize
     requires { node < journal.now.log.setup.nodes }
 {
@@ -150,7 +150,7 @@ fn tell_mark(journal: &Journal<Known>, name: Name, out: &mut String) -> Result<(
 }
 
 /// The copies in flight, each by the numbers of its name, its slot's step number and its serial;
-/// where there was no memory for them, they are asked for again.
+/// if there was no memory for them, they are asked for again.
 fn tell_flight(alloc: Global, journal: &Journal<Known>, out: &mut String) -> Result<(), Fault> {
     let flight = match journal.flight(alloc) {
         Ok(flight) => flight,

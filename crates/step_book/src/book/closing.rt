@@ -41,7 +41,7 @@ impl<P: Plan> Book<P> {
         Ok(())
     }
 
-    /// Why the end of a round would be refused, where it would be for another cause than memory.
+    /// Why the end of a round would be refused, if it would be for another cause than memory.
     pub fn refuses_close(&self, finished: &Finished<'_>) -> Option<CloseFault>
         requires program { finished.now.node.now.program ≡ self.now.log.program }
         requires setup { finished.now.node.now.setup ≡ self.now.log.setup }

@@ -56,7 +56,7 @@ returns-in-Report-clause-answered g c =
       said.read,
       subst (λ (q : Question). Answered (g.P.Plan.start c.args.plan) (g.P.Plan.receives c.args.plan)
           c.args.program.now c.args.schedule.setup events q
-          (answer.Report c.in_ok-report-in-Report.report c.in-Report.decided)) (sym c.in-Report.is)
+          (answer.Report c.in_ok-report-in-Report.report c.in-Report.form)) (sym c.in-Report.is)
           (refl, said.explained),
     )
 
@@ -68,5 +68,6 @@ returns-clause-answered g c =
       said.read,
       subst (λ (q : Question). Answered (g.P.Plan.start c.args.plan) (g.P.Plan.receives c.args.plan)
           c.args.program.now c.args.schedule.setup events q
-          (answer.Verdict c.in_ok-verdict-in-Verdict.verdict)) (sym c.in-Verdict.is) said.judged,
+          (answer.Verdict c.in_ok-verdict-in-Verdict.verdict c.in-Verdict.format))
+          (sym c.in-Verdict.is) (refl, said.judged),
     )

@@ -5,7 +5,7 @@ use Rattle.command_runs.proofs.Drawn.{drawn_always, undrawn_read, undrawn_report
 use Rattle.command_runs.proofs.Refusing.{err_then, told_after}
 use Rattle.command_runs.proofs.drawing.draw_of.Goals as goal
 use Rattle.command_runs.specs.Refused.{of_read}
-use Rattle.command_runs.specs.Stages.{IsDrawnAs, IsNotDrawnAs, StopsSchedule}
+use Rattle.command_runs.specs.Stages.{IsNotDrawnAs, StopsSchedule}
 use Rattle.command_runs.specs.declared.refusal.Refusal.{Refusal}
 use Rattle.command_runs.specs.declared.refusal.Refusal.TheVariants as refusal
 

@@ -1,13 +1,44 @@
 use Rattle.std.proofs.Common.{◌≡◌, List, Option, refl, subst, sym, ℕ}
+use Rattle.std.specs.Prelude.{IfOk}
 use Rattle.std.proofs.lemmas.Result.{IfErr-weaker}
 use Rattle.command_words.specs.declared.words.Words.{Words}
-use Rattle.command_runs.proofs.Telling.{judge_refused, run_refused}
+use Rattle.command_runs.proofs.Serving.{ended_as}
+use Rattle.command_runs.proofs.Telling.{judge_refused, judge_served, run_refused, run_served}
 use Rattle.command_runs.proofs.Unmade.{lockstep_refused}
 use Rattle.command_runs.specs.InChanges.{Terms}
 use Rattle.command_words.specs.declared.changes.NodeStop.{NodeStop}
 use Rattle.command_words.specs.declared.changes.OwnDelay.{OwnDelay}
 use Rattle.command_runs.proofs.run.carry_out.Goals as goal
 use Rattle.command_runs.specs.Refused.{IsRefusedCommand}
+use Rattle.command_runs.specs.Served.{Ends}
+use Rattle.command_runs.specs.declared.outcome.Outcome.TheVariants.{Done}
+
+pub returns-in-Run-clause-served : goal.returns-in-Run-clause-served
+returns-in-Run-clause-served g c =
+    let files = g.D.Desk.files c.args.desk.now in
+    let after = g.D.Desk.files c.answer.new.desk in
+    let out = g.O.Write.contents in
+    let old = out c.args.out.now in
+    let new = out c.answer.new.out in
+    let w = c.in-Run in
+    subst (λ (w : Words). IfOk c.answer.result (λ o. Ends w files after o old new)) (sym w.is)
+    (ended_as c.answer.result Done c.answer.ensures.done c.answer.ensures.served
+    (run_served w.source files after w.schedule w.form old new))
+
+pub returns-in-Judge-clause-served : goal.returns-in-Judge-clause-served
+returns-in-Judge-clause-served g c =
+    let files = g.D.Desk.files c.args.desk.now in
+    let after = g.D.Desk.files c.answer-in-Judge.new.desk in
+    let out = g.O.Write.contents in
+    let old = out c.args.out.now in
+    let new = out c.answer-in-Judge.new.out in
+    let w = c.in-Judge in
+    subst (λ (w : Words). IfOk c.answer-in-Judge.result (λ o. Ends w files after o old new))
+    (sym w.is)
+    (ended_as c.answer-in-Judge.result Done c.answer-in-Judge.ensures.done
+    c.answer-in-Judge.ensures.served
+    (judge_served w.source files w.schedule w.correct w.delta w.gst w.format c.deref.result
+    c.deref.ensures.value after old new))
 
 pub returns-in-Run-clause-refused : goal.returns-in-Run-clause-refused
 returns-in-Run-clause-refused g c =
@@ -15,7 +46,7 @@ returns-in-Run-clause-refused g c =
     let w = c.in-Run in
     IfErr-weaker c.answer.result _ _
     (λ r h. subst (λ (w : Words). IsRefusedCommand w files r) (sym c.in-Run.is)
-    (run_refused w.source files w.schedule w.decided r h))
+    (run_refused w.source files w.schedule w.form r h))
     c.answer.ensures.refused
 
 pub returns-in-Judge-clause-refused : goal.returns-in-Judge-clause-refused
@@ -24,7 +55,7 @@ returns-in-Judge-clause-refused g c =
     let w = c.in-Judge in
     IfErr-weaker c.answer-in-Judge.result _ _
     (λ r h. subst (λ (w : Words). IsRefusedCommand w files r) (sym c.in-Judge.is)
-    (judge_refused w.source files w.schedule w.correct w.delta w.gst c.deref.result
+    (judge_refused w.source files w.schedule w.correct w.delta w.gst w.format c.deref.result
     c.deref.ensures.value r h))
     c.answer-in-Judge.ensures.refused
 

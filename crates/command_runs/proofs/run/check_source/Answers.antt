@@ -4,7 +4,7 @@ use Rattle.command_words.specs.declared.words.Words.TheVariants.{Check}
 use Rattle.command_runs.proofs.Serving.{printed, program_of}
 use Rattle.command_runs.proofs.run.check_source.Goals as goal
 use Rattle.command_runs.specs.Refused.{IsRefusedCommand}
-use Rattle.command_runs.specs.Served.{summary_text}
+use Rattle.command_runs.specs.Served.{summary_as}
 use Rattle.command_runs.specs.declared.refusal.Refusal.TheVariants.{Write}
 
 pub returns-clause-served : goal.returns-clause-served
@@ -13,9 +13,10 @@ returns-clause-served g c =
     let files = g.D.Desk.files c.args.desk.now in
     let is = program_of c.args.source files c.in_ok-opened.opened 1 0 p
     c.in_ok-opened.ensures.opened c.in_ok-program.ensures.program in
-    printed c.written.result c.write_summary.result _ _ _ (summary_text p) c.written.ensures.done
-    c.write_summary.ensures c.written.ensures.kept
-    (λ wrote. (summary_text p, (p, is, refl), wrote))
+    printed c.written.result c.write_declared.result _ _ _ (summary_as c.args.format p)
+    c.written.ensures.done
+    c.write_declared.ensures c.written.ensures.kept
+    (λ wrote. (summary_as c.args.format p, (p, is, refl), wrote))
 
 pub returns-clause-refused : goal.returns-clause-refused
 returns-clause-refused g c =
@@ -23,6 +24,7 @@ returns-clause-refused g c =
     let files = g.D.Desk.files c.args.desk.now in
     let is = program_of c.args.source files c.in_ok-opened.opened 1 0 p
     c.in_ok-opened.ensures.opened c.in_ok-program.ensures.program in
-    IfErr-weaker c.written.result (λ r. r ≡ Write) (IsRefusedCommand (Check c.args.source) files)
-    (λ r e. subst (IsRefusedCommand (Check c.args.source) files) (sym e)
-    (files, summary_text p, (p, is, refl))) c.written.ensures.refused
+    let w = Check c.args.source c.args.format in
+    IfErr-weaker c.written.result (λ r. r ≡ Write) (IsRefusedCommand w files)
+    (λ r e. subst (IsRefusedCommand w files) (sym e)
+    (files, summary_as c.args.format p, (p, is, refl))) c.written.ensures.refused

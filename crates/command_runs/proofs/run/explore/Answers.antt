@@ -4,7 +4,7 @@ use Rattle.command_words.specs.declared.words.Words.TheVariants.{Explore}
 use Rattle.command_runs.specs.InRounds.{outcome_of, trace_of}
 use Rattle.command_runs.specs.Refused.{IsRefusedCommand}
 use Rattle.command_runs.specs.Stages.{WritesText}
-use Rattle.exploration_texts.specs.Lines.{answers_text}
+use Rattle.exploration_texts.specs.Lines.{answers_as}
 use Rattle.command_runs.proofs.Explored.{explore_unwritten, tells_of_all, trace_written}
 use Rattle.command_runs.proofs.Refusing.{err_then}
 use Rattle.command_runs.proofs.Serving.{written_whole}
@@ -15,32 +15,33 @@ pub returns-in_err-told-clause-refused : goal.returns-in_err-told-clause-refused
 returns-in_err-told-clause-refused g c =
     let x = c.args.exploration in
     let files = g.D.Desk.files c.args.desk.now in
-    let cause = IsRefusedCommand (Explore x.source x.header x.exploring) files in
+    let cause = IsRefusedCommand (Explore x.source x.header x.exploring c.args.format) files in
     let fault = c.in_err-told.field-0.0 in
     err_then c.from_residual.result (λ r. r ≡ fault) cause c.from_residual.ensures.1
     (λ r is. subst cause (sym is)
-    (explore_refused x.source files x.header x.exploring fault c.in_err-told.ensures.refused))
+    (explore_refused x.source files x.header x.exploring c.args.format fault
+    c.in_err-told.ensures.refused))
 
 pub returns-in_err-write_shown-clause-refused : goal.returns-in_err-write_shown-clause-refused
 returns-in_err-write_shown-clause-refused g c =
     let x = c.args.exploration in
     let files = g.D.Desk.files c.args.desk.now in
-    let cause = IsRefusedCommand (Explore x.source x.header x.exploring) files in
+    let cause = IsRefusedCommand (Explore x.source x.header x.exploring c.args.format) files in
     let fault = c.in_err-write_shown.field-0.0 in
     err_then c.from_residual-in_err-write_shown.result (λ r. r ≡ fault) cause
     c.from_residual-in_err-write_shown.ensures.1 (λ r is. subst cause (sym is)
-    (explore_unwritten x.source files x.header x.exploring c.in_ok-told.field-0 fault
+    (explore_unwritten x.source files x.header x.exploring c.args.format c.in_ok-told.field-0 fault
     c.in_ok-told.ensures.found c.in_err-write_shown.ensures.refused))
 
 pub returns-in_err-written-clause-refused : goal.returns-in_err-written-clause-refused
 returns-in_err-written-clause-refused g c =
     let x = c.args.exploration in
     let files = g.D.Desk.files c.args.desk.now in
-    let cause = IsRefusedCommand (Explore x.source x.header x.exploring) files in
+    let cause = IsRefusedCommand (Explore x.source x.header x.exploring c.args.format) files in
     let fault = c.in_err-written.field-0.0 in
     err_then c.from_residual-in_err-written.result (λ r. r ≡ fault) cause
     c.from_residual-in_err-written.ensures.1 (λ r is. subst cause (sym is)
-    (explore_unwritten x.source files x.header x.exploring c.in_ok-told.field-0 fault
+    (explore_unwritten x.source files x.header x.exploring c.args.format c.in_ok-told.field-0 fault
     c.in_ok-told.ensures.found (inl c.in_err-written.ensures.refused)))
 
 pub returns-clause-served : goal.returns-clause-served
@@ -55,11 +56,11 @@ returns-clause-served g c =
       tells_of_all x.source files x.exploring found (files x.header.now) after
           c.in_ok-write_shown.ensures.held c.in_ok-told.ensures.found,
       c.of.ensures ∙ ap outcome_of c.deref-2.ensures.value,
-      subst (λ ts. Appends (out c.args.out.now) (out c.written.new.out) (answers_text ts))
-          c.deref.ensures.value
+      subst (λ ts. Appends (out c.args.out.now) (out c.written.new.out)
+          (answers_as c.args.format ts)) c.deref.ensures.value
           (written_whole c.write_answers.result (out c.args.out.now) (out c.write_answers.new.out)
-          (out c.written.new.out) (answers_text c.deref.result.now) c.in_ok-written.ensures.done
-          c.write_answers.ensures c.in_ok-written.ensures.kept),
+          (out c.written.new.out) (answers_as c.args.format c.deref.result.now)
+          c.in_ok-written.ensures.done c.write_answers.ensures c.in_ok-written.ensures.kept),
     )
 
 pub returns-clause-traced : goal.returns-clause-traced

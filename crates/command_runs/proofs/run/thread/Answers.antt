@@ -14,8 +14,8 @@ returns-then-whole-clause-served g c =
     let made = string_bytes run.trace in
     let held = subst (λ (text : List ℕ). IfSome after (λ held. held ≡ text)) c.as_str.ensures.value
     c.in_ok-write_trace.ensures.held in
-    let said = written_whole c.write_answer.result _ _ _ (told_text run.report c.args.decided)
-    c.in_ok-written.ensures.done c.write_answer.ensures c.in_ok-written.ensures.kept in (
+    let said = written_whole c.write_told.result _ _ _ (told_text run.report c.args.decided)
+    c.in_ok-written.ensures.done c.write_told.ensures c.in_ok-written.ensures.kept in (
       run.report,
       reports_traced threaded.source files (files threaded.setup.now) after made run.report
           (c.in_ok-report.ensures.told c.if-whole.true) held,

@@ -8,6 +8,8 @@ returns c =
     c.optional_arg.ensures.rule c.optional_arg.ensures.local in
     let second = arg_added _ _ _ _ _ c.in_ok-arg-2.ensures first c.optional_arg-2.ensures.rule
     c.optional_arg-2.ensures.local in
-    IfOk-weaker c.arg-3.result _ _
-    (λ r h. arg_added _ _ _ _ _ h second c.optional_arg-3.ensures.rule
-    c.optional_arg-3.ensures.local) c.arg-3.ensures
+    let third = arg_added _ _ _ _ _ c.in_ok-arg-3.ensures second c.optional_arg-3.ensures.rule
+    c.optional_arg-3.ensures.local in
+    IfOk-weaker c.arg-4.result _ _
+    (λ r h. arg_added _ _ _ _ _ h third c.format_arg.ensures.rule c.format_arg.ensures.local)
+    c.arg-4.ensures

@@ -1,5 +1,4 @@
 use Rattle.std.proofs.Common.{rules, codes}
-use Rattle.std.proofs.lemmas.Result.{IfOk-weaker}
 use Rattle.clap.specs.Words.{new_app}
 use Rattle.command_words.specs.Commands.{source_rule}
 use Rattle.command_words.proofs.CommandLemmas.{arg_added}
@@ -11,8 +10,6 @@ returns c =
     (search rules) c.source_arg.ensures.rule c.source_arg.ensures.local in
     let second = arg_added _ _ _ _ _ c.in_ok-arg-2.ensures first c.header_arg.ensures.rule
     c.header_arg.ensures.local in
-    let third = arg_added _ _ _ _ _ c.in_ok-arg-3.ensures second c.omissions_arg.ensures.rule
+    let third = arg_added _ _ _ _ _ c.in_ok-command.ensures second c.omissions_arg.ensures.rule
     c.omissions_arg.ensures.local in
-    IfOk-weaker c.arg-4.result _ _
-    (λ r h. arg_added _ _ _ _ _ h third c.decided_arg.ensures.rule c.decided_arg.ensures.local)
-    c.arg-4.ensures
+    c.with_form.ensures _ third

@@ -1,5 +1,4 @@
 use Rattle.std.proofs.Common.{rules, codes}
-use Rattle.std.proofs.lemmas.Result.{IfOk-weaker}
 use Rattle.clap.specs.Words.{new_app}
 use Rattle.command_words.specs.Commands.{source_rule}
 use Rattle.command_words.proofs.CommandLemmas.{arg_added}
@@ -9,8 +8,6 @@ pub returns : goal.returns
 returns c =
     let first = arg_added _ _ _ (new_app (codes "run")) source_rule c.in_ok-arg.ensures
     (search rules) c.source_arg.ensures.rule c.source_arg.ensures.local in
-    let second = arg_added _ _ _ _ _ c.in_ok-arg-2.ensures first c.schedule_arg.ensures.rule
+    let second = arg_added _ _ _ _ _ c.in_ok-command.ensures first c.schedule_arg.ensures.rule
     c.schedule_arg.ensures.local in
-    IfOk-weaker c.arg-3.result _ _
-    (λ r h. arg_added _ _ _ _ _ h second c.decided_arg.ensures.rule c.decided_arg.ensures.local)
-    c.arg-3.ensures
+    c.with_form.ensures _ second

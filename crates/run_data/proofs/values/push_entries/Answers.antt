@@ -39,7 +39,8 @@ loop-value-preserved c =
           ++ (comma_if is_later ++ field_text (field i)) =
           w.in_ok-push_entry.ensures
           ∙ ap (λ n. text ++ (comma_if is_later ++ field_text (decimal i, number_data n))) is in
-          let more = filling_more first all text w.push_entry.new.line is_later (field i) left before
+          let more =
+          filling_more first all text w.push_entry.new.line is_later (field i) left before
           told in
           subst (λ t. Filling first all t c.if-entry-ne0.is_later left) (sym w.line-is)
           (subst (λ b. Filling first all w.push_entry.new.line b left) (sym w.is_later-is) more)

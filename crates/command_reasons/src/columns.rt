@@ -1,0 +1,64 @@
+//! Which name in the list of a table's variables is that of none.
+use crate::files::{CommandFiles, source_of};
+use crate::located::Located;
+use crate::program::program_for;
+use crate::sentence::Sentence;
+use command_runs::Refusal;
+use command_words::Words;
+use round_check::Checked;
+use round_lang::Span;
+use std::alloc::Global;
+use std::io::Write;
+
+/// Tells the first name of `--vars` that isn't a variable's, and whether there is one.
+pub(crate) fn tell_columns<O: Write>(
+    alloc: Global,
+    command: &Words<'_>,
+    files: &CommandFiles<'_>,
+    out: &mut O,
+) -> Result<bool, Refusal> {
+    let Some(list) = columns_of(command) else {
+        return Ok(false);
+    };
+    let Ok(program) = program_for(alloc, source_of(command), files, 1, 0) else {
+        return Ok(false);
+    };
+    match unknown_column(&program, list) {
+        Some(span) => {
+            let place = Located {
+                name: "--vars",
+                text: list,
+                span,
+            };
+            place.tell(alloc, &Sentence::NoVariable, out)?;
+            Ok(true)
+        }
+        None => Ok(false),
+    }
+}
+
+/// The names of a table's variables, if the command has such a list.
+fn columns_of<'a>(command: &Words<'a>) -> Option<&'a str> {
+    match command {
+        Words::Run { form, .. } => form.variables,
+        Words::Rounds { form, .. } => form.variables,
+        _ => None,
+    }
+}
+
+/// Where the first name of the list stands that isn't a variable's.
+fn unknown_column(program: &Checked, list: &str) -> Option<Span> {
+    let variables = program.program().variables();
+    let mut first: usize = 0;
+    for name in list.split(',') {
+        let after = first.saturating_add(name.len());
+        if !variables
+            .iter()
+            .any(|variable| variable.name.as_str() == name)
+        {
+            return Some(Span { first, after });
+        }
+        first = after.saturating_add(1);
+    }
+    None
+}
