@@ -2,7 +2,7 @@
 ghost use Rattle.std.specs.Prelude.{◌≡◌};
 
 use crate::before_threads::refused_before_threads;
-use crate::columns::tell_columns;
+use crate::columns::{has_unknown_column, tell_columns};
 use crate::condition::tell_condition;
 use crate::files::{CommandFiles, FileKind, TellingDesk, source_of};
 use crate::held_desk::HeldDesk;
@@ -92,6 +92,9 @@ impl<'w, 'a> AskedCommand<'w, 'a> {
 
     /// Tells what the run of a schedule came to and why, if that is asked and the run is served.
     fn tell_reasons<O: Write>(&self, out: &mut O) -> Result<bool, Refusal> {
+        if has_unknown_column(self.alloc, self.command, self.files) {
+            return Ok(false);
+        }
         let question = match self.command {
             Words::Run { form, .. } => RunQuestion::Report {
                 decided: form.decided,

@@ -4,7 +4,7 @@ use crate::located::Located;
 use crate::program::program_for;
 use crate::sentence::Sentence;
 use command_runs::Refusal;
-use command_words::Words;
+use command_words::{Form, Format, Words};
 use round_check::Checked;
 use round_lang::Span;
 use std::alloc::Global;
@@ -37,11 +37,33 @@ pub(crate) fn tell_columns<O: Write>(
     }
 }
 
-/// The names of a table's variables, if the command has such a list.
+/// Whether a name of `--vars` isn't a variable's.
+pub(crate) fn has_unknown_column(
+    alloc: Global,
+    command: &Words<'_>,
+    files: &CommandFiles<'_>,
+) -> bool {
+    let Some(list) = columns_of(command) else {
+        return false;
+    };
+    match program_for(alloc, source_of(command), files, 1, 0) {
+        Ok(program) => unknown_column(&program, list).is_some(),
+        Err(_) => false,
+    }
+}
+
+/// The names of a table's variables, if the command asks for a table and has such a list.
 fn columns_of<'a>(command: &Words<'a>) -> Option<&'a str> {
     match command {
-        Words::Run { form, .. } => form.variables,
-        Words::Rounds { form, .. } => form.variables,
+        Words::Run { form, .. } => table_columns(form),
+        Words::Rounds { form, .. } => table_columns(form),
+        _ => None,
+    }
+}
+
+fn table_columns<'a>(form: &Form<'a>) -> Option<&'a str> {
+    match form.format {
+        Format::Table => form.variables,
         _ => None,
     }
 }
