@@ -48,8 +48,8 @@ use Rattle.step_book.specs.Log.{Log, Recorded, count_of, history, round_of, worl
 use Rattle.step_book.specs.declared.mark.Mark.{Mark}
 use Rattle.step_machine.specs.declared.event.Event.{Event}
 use Rattle.step_machine.specs.declared.event.Name.{Name}
-use Rattle.node_threads.specs.Bodies.{IsEnded, SeatsEnded}
-use Rattle.node_threads.specs.Ends.{HasDecidedBy, HasEnded, HasOneDecision, HaveEnded}
+use Rattle.node_threads.specs.Bodies.{IsEnded, IsNotPassed, SeatsEnded}
+use Rattle.node_threads.specs.Ends.{AreBehind, HasDecidedBy, HasEnded, HasOneDecision, HaveEnded}
 use Rattle.node_threads.specs.Stops.{stop_of}
 use Rattle.node_threads.specs.declared.ended.Ended.{Ended}
 use Rattle.node_threads.specs.declared.ended.Ended.TheVariants.{Done, Stopped, NoMemory}
@@ -192,3 +192,34 @@ ended_by start own plan own_last last own_stop stop a o e ended is same_plan sam
     subst (λ p. IsEnded (start p) last stop a e) same_plan
     (subst (λ r. IsEnded (start own) r stop a e) same_last
     (subst (λ s. IsEnded (start own) own_last s a e) same_stop (ended e is)))
+
+pub passed_by : {P : Type 0} (start : P → ℕ
+    → ℕ) (own plan : P) (own_last last : ℕ) (own_stop stop : Option ℕ) (o : Option Ended)
+    (e : Ended)
+    → (o ≡ Some Done → IsNotPassed own_stop 0 (start own (own_last + 1))) → o ≡ Some e
+    → own ≡ plan → own_last ≡ last → own_stop ≡ stop → e ≡ Done
+    → IsNotPassed stop 0 (start plan (last + 1))
+passed_by start own plan own_last last own_stop stop o e passed is same_plan same_last same_stop
+    done =
+    subst (λ p. IsNotPassed stop 0 (start p (last + 1))) same_plan
+    (subst (λ r. IsNotPassed stop 0 (start own (r + 1))) same_last
+    (subst (λ s. IsNotPassed s 0 (start own (own_last + 1))) same_stop
+    (passed (is ∙ ap Some done))))
+
+-- one end more, whose stop isn't before all steps
+behind_at : (last : ℕ) (stops : List Stop) (ends : List Ended) (e : Ended) (i n : ℕ) (f : Ended)
+    → AreBehind last stops ends → (e ≡ Done → IsNotPassed (stop_of stops (length ends)) 0 last)
+    → i < length ends + 1 → get_or (ends ++ e ∷ []) i f ≡ Done → stop_of stops i ≡ Some n
+    → (i < length ends) ⊎ (length ends ≤ i) → last ≤ n
+behind_at last stops ends e i n f h g l done at (inl low) =
+    h i n f low (sym (get_or_append_left ends (e ∷ []) f i low) ∙ done) at
+behind_at last stops ends e i n f h g l done at (inr high) =
+    let here : i ≡ length ends = omega (arith, l, high) in
+    g (sym (get_or_push ends e f i (sym here)) ∙ done) n (sym (ap (stop_of stops) here) ∙ at)
+    (omega arith)
+
+pub behind_push : (last : ℕ) (stops : List Stop) (ends : List Ended) (e : Ended)
+    → AreBehind last stops ends → (e ≡ Done → IsNotPassed (stop_of stops (length ends)) 0 last)
+    → AreBehind last stops (ends ++ e ∷ [])
+behind_push last stops ends e h g i n f l done at = behind_at last stops ends e i n f h g
+    (omega (arith, l, length_push ends e)) done at (cases_lt _ _)

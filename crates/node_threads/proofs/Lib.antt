@@ -5,3 +5,4 @@ pub mod Ending
 pub mod Crossing
 pub mod Chosen
 mod Copies
+pub mod Turns

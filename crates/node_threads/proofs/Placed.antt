@@ -19,8 +19,10 @@ use Rattle.std.proofs.Common.{
 }
 use Rattle.slot_plans.specs.Plan.{PlanLaws}
 use Rattle.locked_buffers.specs.Seats.{Account, IsDueBy, round_by}
-use Rattle.node_threads.specs.declared.ended.Ended.TheVariants.{Stopped}
-use Rattle.node_threads.specs.Bodies.{IsEnded, IsInPlace}
+use Rattle.node_threads.specs.declared.body.Halt.{Halt}
+use Rattle.node_threads.specs.declared.body.Halt.TheVariants as halt
+use Rattle.node_threads.specs.declared.ended.Ended.TheVariants.{NoMemory, Stopped}
+use Rattle.node_threads.specs.Bodies.{IsEnded, IsInPlace, end_of}
 
 -- what holds of the value
 pub for_some : {X : Type 0} (P : X → Type 0) (y : X) → P y → ForSome (Some y) P
@@ -121,3 +123,11 @@ module _ (start receives : ℕ → ℕ) (nodes : ℕ) (laws : PlanLaws nodes rec
   pub fewer : (rounds : ℕ) (a b : Account) → IsInPlace start rounds a → round_by a ≤ rounds
       → b.steps ≡ a.steps + 1 → start (rounds + 1) - b.steps < start (rounds + 1) - a.steps
   fewer rounds a b h l more = omega (arith, before_all rounds a h l, more)
+
+-- a thread that couldn't go on has ended as it's told, whatever its seat says
+pub ended_stuck : (start : ℕ → ℕ) (rounds : ℕ) (stop : Option ℕ) (a : Account) (h : Halt)
+    → ForSome (end_of h) (IsEnded start rounds stop a)
+ended_stuck start rounds stop a halt.NoMemory =
+    for_some (IsEnded start rounds stop a) NoMemory
+    (record { done = λ is. cc; stopped = λ is. cc })
+ended_stuck start rounds stop a halt.Refused = λ x is. cc

@@ -1,13 +1,18 @@
 -- A node's thread: its seat and its node go together.
-use Rattle.std.specs.Prelude.{◌≡◌, ℕ, ◌+◌, ◌<◌, ◌≤◌, List, Option, Some, length}
-use Rattle.std.specs.Prelude.{slice_index_or}
+use Rattle.std.specs.Prelude.{◌≡◌, ℕ, ◌+◌, ◌<◌, ◌≤◌, List, [], ◌∷◌, ◌++◌, Option, None, Some}
+use Rattle.std.specs.Prelude.{length, slice_index_or}
 use Rattle.locked_buffers.specs.Runs.{Run}
 use Rattle.locked_buffers.specs.Seats.{Account, IsDueBy, round_by}
 use Rattle.round_meaning.specs.Setups.{max_rounds}
 use Rattle.schedule_text.specs.declared.pace.Stop.{Stop}
+use Rattle.step_book.specs.Buffers.{names_in}
+use Rattle.step_book.specs.Taking.{HasTaken}
 use Rattle.step_machine.specs.Nodes.{HasPlaces, NodeView}
+use Rattle.step_machine.specs.Sealed.{Frame}
+use Rattle.node_threads.specs.declared.body.Halt.{Halt}
+use Rattle.node_threads.specs.declared.body.Halt.TheVariants as halt
 use Rattle.node_threads.specs.declared.ended.Ended.{Ended}
-use Rattle.node_threads.specs.declared.ended.Ended.TheVariants.{Done, Stopped}
+use Rattle.node_threads.specs.declared.ended.Ended.TheVariants.{Done, NoMemory, Stopped}
 use Rattle.node_threads.specs.Stops.{stop_of}
 
 -- this plan and this last round are the run's, and within their limits
@@ -33,6 +38,21 @@ pub record IsInPlace (start : ℕ → ℕ) (rounds : ℕ) (a : Account) : Type 0
   pub begun : start (round_by a) ≤ a.steps
   pub early : round_by a ≤ rounds → a.steps < start (round_by a + 1)
   pub whole : round_by a ≡ rounds + 1 → a.steps ≡ start (rounds + 1)
+
+-- the node has taken the frames that a receive handed out, under whose names its seat notes it
+pub record HasReceived (a b : Account) (n m : NodeView) : Type 0 where
+  pub frames : List Frame
+  pub taken : HasTaken n m frames
+  pub handed : b.handed ≡ a.handed ++ names_in frames ∷ []
+
+-- if there is a stop from this number of steps on, it isn't before that one
+abbrev pub IsNotPassed : (stop : Option ℕ) → (from to : ℕ) → Type 0
+IsNotPassed stop from to = (n : ℕ) → stop ≡ Some n → from ≤ n → to ≤ n
+
+-- how a thread ended that couldn't go on, if it's an end: a refused call is none
+abbrev pub end_of : Halt → Option Ended
+end_of halt.NoMemory = Some NoMemory
+end_of halt.Refused = None
 
 -- what is said of a seat by how its thread ended, as in Ends
 pub record IsEnded (start : ℕ → ℕ) (rounds : ℕ) (stop : Option ℕ) (a : Account) (e : Ended)

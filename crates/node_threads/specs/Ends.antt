@@ -1,5 +1,5 @@
 -- How the threads of a run ended.
-use Rattle.std.specs.Prelude.{◌≡◌, ℕ, ◌+◌, ◌<◌, List, [], Option, Some, length, slice_index_or}
+use Rattle.std.specs.Prelude.{◌≡◌, ℕ, ◌+◌, ◌<◌, ◌≤◌, List, [], Option, Some, length, slice_index_or}
 use Rattle.round_meaning.specs.Agreement.{IsInput}
 use Rattle.round_meaning.specs.Setups.{IsLawful}
 use Rattle.round_meaning.specs.Turn.{decision}
@@ -26,6 +26,12 @@ pub record HaveEnded (start : ℕ → ℕ) (v : Log) (stops : List Stop) (ends :
   pub sized : length ends ≡ v.setup.nodes
   pub each : (i : ℕ) (e : Ended) → i < v.setup.nodes
       → HasEnded start v i (stop_of stops i) (slice_index_or ends i e)
+
+-- if a thread that is done has a stop, it's behind this many steps
+abbrev pub AreBehind : (steps : ℕ) → List Stop → List Ended → Type 0
+AreBehind steps stops ends =
+    (i n : ℕ) (e : Ended) → i < length ends → slice_index_or ends i e ≡ Done
+    → stop_of stops i ≡ Some n → steps ≤ n
 
 -- the setup is lawful, and the stops are of nodes of it
 pub record IsFitForThreads (values : ℕ) (s : Setup) (stops : List Stop) : Type 0 where

@@ -1,6 +1,6 @@
 -- What the network knows to be in flight, event by event.
-use Rattle.std.specs.Prelude.{◌≡◌, ◌⊎◌, ℕ, ◌+◌, ◌-◌, ◌^◌, ◌<◌, ◌≤◌, List, Some, insert, length, min}
-use Rattle.std.specs.Prelude.{remove, slice_get}
+use Rattle.std.specs.Prelude.{◌≡◌, ◌⊎◌, ℕ, ◌+◌, ◌-◌, ◌^◌, ◌<◌, ◌≤◌, List, [], ◌∷◌, Some, insert}
+use Rattle.std.specs.Prelude.{length, min, remove, slice_get}
 use Rattle.policies.specs.declared.policy.Choice.{Choice}
 use Rattle.policies.specs.declared.policy.Choice.TheVariants as choice
 use Rattle.step_machine.specs.declared.event.Event.{Event}
@@ -35,10 +35,27 @@ pub record IsCopied (old : List InFlight) (k : ℕ) (copied : Name)
   pub copies : AreCopies old message.serial k end
   pub put : new ≡ insert old end (record message { name = copied })
 
+-- what stood at place k is gone; past the end nothing did
+pub record IsGone (old : List InFlight) (k : ℕ) (new : List InFlight) : Type 0 where
+  pub there : k < length old → new ≡ remove old k
+  pub past : length old ≤ k → new ≡ old
+
 -- what is in flight after an event that came of a choice: what was released or dropped is gone, and
 -- a copy is there
 abbrev pub IsNoted : Choice → Event → (old new : List InFlight) → Type 0
-IsNoted (choice.Release k) e old new = k < length old → new ≡ remove old k
-IsNoted (choice.Drop k) e old new = k < length old → new ≡ remove old k
-IsNoted (choice.Copy k) (Copy m) old new = k < length old → IsCopied old k m new
+IsNoted (choice.Release k) e old new = IsGone old k new
+IsNoted (choice.Drop k) e old new = IsGone old k new
+IsNoted (choice.Copy k) (Copy m) old new =
+    (k < length old → IsCopied old k m new) × (length old ≤ k → new ≡ old)
 IsNoted (choice.Copy k) e old new = new ≡ old
+
+-- how many messages the network knows after these too, as long as the count has room
+abbrev pub known_with : (known : ℕ) → List Name → ℕ
+known_with known [] = known
+known_with known (n ∷ ns) = known_with (min (known + 1) (2 ^ 64 - 1)) ns
+
+-- messages that were sent one after another, if the network knew so many before them
+abbrev pub sent_after : (start : ℕ → ℕ) → (known : ℕ) → List Name → List InFlight
+sent_after start known [] = []
+sent_after start known (n ∷ ns) =
+    sent_as start known n ∷ sent_after start (min (known + 1) (2 ^ 64 - 1)) ns

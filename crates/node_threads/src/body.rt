@@ -1,9 +1,10 @@
 //! What a node's thread does, over whatever answers its calls.
 ghost use Rattle.std.specs.Option.{ForSome};
-ghost use Rattle.std.specs.Prelude.{◌≡◌, ◌↔◌, ◌+◌, ◌<◌, ◌≤◌, OnOk};
+ghost use Rattle.std.specs.Prelude.{◌≡◌, ◌↔◌, ◌+◌, ◌<◌, ◌≤◌, IfOk, OnOk, Some};
 ghost use Rattle.round_meaning.specs.Setups.{max_rounds};
 ghost use Rattle.locked_buffers.specs.Seats.{round_by};
-ghost use Rattle.node_threads.specs.Bodies.{IsEnded, IsInPlace, IsPlanned, IsTogether};
+ghost use Rattle.node_threads.specs.Bodies.{HasReceived, IsEnded, IsInPlace, IsNotPassed};
+ghost use Rattle.node_threads.specs.Bodies.{IsPlanned, IsTogether, end_of};
 ghost use Rattle.node_threads.specs.declared.body.Halt.TheVariants as halt;
 ghost use Rattle.locked_buffers.specs.declared.fault.PostFault.TheVariants as post;
 ghost use Rattle.step_book.specs.declared.fault.CloseFault.TheVariants as close;
@@ -115,6 +116,7 @@ fn receive_step<P: Plan, M: Mail<P>>(mail: &M, seat: &mut Seat, node: &mut Node)
     ensures steps { OnOk result (seat.new.steps ≡ seat.old.steps + 1) }
     ensures states { OnOk result (seat.new.states ≡ seat.old.states) }
     ensures together { OnOk result (IsTogether (M.run mail.now) seat.new node.new) }
+    ensures taken { OnOk result (HasReceived seat.old seat.new node.old node.new) }
 {
     let took = mail.receive(seat)?;
     take_all(node, took.frames);
@@ -208,6 +210,46 @@ fn step<P: Plan, M: Mail<P>, G: Gate, B: Beat>(
     Ok(())
 }
 
+/// The steps of a node from where its seat stands up to its end: after the last round or at its
+/// stop.
+fn take_steps<P: Plan, M: Mail<P>, G: Gate, B: Beat>(
+    mail: &M,
+    gate: &G,
+    beat: &B,
+    plan: P,
+    rounds: u32,
+    stop: Option<u32>,
+    seat: &mut Seat,
+    node: &mut Node,
+) -> Result<Ended, Halt>
+    requires planned { IsPlanned P.nodes (M.run mail.now) plan rounds }
+    requires together { IsTogether (M.run mail.now) seat.old node.old }
+    requires place { IsInPlace (P.start plan) rounds seat.old }
+    ensures ended { IfOk result (IsEnded (P.start plan) rounds stop seat.new) }
+    ensures passed { IfOk result (λ ended. ended ≡ Ended.Done
+        → IsNotPassed stop seat.old.steps (P.start plan (rounds + 1))) }
+{
+    while node.round() <= rounds {
+        if is_stop(stop, seat.steps()) {
+            return Ok(Ended::Stopped);
+        }
+        beat.next(seat.steps());
+        step(mail, gate, beat, plan, seat, node)?;
+    }
+    Ok(Ended::Done)
+}
+
+/// How a thread ended that couldn't go on; `None` if a call was refused for another cause than
+/// memory.
+fn end_of(halt: Halt) -> Option<Ended>
+    ensures { result ≡ end_of halt }
+{
+    match halt {
+        Halt::NoMemory => Some(Ended::NoMemory),
+        Halt::Refused => None,
+    }
+}
+
 /// A node's thread, from where its seat stands up to its end: after the last round, at its stop, or
 /// if it has no memory. `None`: a call was refused for another cause than memory.
 pub fn run_steps<P: Plan, M: Mail<P>, G: Gate, B: Beat>(
@@ -223,18 +265,12 @@ pub fn run_steps<P: Plan, M: Mail<P>, G: Gate, B: Beat>(
     requires planned { IsPlanned P.nodes (M.run mail.now) plan rounds }
     requires together { IsTogether (M.run mail.now) seat node }
     requires place { IsInPlace (P.start plan) rounds seat }
-    ensures { ForSome result.1 (IsEnded (P.start plan) rounds stop result.0) }
+    ensures ended { ForSome result.1 (IsEnded (P.start plan) rounds stop result.0) }
+    ensures passed { (result.1 ≡ Some Ended.Done)
+        → IsNotPassed stop seat.steps (P.start plan (rounds + 1)) }
 {
-    while node.round() <= rounds {
-        if is_stop(stop, seat.steps()) {
-            return (seat, Some(Ended::Stopped));
-        }
-        beat.next(seat.steps());
-        match step(mail, gate, beat, plan, &mut seat, &mut node) {
-            Ok(()) => {}
-            Err(Halt::NoMemory) => return (seat, Some(Ended::NoMemory)),
-            Err(Halt::Refused) => return (seat, None),
-        }
+    match take_steps(mail, gate, beat, plan, rounds, stop, &mut seat, &mut node) {
+        Ok(ended) => (seat, Some(ended)),
+        Err(halt) => (seat, end_of(halt)),
     }
-    (seat, Some(Ended::Done))
 }

@@ -1,4 +1,6 @@
 //! What the threads of a run wait by.
+ghost use Rattle.std.specs.Prelude.{◌≡◌};
+
 use crate::body::Beat;
 use crate::progress::Progress;
 use round_lang::NoMemory;
@@ -185,7 +187,9 @@ impl Clock {
             .wait_while(rt, count, |it| it.stepped < it.running);
     }
 
-    pub(crate) fn pace(&self) -> Pace {
+    pub(crate) fn pace(&self) -> Pace
+        ensures { result ≡ self.now.pace }
+    {
         self.pace
     }
 }

@@ -1,11 +1,13 @@
 //! What the network knows to be in flight.
-ghost use Rattle.std.specs.Prelude.{◌≡◌, ◌<◌, ◌≤◌, ◌∷◌, ◌++◌, [], OnErr, OnOk, insert, length};
-ghost use Rattle.std.specs.Prelude.{remove};
+ghost use Rattle.std.specs.Prelude.{◌≡◌, ◌<◌, ◌≤◌, ◌∷◌, ◌++◌, [], IfSome, OnErr, OnOk, insert};
+ghost use Rattle.std.specs.Prelude.{length, remove, slice_get};
+ghost use Rattle.node_threads.specs.Flights.{AreCopies, IsNoted};
 
+use policies::Choice;
 use round_lang::NoMemory;
 use std::alloc::Global;
 use std::marker::Model;
-use step_machine::InFlight;
+use step_machine::{Event, InFlight};
 
 /// How many entries must be gone before their room is given back.
 const FEWEST: usize = 64;
@@ -77,6 +79,29 @@ impl Flight {
         }
     }
 
+    /// Notes what is in flight after an event that came of a choice.
+    pub(crate) fn note(&mut self, choice: Choice, event: Event) -> Result<(), NoMemory>
+        ensures noted { OnOk result (IsNoted choice event self.old self.new) }
+        ensures err { OnErr result (self.new ≡ self.old) }
+    {
+        match (choice, event) {
+            (Choice::Copy(place), Event::Copy(name)) if place < self.messages().len() => {
+                let messages = self.messages();
+                let copied = InFlight {
+                    name,
+                    ..messages[place]
+                };
+                let after = end_of_copies(messages, place);
+                self.insert(after, copied)?;
+            }
+            (Choice::Release(place) | Choice::Drop(place), _) if place < self.messages().len() => {
+                self.remove(place);
+            }
+            _ => {}
+        }
+        Ok(())
+    }
+
     /// Gives room back once half of the entries are gone.
     fn reclaim(&mut self)
         ensures { self.new ≡ self.old }
@@ -88,4 +113,19 @@ impl Flight {
             self.gone = 0;
         }
     }
+}
+
+/// The end of the entries from a place on that are copies of one message.
+fn end_of_copies(messages: &[InFlight], place: usize) -> usize
+    requires { place < length messages.now }
+    ensures copies { IfSome (slice_get messages.now place)
+        (λ message. AreCopies messages.now message.serial place result) }
+    ensures high { result ≤ length messages.now }
+{
+    let serial = messages[place].serial;
+    let mut end = place + 1;
+    while end < messages.len() && messages[end].serial == serial {
+        end += 1;
+    }
+    end
 }

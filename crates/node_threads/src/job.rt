@@ -2,9 +2,11 @@
 ghost use Rattle.round_lang.specs.contracts.formula.Formula as tree;
 ghost use Rattle.std.specs.Coded.{codes};
 ghost use Rattle.std.specs.Option.{ForSome};
-ghost use Rattle.std.specs.Prelude.{◌≡◌, IfSome};
+ghost use Rattle.std.specs.Prelude.{◌≡◌, ◌+◌, IfSome, Some};
 ghost use Rattle.round_meaning.specs.Setups.{IsLawful};
-ghost use Rattle.node_threads.specs.Bodies.{IsEnded, IsInPlace, IsPlanned, IsTogether};
+ghost use Rattle.node_threads.specs.Bodies.{IsEnded, IsInPlace, IsNotPassed, IsPlanned};
+ghost use Rattle.node_threads.specs.Bodies.{IsTogether};
+ghost use Rattle.node_threads.specs.declared.ended.Ended.TheVariants.{Done};
 
 use crate::body::{Beat, Halt, run_steps};
 use crate::clock::{Clock, ClockBeat};
@@ -29,6 +31,7 @@ pub(crate) struct Job<'a, P: Plan> {
     ghost planned: { IsPlanned P.nodes post.now plan rounds },
     ghost paired: { IsTogether post.now seat node } by { Prim.hlevel (codes, tree.the_row.coded) },
     ghost place: { IsInPlace (P.start plan) rounds seat },
+    ghost first: { seat.steps ≡ 0 },
 }
 
 /// The seat of a thread that ended, and how it did. `None`: a call was refused for another cause
@@ -41,6 +44,7 @@ pub(crate) struct ThreadEnd<P: Plan> {
     seat: Seat,
     ended: Option<Ended>,
     ghost true_end: { ForSome ended (IsEnded (P.start plan) rounds stop seat) },
+    ghost passed: { (ended ≡ Some Done) → IsNotPassed stop 0 (P.start plan (rounds + 1)) },
 }
 
 impl<'a, P: Plan> Job<'a, P> {
@@ -113,7 +117,9 @@ impl<P: Plan> ThreadEnd<P> {
     /// The seat and its end, if they are of this plan, these rounds and this stop, and no
     /// call was refused.
     pub(crate) fn into_parts(self, plan: P, rounds: u32, stop: Option<u32>) -> Option<(Seat, Ended)>
-        ensures { IfSome result (λ r. IsEnded (P.start plan) rounds stop r.0 r.1) }
+        ensures ended { IfSome result (λ r. IsEnded (P.start plan) rounds stop r.0 r.1) }
+        ensures passed { IfSome result (λ r. (r.1 ≡ Done)
+            → IsNotPassed stop 0 (P.start plan (rounds + 1))) }
     {
         let ThreadEnd {
             plan: own_plan,

@@ -1,10 +1,12 @@
 //! The network's thread.
-ghost use Rattle.std.specs.Prelude.{◌≡◌, ◌+◌, ◌-◌, ◌^◌, ◌<◌, ◌≤◌, ◌++◌, ◌∷◌, [], IfOk, IfSome};
-ghost use Rattle.std.specs.Prelude.{OnErr, OnOk, Option, length, min, slice_get};
+ghost use Rattle.std.specs.Prelude.{◌≡◌, ◌+◌, ◌-◌, ◌^◌, ◌≤◌, ◌++◌, ◌∷◌, [], Bool, IfOk};
+ghost use Rattle.std.specs.Prelude.{OnErr, OnOk, Option, None, min};
 ghost use Rattle.locked_buffers.specs.Commits.{told_with};
 ghost use Rattle.round_meaning.specs.Setups.{max_rounds};
 ghost use Rattle.node_threads.specs.Choices.{ComesToInOne, IsCopyInOne, halt_of};
-ghost use Rattle.node_threads.specs.Flights.{AreCopies, IsNoted, sent_as};
+ghost use Rattle.node_threads.specs.Flights.{sent_as};
+ghost use Rattle.node_threads.specs.Turns.{HasLearnt, HasRun, IsAskedFor, IsDone, IsTurn};
+ghost use Rattle.node_threads.specs.Turns.{RunsByTurns, tick_in, time_of};
 
 use crate::body::Halt;
 use crate::clock::Clock;
@@ -47,22 +49,8 @@ impl From<RelayFault> for Halt {
     }
 }
 
-/// The end of the entries from a place on that are copies of one message.
-fn end_of_copies(messages: &[InFlight], place: usize) -> usize
-    requires { place < length messages.now }
-    ensures copies { IfSome (slice_get messages.now place)
-        (λ message. AreCopies messages.now message.serial place result) }
-    ensures high { result ≤ length messages.now }
-{
-    let serial = messages[place].serial;
-    let mut end = place + 1;
-    while end < messages.len() && messages[end].serial == serial {
-        end += 1;
-    }
-    end
-}
-
 impl<'a, P: Plan> Network<'a, P> {
+    /// A network that knows of no message.
     pub(crate) fn new(
         alloc: Global,
         post: &'a Post<P>,
@@ -72,6 +60,10 @@ impl<'a, P: Plan> Network<'a, P> {
     ) -> Network<'a, P>
         requires same { post.now.setup ≡ setup.now }
         requires few { setup.now.rounds ≤ max_rounds }
+        ensures flight { result.flight ≡ [] }
+        ensures known { result.known ≡ 0 }
+        ensures plan { result.plan ≡ plan }
+        ensures relay { result.relay ≡ relay }
     {
         Network {
             post,
@@ -86,14 +78,24 @@ impl<'a, P: Plan> Network<'a, P> {
 
     /// Learns which messages were sent since it did so last, and how many events are recorded.
     fn learn<R: Wait>(&mut self, rt: &R) -> Result<usize, Halt>
-        ensures { self.new.relay ≡ self.old.relay }
+        ensures learnt { IfOk result (HasLearnt P.start (P.start self.old.plan) (record {
+          flight = self.old.flight;
+          count = self.old.known;
+          told = self.old.relay;
+        }) (record {
+          flight = self.new.flight;
+          count = self.new.known;
+          told = self.new.relay;
+        })) }
+        ensures plan { self.new.plan ≡ self.old.plan }
+        ensures relay { self.new.relay ≡ self.old.relay }
     {
+        self.sent.clear();
         let events = self.post.sent_since(rt, self.known, &mut self.sent)?;
         for place in 0..self.sent.len() {
             let name = self.sent[place];
             self.add(name)?;
         }
-        self.sent.clear();
         Ok(events)
     }
 
@@ -157,6 +159,9 @@ impl<'a, P: Plan> Network<'a, P> {
         ensures told { IfOk result (λ answer. self.new.relay
             ≡ told_with self.old.relay event answer) }
         ensures untold { OnErr result (self.new.relay ≡ self.old.relay) }
+        ensures flight { self.new.flight ≡ self.old.flight }
+        ensures known { self.new.known ≡ self.old.known }
+        ensures plan { self.new.plan ≡ self.old.plan }
     {
         let answer = match event {
             Event::Release(name) if is_name(self.setup, name) => {
@@ -173,53 +178,101 @@ impl<'a, P: Plan> Network<'a, P> {
         Ok(answer?)
     }
 
-    /// Notes what is in flight after an event that came of a choice.
-    fn note(&mut self, choice: Choice, event: Event) -> Result<(), Halt>
-        ensures noted { OnOk result (IsNoted choice event self.old.flight self.new.flight) }
-        ensures relay { self.new.relay ≡ self.old.relay }
+    /// Asks the policy once: what it chose, and the event that this comes to; `None` if it comes to
+    /// no event.
+    fn ask<R: Wait, Q: Policy>(
+        &self,
+        rt: &R,
+        policy: &mut Q,
+        now: u32,
+    ) -> Result<Option<(Choice, Event)>, Halt>
+        ensures { IfOk result (IsAskedFor Q.chooses P.start now self.now.flight policy.old
+            policy.new) }
     {
-        match (choice, event) {
-            (Choice::Copy(place), Event::Copy(name)) if place < self.flight.messages().len() => {
-                let messages = self.flight.messages();
-                let copied = InFlight {
-                    name,
-                    ..messages[place]
-                };
-                let after = end_of_copies(messages, place);
-                self.flight.insert(after, copied)?;
-            }
-            (Choice::Release(place) | Choice::Drop(place), _)
-                if place < self.flight.messages().len() => {
-                self.flight.remove(place);
-            }
-            _ => {}
+        let Some(choice) = policy.choose(now, self.flight.messages()) else {
+            return Ok(None);
+        };
+        match self.event_of(rt, choice)? {
+            Some(event) => Ok(Some((choice, event))),
+            None => Ok(None),
         }
+    }
+
+    /// Makes an event that came of a choice, and notes what is in flight after it.
+    fn carry_out<R: Wait>(&mut self, rt: &R, choice: Choice, event: Event) -> Result<(), Halt>
+        ensures done { OnOk result ((answer : Bool) × IsDone choice event answer (record {
+          flight = self.old.flight;
+          count = self.old.known;
+          told = self.old.relay;
+        }) (record {
+          flight = self.new.flight;
+          count = self.new.known;
+          told = self.new.relay;
+        })) }
+        ensures plan { self.new.plan ≡ self.old.plan }
+    {
+        let _answer = self.act(rt, event)?;
+        self.flight.note(choice, event)?;
         Ok(())
     }
 
-    /// Asks the policy until it chooses nothing. Without a tick `now` is the number of events that
-    /// were recorded when the network last looked, with its own since.
+    /// Asks the policy until it chooses nothing. Without a tick it's told how many events were
+    /// recorded when the network last looked, with its own since.
     fn take_turn<R: Wait, Q: Policy>(
         &mut self,
         rt: &R,
         policy: &mut Q,
         tick: Option<u32>,
-    ) -> Result<(), Halt> {
+    ) -> Result<(), Halt>
+        ensures turn { OnOk result (IsTurn Q.chooses P.start (P.start self.old.plan) tick policy.old
+            (record {
+              flight = self.old.flight;
+              count = self.old.known;
+              told = self.old.relay;
+            }) policy.new (record {
+              flight = self.new.flight;
+              count = self.new.known;
+              told = self.new.relay;
+            })) }
+        ensures plan { OnOk result (self.new.plan ≡ self.old.plan) }
+    {
         let mut events = self.learn(rt)?;
         for _ in rt.forever() {
-            let now = match tick {
-                Some(tick) => tick,
-                None => events.min(u32::MAX as usize) as u32,
-            };
-            let Some(choice) = policy.choose(now, self.flight.messages()) else {
+            let Some((choice, event)) = self.ask(rt, policy, now_of(tick, events))? else {
                 return Ok(());
             };
-            let Some(event) = self.event_of(rt, choice)? else {
-                return Ok(());
-            };
-            let _answer = self.act(rt, event)?;
-            self.note(choice, event)?;
+            self.carry_out(rt, choice, event)?;
             events = events.saturating_add(1);
+        }
+        unreachable!()
+    }
+
+    /// Takes its turns until every node has ended.
+    fn take_turns<R: Wait, Q: Policy>(
+        &mut self,
+        rt: &R,
+        clock: &Clock,
+        policy: &mut Q,
+    ) -> Result<(), Halt>
+        ensures { OnOk result (RunsByTurns Q.chooses P.start (P.start self.old.plan) clock.now.pace
+            policy.old (record {
+              flight = self.old.flight;
+              count = self.old.known;
+              told = self.old.relay;
+            }) policy.new (record {
+              flight = self.new.flight;
+              count = self.new.known;
+              told = self.new.relay;
+            })) }
+    {
+        let mut tick: u32 = 0;
+        for _ in rt.forever() {
+            if !clock.begin_turn(rt) {
+                return Ok(());
+            }
+            self.take_turn(rt, policy, tick_in(clock.pace(), tick))?;
+            clock.end_turn(rt);
+            tick = tick.saturating_add(1);
         }
         unreachable!()
     }
@@ -230,26 +283,40 @@ impl<'a, P: Plan> Network<'a, P> {
         rt: &R,
         clock: &Clock,
         mut policy: Q,
-    ) -> (Relay, Option<Halt>) {
-        let mut tick: u32 = 0;
-        let mut halt = None;
-        for _ in rt.forever() {
-            if !clock.begin_turn(rt) {
-                break;
-            }
-            let now = match clock.pace() {
-                Pace::Free => None,
-                Pace::Ticks => Some(tick),
-            };
-            if let Err(fault) = self.take_turn(rt, &mut policy, now) {
-                halt = Some(fault);
-                break;
-            }
-            clock.end_turn(rt);
-            tick = tick.saturating_add(1);
-        }
+    ) -> (Relay, Option<Halt>)
+        ensures { result.1 ≡ None → HasRun Q.chooses P.start (P.start self.entry.plan)
+            clock.now.pace policy (record {
+              flight = self.entry.flight;
+              count = self.entry.known;
+              told = self.entry.relay;
+            }) result.0 }
+    {
+        let halt = match self.take_turns(rt, clock, &mut policy) {
+            Ok(()) => None,
+            Err(halt) => Some(halt),
+        };
         clock.close(rt);
         let Network { relay, .. } = self;
         (relay, halt)
+    }
+}
+
+/// The tick of a turn, if there are ticks.
+fn tick_in(pace: Pace, tick: u32) -> Option<u32>
+    ensures { result ≡ tick_in pace tick }
+{
+    match pace {
+        Pace::Free => None,
+        Pace::Ticks => Some(tick),
+    }
+}
+
+/// The time that a policy is told: the tick, or without one the number of events.
+fn now_of(tick: Option<u32>, events: usize) -> u32
+    ensures { result ≡ time_of tick events }
+{
+    match tick {
+        Some(tick) => tick,
+        None => events.min(u32::MAX as usize) as u32,
     }
 }

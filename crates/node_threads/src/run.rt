@@ -1,5 +1,6 @@
 //! Runs by threads.
-ghost use Rattle.std.specs.Prelude.{◌≡◌, ◌≢◌, ◌∷◌, ◌++◌, ◌⊎◌, ◌↔◌, [], All, Err, IfErr, IfOk, OnOk};
+ghost use Rattle.std.specs.Prelude.{◌≡◌, ◌≢◌, ◌+◌, ◌∷◌, ◌++◌, ◌⊎◌, ◌↔◌, [], All, Err, IfErr, IfOk};
+ghost use Rattle.std.specs.Prelude.{None, OnOk, Some};
 ghost use Rattle.adversary.specs.Driving.{ClosedAreDue};
 ghost use Rattle.locked_buffers.specs.Runs.{IsBookOfRun};
 ghost use Rattle.round_meaning.specs.Agreement.{RunsAlgorithm1};
@@ -7,10 +8,11 @@ ghost use Rattle.round_meaning.specs.Setups.{IsLawful};
 ghost use Rattle.step_book.specs.Agreed.{JournalAgrees};
 ghost use Rattle.step_book.specs.Log.{mark_in, waiting_in};
 ghost use Rattle.node_threads.specs.Bodies.{SeatsEnded};
-ghost use Rattle.node_threads.specs.Ends.{HasOneDecision, HaveEnded, IsFitForThreads};
-ghost use Rattle.node_threads.specs.Faults.{IsOfThreads, with_least};
+ghost use Rattle.node_threads.specs.Ends.{AreBehind, HasOneDecision, HaveEnded, IsFitForThreads};
+ghost use Rattle.node_threads.specs.Faults.{IsOfThreads, told_fault, with_least};
 ghost use Rattle.node_threads.specs.declared.ended.Ended.TheVariants as ended;
 
+use crate::body::Halt;
 use crate::clock::Clock;
 use crate::ended::Ended;
 use crate::fault::ThreadFault;
@@ -112,17 +114,10 @@ where
                 }
             }
         }
-        let relay = match network {
-            Ok(network) => {
-                let (relay, halt) = network.join(rt);
-                if let Some(halt) = halt {
-                    fault = with_fault(fault, ThreadFault::from(halt));
-                }
-                Some(relay)
-            }
+        let network = match network {
+            Ok(network) => Some(network.join(rt)),
             Err(_) => {
                 clock.close(rt);
-                fault = with_fault(fault, ThreadFault::NoThread);
                 None
             }
         };
@@ -131,12 +126,30 @@ where
                 fault = with_fault(fault, ThreadFault::NoMemory);
             }
         }
-        match (fault, relay) {
-            (Some(fault), _) => Err(fault),
-            (None, Some(relay)) => Ok(Joined { relay, thread_ends }),
-            (None, None) => Err(ThreadFault::NoThread),
-        }
+        told(fault, network, thread_ends)
     })
+}
+
+/// What is told of joined threads, by the fault that came up meanwhile and by what the network gave
+/// back if it was started: the least of all faults, if there is one.
+fn told<P: Plan>(
+    fault: Option<ThreadFault>,
+    network: Option<(Relay, Option<Halt>)>,
+    thread_ends: Vec<ThreadEnd<P>>,
+) -> Result<Joined<P>, ThreadFault>
+    ensures fault { IfErr result (λ least. told_fault fault network ≡ Some least) }
+    ensures none { OnOk result (told_fault fault network ≡ None) }
+    ensures relay { IfOk result (λ joined. network ≡ Some (joined.relay, None)) }
+    ensures thread_ends { IfOk result (λ joined. joined.thread_ends ≡ thread_ends) }
+{
+    match (fault, network) {
+        (None, Some((relay, None))) => Ok(Joined { relay, thread_ends }),
+        (Some(fault), Some((_, None))) => Err(fault),
+        (Some(fault), Some((_, Some(halt)))) => Err(fault.or(ThreadFault::from(halt))),
+        (None, Some((_, Some(halt)))) => Err(ThreadFault::from(halt)),
+        (Some(fault), None) => Err(fault.or(ThreadFault::NoThread)),
+        (None, None) => Err(ThreadFault::NoThread),
+    }
 }
 
 /// The seats, and how the thread of each ended.
@@ -147,7 +160,9 @@ fn seats_of<P: Plan>(
     stops: &[Stop],
     thread_ends: Vec<ThreadEnd<P>>,
 ) -> Result<(Vec<Seat>, Vec<Ended>), ThreadFault>
-    ensures { IfOk result (λ o. SeatsEnded (P.start plan) rounds stops.now o.0.items o.1.items) }
+    ensures ended { IfOk result (λ o. SeatsEnded (P.start plan) rounds stops.now o.0.items
+        o.1.items) }
+    ensures behind { IfOk result (λ o. AreBehind (P.start plan (rounds + 1)) stops.now o.1.items) }
 {
     let mut seats = Vec::new(alloc);
     let mut ends = Vec::new(alloc);
@@ -188,6 +203,7 @@ fn journal_of<P: Plan>(
     requires rounds { post.setup.rounds ≡ rounds }
     ensures run { IfOk result (λ o. IsBookOfRun post o.0) }
     ensures ends { IfOk result (λ o. HaveEnded (P.start post.plan) o.0.log stops.now o.1.items) }
+    ensures behind { IfOk result (λ o. AreBehind (P.start plan (rounds + 1)) stops.now o.1.items) }
     ensures agrees { IfOk result (λ o. JournalAgrees (P.start o.0.plan) o.0.log
         (mark_in (P.start o.0.plan) o.0.log) (waiting_in (P.start o.0.plan) o.0.log)) }
 {
@@ -227,6 +243,8 @@ where
       setup = setup.now;
     }) o.0) }
     ensures ends { IfOk result (λ o. HaveEnded (P.start plan) o.0.log stops.now o.1.items) }
+    ensures behind { IfOk result (λ o. AreBehind (P.start plan (setup.now.rounds + 1)) stops.now
+        o.1.items) }
     ensures agrees { IfOk result (λ o. JournalAgrees (P.start o.0.plan) o.0.log
         (mark_in (P.start o.0.plan) o.0.log) (waiting_in (P.start o.0.plan) o.0.log)) }
 {
@@ -282,6 +300,8 @@ where
     ensures setup { IfOk result (λ o. o.0.log.setup ≡ setup.now) }
     ensures plan { IfOk result (λ o. o.0.plan ≡ plan) }
     ensures ends { IfOk result (λ o. HaveEnded (P.start plan) o.0.log stops.now o.1.items) }
+    ensures behind { IfOk result (λ o. AreBehind (P.start plan (setup.now.rounds + 1)) stops.now
+        o.1.items) }
     ensures closed { IfOk result (λ o. All (λ e. e ≢ ended.NoMemory) o.1.items
         → ClosedAreDue (P.start plan) o.0.log) }
     ensures agreement { IfOk result (λ o. RunsAlgorithm1 program.now setup.now

@@ -5,7 +5,7 @@ use std::thread;
 use step_machine::Name;
 
 /// How often a held thread looks, and yields the processor, before it goes on.
-const TURNS: u32 = 1_000_000;
+pub const TURNS: u32 = 1_000_000;
 
 /// Of four nodes, holds node 0 before its message to node 1 until node 2 has sent its own to node
 /// 1; node 2 before its message to itself until node 0 has the lock of node 1's buffer; node 0

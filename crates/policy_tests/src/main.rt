@@ -9,7 +9,9 @@
 //! policy_tests run VALUES INPUTS ROUNDS RECEIVES CORRECT TICKS POLICY ..
 //! policy_tests threads VALUES POLICY ..
 //! policy_tests tail VALUES POLICY ..
+//! policy_tests events VALUES POLICY ..
 //! policy_tests overlap
+//! policy_tests watched POLICY ..
 //! ```
 //!
 //! With `run`, standard output has the schedule of a run of `gather` in which the policy is asked,
@@ -18,7 +20,9 @@
 //! With `threads`, standard input is the thread setup of a run of `gather` by threads. Standard
 //! output has how each thread ended, the report, and whether the run's trace has the same report
 //! as a schedule; or `refused` with the fault's number. With `tail` it has of the report the lines
-//! of the nodes alone. With `overlap` a gate holds some threads until others have passed.
+//! of the nodes alone, and with `events` these and the run's schedule. With `overlap` a gate holds
+//! some threads until others have passed, and with `watched` until the network has done two choices
+//! of the policy.
 //!
 //! Else each line of standard input is a call: the tick, and then the messages in flight, each as
 //! its name, `sent_at` and `serial`, `0.1.1.0.5.7`. A line of standard output has the choice:
@@ -31,6 +35,7 @@ mod gate;
 mod reading;
 mod running;
 mod threads;
+mod watch;
 
 use chosen::Chosen;
 use policies::{Choice, Policy};
@@ -43,7 +48,7 @@ use std::sync::Wait;
 use std::thread::Threads;
 use std::{env, io};
 use test_kit::{Fault, cut, number};
-use threads::{Shown, overlap, threads};
+use threads::{Shown, overlap, threads, watched};
 
 fn show(out: &mut String, choice: Option<Choice>) -> Result<(), Fault> {
     match choice {
@@ -81,7 +86,9 @@ fn answer_all<R: Threads + Wait + Sync>(
         "run" => schedule(alloc, rest),
         "threads" => threads(rt, alloc, Shown::Whole, rest, input),
         "tail" => threads(rt, alloc, Shown::Tail, rest, input),
+        "events" => threads(rt, alloc, Shown::Events, rest, input),
         "overlap" => overlap(rt, alloc, input),
+        "watched" => watched(rt, alloc, rest, input),
         _ => call_all(alloc, Chosen::read(alloc, words)?, input),
     }
 }

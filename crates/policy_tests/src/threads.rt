@@ -4,13 +4,15 @@ ghost use Rattle.std.specs.Prelude.{◌≡◌};
 use crate::chosen::Chosen;
 use crate::gate::Holder;
 use crate::running::gather;
+use crate::watch::{Watch, Watched};
 use adversary::{RunFault, run_schedule};
 use locked_buffers::{Gate, OpenGate};
 use node_threads::{Ended, run_threads};
 use omission_explainer::{explain, write_report};
+use policies::{Policy, Prompt};
 use round_check::Checked;
 use round_meaning::Setup;
-use schedule_text::{Pace, ScheduleFault, Stop, ThreadSetup, read_threads};
+use schedule_text::{Pace, ScheduleFault, Stop, ThreadSetup, read_threads, write_stored_schedule};
 use slot_plans::{Growing, Known, Plan, PlanKind};
 use std::alloc::Global;
 use std::io::Write;
@@ -27,6 +29,8 @@ pub enum Shown {
     Whole,
     /// Of the report the lines of the nodes alone.
     Tail,
+    /// How each thread ended, and the run's schedule with the lines of the nodes.
+    Events,
 }
 
 /// A run of threads: its program, its setup and what is asked of it.
@@ -34,6 +38,7 @@ pub enum Shown {
 struct Asked<'a> {
     program: &'a Checked,
     setup: &'a Setup,
+    plan: PlanKind,
     pace: Pace,
     stops: &'a [Stop],
     shown: Shown,
@@ -67,14 +72,19 @@ fn number_of(fault: RunFault) -> &'static str {
 impl<'a> Asked<'a> {
     /// The answer on a run under a plan: the ends, the report, and whether the trace, run as a
     /// schedule, has the same report.
-    fn answer<R: Threads + Wait + Sync, P: Plan + Send + Sync, G: Gate + Sync>(
+    fn answer<R, P, Q, G>(
         &self,
         rt: &R,
         alloc: Global,
         plan: P,
-        policy: Chosen,
+        policy: Q,
         gate: &G,
     ) -> Result<String, Fault>
+    where
+        R: Threads + Wait + Sync,
+        P: Plan + Send + Sync,
+        Q: Policy + Send + Drop,
+        G: Gate + Sync,
         requires { P.nodes plan ≡ self.now.setup.now.nodes }
     {
         let run = run_threads(
@@ -107,6 +117,11 @@ impl<'a> Asked<'a> {
         let mut out = String::new(alloc);
         for end in ends {
             writeln!(out, "{}", ended(*end))?;
+        }
+        if self.shown == Shown::Events {
+            let events = journal.book().trace();
+            let trace = write_stored_schedule(alloc, self.setup, self.plan, events)?;
+            out.push_str(trace.as_str())?;
         }
         let text = report(alloc, journal)?;
         self.add_report(text.as_str(), &mut out)?;
@@ -173,6 +188,7 @@ pub fn threads<R: Threads + Wait + Sync>(
     let asked = Asked {
         program: &program,
         setup: &setup,
+        plan,
         pace,
         stops: &stops,
         shown,
@@ -189,12 +205,14 @@ pub fn threads<R: Threads + Wait + Sync>(
     }
 }
 
-/// Four nodes under a gate that holds some of them until others have passed: how each ended, and
-/// whether no hold was given up.
-pub fn overlap<R: Threads + Wait + Sync>(
+/// A run under a gate, with one receive a round.
+fn held<R: Threads + Wait + Sync, Q: Policy + Send + Drop, G: Gate + Sync>(
     rt: &R,
     alloc: Global,
+    shown: Shown,
     input: &str,
+    policy: Q,
+    gate: &G,
 ) -> Result<String, Fault> {
     let program = gather(alloc, "4")?;
     let ThreadSetup {
@@ -207,16 +225,47 @@ pub fn overlap<R: Threads + Wait + Sync>(
     let asked = Asked {
         program: &program,
         setup: &setup,
+        plan: PlanKind::Known(1),
         pace,
         stops: &stops,
-        shown: Shown::Tail,
+        shown,
     };
-    let gate = Holder::new();
-    let mut out = asked.answer(rt, alloc, plan, Chosen::Prompt(policies::Prompt), &gate)?;
-    out.push_str(if gate.gave_up() {
+    asked.answer(rt, alloc, plan, policy, gate)
+}
+
+/// Whether no hold of a gate was given up.
+fn told_of_holds(gave_up: bool) -> &'static str {
+    if gave_up {
         "a hold was given up\n"
     } else {
         "each hold ended\n"
-    })?;
+    }
+}
+
+/// Four nodes under a gate that holds some of them until others have passed: how each ended, and
+/// whether no hold was given up.
+pub fn overlap<R: Threads + Wait + Sync>(
+    rt: &R,
+    alloc: Global,
+    input: &str,
+) -> Result<String, Fault> {
+    let gate = Holder::new();
+    let mut out = held(rt, alloc, Shown::Tail, input, Prompt, &gate)?;
+    out.push_str(told_of_holds(gate.gave_up()))?;
+    Ok(out)
+}
+
+/// Two nodes under a gate that holds them until the network has followed its policy, and whether no
+/// hold was given up.
+pub fn watched<R: Threads + Wait + Sync>(
+    rt: &R,
+    alloc: Global,
+    words: &[String],
+    input: &str,
+) -> Result<String, Fault> {
+    let watch = Watch::new();
+    let policy = Watched::new(Chosen::read(alloc, words)?, &watch);
+    let mut out = held(rt, alloc, Shown::Whole, input, policy, &watch)?;
+    out.push_str(told_of_holds(watch.gave_up()))?;
     Ok(out)
 }

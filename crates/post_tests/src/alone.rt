@@ -100,13 +100,15 @@ fn run_all<R: Wait, P: Plan>(
     Ok(after)
 }
 
-/// How each node ended, and the run's journal, none if its accounts don't agree.
+/// How each node ended, if it's asked for also in a second run with the seats of another post, and
+/// the run's journal, none if its accounts don't agree.
 fn ended<R: Wait, P: Plan>(
     rt: &R,
     alloc: Global,
     program: &Checked,
     setup: &Setup,
     plan: P,
+    is_again: bool,
 ) -> Result<(String, Option<Journal<P>>), Fault>
     requires lawful { IsLawful program.now.values setup.now }
     requires nodes { P.nodes plan ≡ setup.now.nodes }
@@ -122,6 +124,10 @@ fn ended<R: Wait, P: Plan>(
         has_failed: &has_failed,
     };
     let seats = run_all(alloc, &mail, program, setup, plan, seats, &mut out)?;
+    if is_again {
+        let (_post, others, _relay) = Post::open(alloc, program, setup, plan)?;
+        let _others = run_all(alloc, &mail, program, setup, plan, others, &mut out)?;
+    }
     if has_failed.load(Ordering::SeqCst) {
         return Err(Fault::NoMemory);
     }
@@ -135,11 +141,12 @@ pub fn answer<R: Wait, P: Plan>(
     program: &Checked,
     setup: &Setup,
     plan: P,
+    is_again: bool,
 ) -> Result<String, Fault>
     requires lawful { IsLawful program.now.values setup.now }
     requires nodes { P.nodes plan ≡ setup.now.nodes }
 {
-    let (mut out, journal) = ended(rt, alloc, program, setup, plan)?;
+    let (mut out, journal) = ended(rt, alloc, program, setup, plan, is_again)?;
     match journal {
         Some(journal) => out.push_str(report(alloc, &journal)?.as_str())?,
         None => out.push_str("UNMATCHED\n")?,

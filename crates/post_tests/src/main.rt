@@ -4,6 +4,8 @@
 //! post_tests row SOURCE
 //! post_tests strangers SOURCE
 //! post_tests alone SOURCE
+//! post_tests again SOURCE
+//! post_tests others SOURCE
 //! ```
 //!
 //! SOURCE is the file of a program, or `gather:K` for K values. With `row`, standard input is a
@@ -17,13 +19,18 @@
 //!
 //! With `alone`, the nodes of a schedule without events run one after another over calls that
 //! release each message as soon as it was sent. Standard output has how each node ended, and the
-//! report.
+//! report. With `again` each node is run once more from its first step, with the seat of another
+//! post, before the report.
+//!
+//! With `others`, node 0 of a schedule without events sends to itself and hears it. Its round is
+//! closed with the work of another node, and then with its own. Standard output has the answers.
 #![tactic(auto)]
 
 ghost use Rattle.std.specs.Prelude.{◌≡◌};
 
 mod alone;
 mod forwarding;
+mod others;
 mod recorder;
 mod row;
 
@@ -78,7 +85,9 @@ fn answer_planned<R: Wait, P: Plan>(
     match word {
         "row" => row::answer(rt, alloc, program, schedule, plan),
         "strangers" => row::answer_of_strangers(rt, alloc, program, schedule, plan),
-        "alone" => alone::answer(rt, alloc, program, &schedule.setup, plan),
+        "alone" => alone::answer(rt, alloc, program, &schedule.setup, plan, false),
+        "again" => alone::answer(rt, alloc, program, &schedule.setup, plan, true),
+        "others" => others::answer(rt, alloc, program, &schedule.setup, plan),
         _ => Err(Fault::Unreadable),
     }
 }

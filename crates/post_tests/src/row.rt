@@ -43,7 +43,7 @@ fn write_name(out: &mut String, name: Name) -> Result<(), Fault> {
 }
 
 /// A send step.
-fn send<C: Recorder>(
+pub fn send<C: Recorder>(
     recorder: &mut C,
     node: &mut Node,
     me: u32,
@@ -92,7 +92,7 @@ fn take_all(node: &mut Node, frames: Waiting, out: &mut String) -> Result<(), Fa
 }
 
 /// A receive step.
-fn receive<C: Recorder>(
+pub fn receive<C: Recorder>(
     recorder: &mut C,
     node: &mut Node,
     me: u32,
@@ -118,7 +118,7 @@ fn receive<C: Recorder>(
 }
 
 /// The end of the node's due round.
-fn close<C: Recorder>(
+pub fn close<C: Recorder>(
     recorder: &mut C,
     node: &mut Node,
     me: u32,
@@ -187,7 +187,7 @@ fn step<P: Plan, C: Recorder>(
 }
 
 /// An event of the network.
-fn happen<C: Recorder>(
+pub fn happen<C: Recorder>(
     recorder: &mut C,
     setup: &Setup,
     event: Event,

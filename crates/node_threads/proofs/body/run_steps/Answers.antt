@@ -1,36 +1,14 @@
-use Rattle.std.proofs.Common.{◌≡◌, ◌≤◌, Some, ap, arith, ◌∙◌}
-use Rattle.locked_buffers.specs.Seats.{round_by}
+use Rattle.std.proofs.Common.{Option, subst, sym}
+use Rattle.std.specs.Option.{ForSome}
 use Rattle.node_threads.specs.Bodies.{IsEnded}
-use Rattle.node_threads.specs.declared.ended.Ended.TheVariants.{Stopped}
-use Rattle.node_threads.proofs.Placed.{fewer, for_some, stopped_there}
+use Rattle.node_threads.specs.declared.ended.Ended.{Ended}
+use Rattle.node_threads.proofs.Placed.{ended_stuck}
 use Rattle.node_threads.proofs.body.run_steps.Goals as goal
 
-pub returns-then-is_stop : goal.returns-then-is_stop
-returns-then-is_stop g c =
-    let p = c.args.plan in
-    let a = c.loop-plan.seat in
-    let l : round_by a ≤ c.args.rounds = omega (
-      arith,
-      c.loop-plan-test.true,
-      c.round.ensures,
-      c.loop-plan.invariant.together.round,
-    ) in
-    let e : c.args.stop ≡ Some a.steps = c.is_stop.ensures.0 c.if-is_stop.true
-    ∙ ap Some c.steps.ensures in
-    for_some (IsEnded (g.P.Plan.start p) c.args.rounds c.args.stop a) Stopped
-    (stopped_there (g.P.Plan.start p) (g.P.Plan.receives p) (g.P.Plan.nodes p)
-    (g.met.P.Plan.laws p) c.args.rounds c.args.stop a c.loop-plan.invariant.place l e)
-
-pub loop-plan-smaller : goal.loop-plan-smaller
-loop-plan-smaller g c =
-    let p = c.args.plan in
-    let a = c.loop-plan.seat in
-    let l : round_by a ≤ c.args.rounds = omega (
-      arith,
-      c.loop-plan-test.true,
-      c.round.ensures,
-      c.loop-plan.invariant.together.round,
-    ) in
-    fewer (g.P.Plan.start p) (g.P.Plan.receives p) (g.P.Plan.nodes p)
-    (g.met.P.Plan.laws p) c.args.rounds a c.step.new.seat c.loop-plan.invariant.place l
-    c.in-Ok.ensures.steps
+pub returns-clause-ended : goal.returns-clause-ended
+returns-clause-ended g c =
+    let start = g.P.Plan.start c.args.plan in
+    let a = c.take_steps.new.seat in
+    subst (λ (o : Option Ended). ForSome o (IsEnded start c.args.rounds c.args.stop a))
+    (sym c.end_of.ensures)
+    (ended_stuck start c.args.rounds c.args.stop a c.in-Err.halt)

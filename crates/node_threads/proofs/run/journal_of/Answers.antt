@@ -15,7 +15,7 @@ returns-in-Ok-clause-ends g c =
     let rounds = sym c.requires.rounds
     ∙ sym (ap (λ (s : Setup). s.rounds) c.in-Ok.ensures.run.setup) in
     let ended = subst (λ (p : g.row.P.Denot). SeatsEnded (start p) c.args.rounds stops seats ends)
-    (sym c.requires.plan) c.in_ok-seats.ensures in
+    (sym c.requires.plan) c.in_ok-seats.ensures.ended in
     let agree = subst (λ (p : g.row.P.Denot). AccountsAgree
     (start p) journal seats c.args.joined.relay) c.in-Ok.ensures.run.plan
     c.in-Ok.ensures.agree in

@@ -26,4 +26,5 @@ invariant_of-result g c =
           c.in_ok-node.ensures c.node-2.ensures within one;
       place = placed_first (g.P.Plan.start p) (g.P.Plan.receives p) (g.P.Plan.nodes p)
           (g.met.P.Plan.laws p) s.rounds a none one;
+      first = none;
     }

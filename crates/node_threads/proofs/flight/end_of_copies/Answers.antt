@@ -1,6 +1,6 @@
 use Rattle.std.proofs.Common.{arith, inl, inr}
 use Rattle.node_threads.proofs.Copies.{all_copies, more_copies, no_copy}
-use Rattle.node_threads.proofs.network.end_of_copies.Goals as goal
+use Rattle.node_threads.proofs.flight.end_of_copies.Goals as goal
 
 pub loop-end-preserved : goal.loop-end-preserved
 loop-end-preserved c =

@@ -1,6 +1,6 @@
 use Rattle.std.proofs.Common.{◌-◌, ◌<◌, ◌≤◌, ℕ, length}
 use Rattle.node_threads.specs.Flights.{IsCopyAt}
-use Rattle.node_threads.proofs.network.end_of_copies.Given as goal
+use Rattle.node_threads.proofs.flight.end_of_copies.Given as goal
 
 abbrev pub invariant-loop-end : goal.invariant-loop-end
 invariant-loop-end l = record {

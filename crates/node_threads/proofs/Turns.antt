@@ -1,0 +1,177 @@
+-- What the network knows, message by message, and its turns, question by question.
+use Rattle.std.proofs.Common.{
+  ◌≡◌,
+  ◌∙◌,
+  ℕ,
+  suc,
+  ◌+◌,
+  ◌-◌,
+  ◌^◌,
+  ◌≤◌,
+  ◌++◌,
+  [],
+  Bool,
+  List,
+  Option,
+  None,
+  Some,
+  ap,
+  arith,
+  drop,
+  length,
+  min,
+  refl,
+  subst,
+  sym,
+}
+use Rattle.std.proofs.lemmas.List.{append-nil, drop_all}
+use Rattle.adversary.specs.Asking.{Chooses}
+use Rattle.locked_buffers.specs.Runs.{AddsSent}
+use Rattle.policies.specs.declared.policy.Choice.{Choice}
+use Rattle.schedule_text.specs.declared.pace.Pace.{Pace}
+use Rattle.step_machine.specs.declared.event.Event.{Event}
+use Rattle.step_machine.specs.declared.event.Name.{Name}
+use Rattle.node_threads.specs.Flights.{known_with, sent_after}
+use Rattle.node_threads.specs.Turns.{
+  GoesOnByTurns,
+  GoesOnInTurn,
+  HasLearnt,
+  IsAskedFor,
+  IsAskedOnce,
+  IsDone,
+  IsTurn,
+  Known,
+  RunsByTurns,
+  tick_in,
+  time_of,
+}
+
+-- once all names are gone through, all that was sent is known
+pub learnt_all : {P : Type 0} (starts : P → ℕ → ℕ) (start : ℕ → ℕ) (old new : Known)
+    (events place : ℕ) (before sent items : List Name)
+    → AddsSent starts old.count before sent events → before ≡ [] → items ≡ sent
+    → length items ≤ place
+    → new.flight ++ sent_after start new.count (drop place items)
+    ≡ old.flight ++ sent_after start old.count items
+    → known_with new.count (drop place items) ≡ known_with old.count items
+    → new.told ≡ old.told → HasLearnt starts start old new events
+learnt_all starts start old new events place before sent items adds none same all flight count
+    told =
+    let past : drop place items ≡ [] = drop_all place items all in
+    let are : items ≡ drop old.count adds.messages = same ∙ adds.adds
+    ∙ ap (λ ns. ns ++ drop old.count adds.messages) none in
+    record {
+      one = adds.one;
+      messages = adds.messages;
+      are = adds.are;
+      counted = adds.counted;
+      flight = sym (append-nil new.flight)
+          ∙ sym (ap (λ ns. new.flight ++ sent_after start new.count ns) past) ∙ flight
+          ∙ ap (λ ns. old.flight ++ sent_after start old.count ns) are;
+      count = sym (ap (known_with new.count) past) ∙ count ∙ ap (known_with old.count) are;
+      told = told;
+    }
+
+-- a turn that goes on: so many events are known of
+pub record IsInTurn {Q P : Type 0} (chooses : Chooses Q) (starts : P → ℕ → ℕ) (start : ℕ → ℕ)
+    (tick : Option ℕ) (q : Q) (old : Known) (events : ℕ) (p : Q) (now : Known) : Type 0 where
+  pub first : ℕ
+  pub learnt : Known
+  pub learns : HasLearnt starts start old learnt first
+  pub times : ℕ
+  pub goes_on : GoesOnInTurn chooses starts tick first q learnt times p now
+  pub counted : min events (2 ^ 32 - 1) ≡ min (first + times) (2 ^ 32 - 1)
+
+same_time : (tick : Option ℕ) (a b : ℕ) → min a (2 ^ 32 - 1) ≡ min b (2 ^ 32 - 1)
+    → time_of tick a ≡ time_of tick b
+same_time None a b e = e
+same_time (Some t) a b e = refl
+
+module _ {Q P : Type 0} (chooses : Chooses Q) (starts : P → ℕ → ℕ) (start : ℕ → ℕ)
+    (tick : Option ℕ) (q : Q) (old : Known) where
+  pub turn_first : (events : ℕ) (learnt : Known) → HasLearnt starts start old learnt events
+      → IsInTurn chooses starts start tick q old events q learnt
+  unfolding GoesOnInTurn
+  turn_first events learnt h = record {
+    first = events;
+    learnt = learnt;
+    learns = h;
+    times = 0;
+    goes_on = (refl, refl);
+    counted = ap (λ n. min n (2 ^ 32 - 1)) (omega arith);
+  }
+
+  pub turn_next : (events : ℕ) (p r : Q) (w u : Known) (c : Choice) (e : Event)
+      → IsInTurn chooses starts start tick q old events p w
+      → IsAskedOnce chooses starts (time_of tick events) w.flight p r (Some c) (Some e)
+      → (answer : Bool) × IsDone c e answer w u
+      → IsInTurn chooses starts start tick q old (min (events + 1) (2 ^ 64 - 1)) r u
+  unfolding GoesOnInTurn
+  turn_next events p r w u c e h asked done = record {
+    first = h.first;
+    learnt = h.learnt;
+    learns = h.learns;
+    times = suc h.times;
+    goes_on = (
+      p,
+      w,
+      c,
+      e,
+      done.0,
+      h.goes_on,
+      subst (λ n. IsAskedOnce chooses starts n w.flight p r (Some c) (Some e))
+          (same_time tick events (h.first + h.times) h.counted) asked,
+      done.1,
+    );
+    counted = omega (arith, h.counted);
+  }
+
+  pub turn_ends : (events : ℕ) (p r : Q) (w : Known)
+      → IsInTurn chooses starts start tick q old events p w
+      → IsAskedFor chooses starts (time_of tick events) w.flight p r None
+      → IsTurn chooses starts start tick q old r w
+  turn_ends events p r w h asked = record {
+    events = h.first;
+    learnt = h.learnt;
+    learns = h.learns;
+    times = h.times;
+    last = p;
+    goes_on = h.goes_on;
+    answer = asked.0;
+    ends = subst (λ n. IsAskedOnce chooses starts n w.flight p r asked.0 None)
+        (same_time tick events (h.first + h.times) h.counted) asked.1;
+  }
+
+-- so many turns were taken, and this is the tick of the next
+pub record HasTaken {Q P : Type 0} (chooses : Chooses Q) (starts : P → ℕ → ℕ) (start : ℕ → ℕ)
+    (pace : Pace) (q : Q) (old : Known) (tick : ℕ) (r : Q) (new : Known) : Type 0 where
+  pub turns : ℕ
+  pub counted : tick ≡ min turns (2 ^ 32 - 1)
+  pub goes_on : GoesOnByTurns chooses starts start pace q old turns r new
+
+module _ {Q P : Type 0} (chooses : Chooses Q) (starts : P → ℕ → ℕ) (start : ℕ → ℕ) (pace : Pace)
+    (q : Q) (old : Known) where
+  pub taken_first : HasTaken chooses starts start pace q old 0 q old
+  unfolding GoesOnByTurns
+  taken_first = record { turns = 0; counted = refl; goes_on = (refl, refl) }
+
+  pub taken_next : (tick next : ℕ) (p r : Q) (w u : Known)
+      → HasTaken chooses starts start pace q old tick p w
+      → IsTurn chooses starts start (tick_in pace tick) p w r u → next ≡ min (tick + 1) (2 ^ 32 - 1)
+      → HasTaken chooses starts start pace q old next r u
+  unfolding GoesOnByTurns
+  taken_next tick next p r w u h turn more = record {
+    turns = suc h.turns;
+    counted = omega (arith, h.counted, more);
+    goes_on = (
+      p,
+      w,
+      h.goes_on,
+      subst (λ n. IsTurn chooses starts start (tick_in pace n) p w r u) h.counted turn,
+    );
+  }
+
+  pub taken_all : (tick : ℕ) (r : Q) (new : Known)
+      → HasTaken chooses starts start pace q old tick r new
+      → RunsByTurns chooses starts start pace q old r new
+  taken_all tick r new h = record { turns = h.turns; goes_on = h.goes_on }
