@@ -6,6 +6,7 @@ each state and messages sent to it, and level states that leave each node the sa
 gone on from once. So it answers for four nodes too.
 """
 import collections
+import hashlib
 import itertools
 
 import exploring
@@ -13,7 +14,7 @@ import language
 import reading
 
 PROPERTIES = ("agreement", "validity", "final", "termination", "always")
-Asked = collections.namedtuple("Asked", "question names formula is_any")
+Asked = collections.namedtuple("Asked", "question names formula is_any part", defaults=[None])
 
 
 class Turns:
@@ -149,10 +150,28 @@ def first_failures(turns, setup, asked, pattern, inputs):
     return first
 
 
+def question_of(source, setup, options):
+    """Returns the name of a question, of whose inputs a part is asked about: the digest of all else
+    that the answers depend on."""
+    asked = options.get("check", "agreement,validity,final").split(",")
+    checks = " ".join(f"{it} {'yes' if it in asked else 'no'}" for it in PROPERTIES[:-1])
+    always = options.get("always")
+    always = "-" if always is None else f"{len(always.encode())} {always}"
+    text = (
+        f"nodes {setup.nodes} faults {setup.faults} rounds {setup.rounds}"
+        f" fail {options.get('faults', 'none')} clear {int(options.get('clear', 0)) or '-'}"
+        f" hears {int(options.get('hears', 0))} {checks} always {always}\n"
+    )
+    return hashlib.sha256(text.encode() + source).hexdigest()
+
+
 def answers(checked, setup, asked):
     """Returns the first round in which each property that is asked fails in a run."""
     turns, first = Turns(checked, setup, asked.formula), {}
     every = itertools.product(range(checked.values), repeat=setup.nodes)
+    if asked.part:
+        number, count = asked.part
+        every = itertools.islice(every, number - 1, None, count)
     for inputs in every if asked.is_any else [setup.inputs]:
         for pattern in exploring.patterns(setup, asked.question):
             for name, number in first_failures(turns, setup, asked, pattern, inputs).items():

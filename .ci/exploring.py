@@ -160,10 +160,11 @@ def by_tables(algorithm, question, pattern, names, formula=None):
     return first
 
 
-def explore(checked, setup, question, names, is_any, by=by_levels, formula=None):
+def explore(checked, setup, question, names, is_any, by=by_levels, formula=None, part=(1, 1)):
     """Returns the first round in which each property fails, and the inputs and failures of the
-    first run in which it does."""
+    first run in which it does. Of all lists of inputs those of one part are taken."""
     every = itertools.product(range(checked.values), repeat=setup.nodes)
+    every = itertools.islice(every, part[0] - 1, None, part[1])
     first = {}
     for inputs in every if is_any else [setup.inputs]:
         algorithm = reading.Algorithm(checked, setup._replace(inputs=list(inputs)))
@@ -197,6 +198,7 @@ def main():
     options.add_argument("--hears", type=int, default=0)
     options.add_argument("--check", default=",".join(PROPERTIES[:-1]))
     options.add_argument("--always", help="an expression that is to be true of each state")
+    options.add_argument("--part", default="1/1", help="as 2/8, of all lists of inputs")
     options.add_argument("--tables", action="store_true")
     given = options.parse_args()
     nodes, faults, rounds, *inputs = given.numbers
@@ -212,7 +214,8 @@ def main():
     if given.always is not None:
         formula, names = expression(given.always), [*names, "always"]
     by = by_tables if given.tables else by_levels
-    first = explore(checked, setup, question, names, not inputs, by, formula)
+    part = tuple(map(int, given.part.split("/")))
+    first = explore(checked, setup, question, names, not inputs, by, formula, part)
     for name in PROPERTIES:
         if name in names:
             print(name, shown(first.get(name)))

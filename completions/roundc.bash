@@ -3,7 +3,7 @@
 # What a value completes with: that of an option, or of the argument at a place.
 _roundc_choices() {
     case $1 in
-        ' 1') choices='check show run draw threads judge lockstep realise rounds explore help' ;;
+        ' 1') choices='check show run draw threads judge lockstep realise rounds explore together help' ;;
         'check --format' | \
         'run --format' | \
         'judge --format' | \
@@ -31,12 +31,13 @@ _roundc_choices() {
         'rounds --header' | \
         'rounds --omissions' | \
         'explore --header' | \
-        'explore --trace') files=yes ;;
+        'explore --trace' | \
+        'together 1') files=yes ;;
         'run --by' | \
         'rounds --by') choices='round node' ;;
         'explore --inputs') choices='header any' ;;
         'explore --faults') choices='none omission crash' ;;
-        'help 1') choices='check show run draw threads judge lockstep realise rounds explore' ;;
+        'help 1') choices='check show run draw threads judge lockstep realise rounds explore together' ;;
         *) return 1 ;;
     esac
 }
@@ -44,7 +45,8 @@ _roundc_choices() {
 _roundc_options() {
     case $1 in
         '' | \
-        'show') options='-h --help -V --version' ;;
+        'show' | \
+        'together') options='-h --help -V --version' ;;
         'check') options='--format -h --help -V --version' ;;
         'run') options='--schedule --decided --format --by --vars --changed -h --help -V --version' ;;
         'draw') options='--schedule --rounds --nodes --html -h --help -V --version' ;;
@@ -53,7 +55,7 @@ _roundc_options() {
         'lockstep') options='--header --correct --delta --gst --delays --orders --ticks --stop --omissions --delay -h --help -V --version' ;;
         'realise') options='--header --omissions -h --help -V --version' ;;
         'rounds') options='--header --omissions --decided --format --by --vars --changed -h --help -V --version' ;;
-        'explore') options='--header --inputs --faults --clear --hears --check --always --trace --format -h --help -V --version' ;;
+        'explore') options='--header --inputs --faults --clear --hears --part --jobs --sample --seed --check --always --trace --format -h --help -V --version' ;;
         'help') options='' ;;
         *) return 1 ;;
     esac
@@ -98,6 +100,10 @@ _roundc_takes_value() {
         'explore --faults' | \
         'explore --clear' | \
         'explore --hears' | \
+        'explore --part' | \
+        'explore --jobs' | \
+        'explore --sample' | \
+        'explore --seed' | \
         'explore --check' | \
         'explore --always' | \
         'explore --trace' | \
@@ -118,6 +124,7 @@ _roundc_is_command() {
         'realise' | \
         'rounds' | \
         'explore' | \
+        'together' | \
         'help') return 0 ;;
         *) return 1 ;;
     esac

@@ -1,7 +1,7 @@
 # Completions of roundc for fish, made by .ci/manual from what `roundc help` says.
 
 # The options that take a value.
-set -g __roundc_valued --always --by --check --clear --correct --delay --delays --delta --faults --format --gst --header --hears --inputs --nodes --omissions --orders --rounds --schedule --setup --stop --ticks --trace --vars
+set -g __roundc_valued --always --by --check --clear --correct --delay --delays --delta --faults --format --gst --header --hears --inputs --jobs --nodes --omissions --orders --part --rounds --sample --schedule --seed --setup --stop --ticks --trace --vars
 
 # The words of the line behind `roundc`, without options and their values.
 function __roundc_words
@@ -39,6 +39,7 @@ complete -c roundc -n "__roundc_at '' 0" -a lockstep -d 'Writes the schedule of 
 complete -c roundc -n "__roundc_at '' 0" -a realise -d 'Writes a schedule that omits just the messages of a file'
 complete -c roundc -n "__roundc_at '' 0" -a rounds -d 'Runs a program in rounds that omit the messages of a file'
 complete -c roundc -n "__roundc_at '' 0" -a explore -d 'Says whether properties hold of all runs in rounds'
+complete -c roundc -n "__roundc_at '' 0" -a together -d 'Puts the answers of all parts of a search together'
 complete -c roundc -n "__roundc_at '' 0" -a help -d 'Print this message or the help of the given subcommand(s)'
 complete -c roundc -n "__roundc_at '' 0" -s h -l help -d 'Print help'
 complete -c roundc -n "__roundc_at '' 0" -s V -l version -d 'Print version'
@@ -122,6 +123,10 @@ complete -c roundc -n "__roundc_at 'explore'" -l inputs -r -x -a 'header any' -d
 complete -c roundc -n "__roundc_at 'explore'" -l faults -r -x -a 'none omission crash' -d 'How nodes fail: none (by default), omission or crash'
 complete -c roundc -n "__roundc_at 'explore'" -l clear -r -x -d 'The round from which on the network omits nothing; by default there is none'
 complete -c roundc -n "__roundc_at 'explore'" -l hears -r -x -d 'How many nodes each node hears in each round at least; 0 by default'
+complete -c roundc -n "__roundc_at 'explore'" -l part -r -x -d 'Only part I of N of all lists of inputs; N is 65536 at most'
+complete -c roundc -n "__roundc_at 'explore'" -l jobs -r -x -d 'How many jobs search at once, 1 to 256; 1 by default'
+complete -c roundc -n "__roundc_at 'explore'" -l sample -r -x -d 'Only so many runs, made at random'
+complete -c roundc -n "__roundc_at 'explore'" -l seed -r -x -d 'What the runs of a sample are made from; 0 by default'
 complete -c roundc -n "__roundc_at 'explore'" -l check -r -x -d 'Of agreement, validity, final and termination; by default the first three'
 complete -c roundc -n "__roundc_at 'explore'" -l always -r -x -d 'What is to be true of each node\'s state after each round'
 complete -c roundc -n "__roundc_at 'explore'" -l trace -r -F -d 'The file that a run\'s schedule is written to if a property fails'
@@ -130,4 +135,8 @@ complete -c roundc -n "__roundc_at 'explore'" -s h -l help -d 'Print help'
 complete -c roundc -n "__roundc_at 'explore'" -s V -l version -d 'Print version'
 complete -c roundc -n "__roundc_at 'explore' 0" -F -a '@gather: @count_votes: @dls1:'
 
-complete -c roundc -n "__roundc_at 'help' 0" -a 'check show run draw threads judge lockstep realise rounds explore'
+complete -c roundc -n "__roundc_at 'together'" -s h -l help -d 'Print help'
+complete -c roundc -n "__roundc_at 'together'" -s V -l version -d 'Print version'
+complete -c roundc -n "__roundc_at 'together' 0" -F
+
+complete -c roundc -n "__roundc_at 'help' 0" -a 'check show run draw threads judge lockstep realise rounds explore together'

@@ -9,6 +9,7 @@ use crate::held_desk::HeldDesk;
 use crate::library::LibrarySource;
 use crate::located::unwritten;
 use crate::options::tell_option;
+use crate::parts::tell_together;
 use crate::refusals::unless_refused;
 use crate::run_causes::{tell_correct_crash, tell_unknown};
 use crate::run_reasons::{RunQuestion, tell_run};
@@ -43,6 +44,9 @@ impl<'w, 'a> AskedCommand<'w, 'a> {
     ) -> Result<(), Refusal>
         ensures written { D.written desk.new ≡ D.written desk.old }
     {
+        if let Words::Together { files } = self.command {
+            return tell_together(self.alloc, files.as_slice(), desk, out);
+        }
         if let Words::Threads { source, .. } = self.command {
             return match refused_before_threads(self.alloc, *source, self.files) {
                 Ok(()) => self.tell_startable(desk, out),
@@ -95,6 +99,9 @@ impl<'w, 'a> AskedCommand<'w, 'a> {
         if has_unknown_column(self.alloc, self.command, self.files) {
             return Ok(false);
         }
+        let Some(source) = source_of(self.command) else {
+            return Ok(false);
+        };
         let question = match self.command {
             Words::Run { form, .. } => RunQuestion::Report {
                 decided: form.decided,
@@ -111,13 +118,7 @@ impl<'w, 'a> AskedCommand<'w, 'a> {
             }),
             _ => return Ok(false),
         };
-        tell_run(
-            self.alloc,
-            source_of(self.command),
-            self.files,
-            question,
-            out,
-        )
+        tell_run(self.alloc, source, self.files, question, out)
     }
 
     /// Tells why the command is refused, or the line of its refusal if no more is known.
@@ -145,14 +146,14 @@ impl<'w, 'a> AskedCommand<'w, 'a> {
 
     fn tell_library<O: Write>(&self, fault: LibraryFault, out: &mut O) -> Result<bool, Refusal> {
         let header = self.files.header(self.alloc)?;
-        match LibrarySource::of(source_of(self.command), self.words) {
+        match LibrarySource::of(self.command, self.words) {
             Some(source) => source.tell_fault(self.alloc, header.as_ref(), fault, out),
             None => Ok(false),
         }
     }
 
     fn tell_no_program<O: Write>(&self, out: &mut O) -> Result<bool, Refusal> {
-        match LibrarySource::of(source_of(self.command), self.words) {
+        match LibrarySource::of(self.command, self.words) {
             Some(source) => source.tell_no_program(out),
             None => Ok(false),
         }
@@ -195,7 +196,7 @@ impl<'w, 'a> AskedCommand<'w, 'a> {
 
     /// How many values the program of the command has, if it's known.
     fn values(&self) -> Result<Option<u32>, Refusal> {
-        if let Source::Library { values, .. } = source_of(self.command) {
+        if let Some(Source::Library { values, .. }) = source_of(self.command) {
             return Ok(Some(values));
         }
         let Some(file) = self.files.of(FileKind::Source) else {

@@ -1,7 +1,7 @@
 //! Which name in the list of a table's variables is that of none.
-use crate::files::{CommandFiles, source_of};
+use crate::files::CommandFiles;
 use crate::located::Located;
-use crate::program::program_for;
+use crate::program::program_of;
 use crate::sentence::Sentence;
 use command_runs::Refusal;
 use command_words::{Form, Format, Words};
@@ -20,7 +20,7 @@ pub(crate) fn tell_columns<O: Write>(
     let Some(list) = columns_of(command) else {
         return Ok(false);
     };
-    let Ok(program) = program_for(alloc, source_of(command), files, 1, 0) else {
+    let Ok(program) = program_of(alloc, command, files) else {
         return Ok(false);
     };
     match unknown_column(&program, list) {
@@ -46,7 +46,7 @@ pub(crate) fn has_unknown_column(
     let Some(list) = columns_of(command) else {
         return false;
     };
-    match program_for(alloc, source_of(command), files, 1, 0) {
+    match program_of(alloc, command, files) {
         Ok(program) => unknown_column(&program, list).is_some(),
         Err(_) => false,
     }

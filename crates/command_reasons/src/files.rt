@@ -164,7 +164,7 @@ fn read_file<D: Desk>(
 /// The names of the files that a command reads, in the order in which it does.
 fn names_of<'a>(alloc: Global, command: &Words<'a>) -> Result<Vec<NamedFile<'a>>, NoMemory> {
     let mut names = Vec::new(alloc);
-    if let Source::File(name) = source_of(command) {
+    if let Some(Source::File(name)) = source_of(command) {
         // Standard input is no source.
         let name = if name == "-" { "./-" } else { name };
         names.push(NamedFile {
@@ -184,26 +184,27 @@ fn names_of<'a>(alloc: Global, command: &Words<'a>) -> Result<Vec<NamedFile<'a>>
     Ok(names)
 }
 
-/// The source that a command names.
-pub(crate) fn source_of<'a>(command: &Words<'a>) -> Source<'a> {
+/// The source that a command names, if it names one.
+pub(crate) fn source_of<'a>(command: &Words<'a>) -> Option<Source<'a>> {
     match command {
-        Words::Check { source, .. } => *source,
-        Words::Show { source } => *source,
-        Words::Run { source, .. } => *source,
-        Words::Draw { source, .. } => *source,
-        Words::Threads { source, .. } => *source,
-        Words::Judge { source, .. } => *source,
-        Words::Lockstep { source, .. } => *source,
-        Words::Realise { source, .. } => *source,
-        Words::Rounds { source, .. } => *source,
-        Words::Explore { source, .. } => *source,
+        Words::Check { source, .. } => Some(*source),
+        Words::Show { source } => Some(*source),
+        Words::Run { source, .. } => Some(*source),
+        Words::Draw { source, .. } => Some(*source),
+        Words::Threads { source, .. } => Some(*source),
+        Words::Judge { source, .. } => Some(*source),
+        Words::Lockstep { source, .. } => Some(*source),
+        Words::Realise { source, .. } => Some(*source),
+        Words::Rounds { source, .. } => Some(*source),
+        Words::Explore { source, .. } => Some(*source),
+        Words::Together { .. } => None,
     }
 }
 
 /// The file with the header of a command's run.
 fn run_file_of<'a>(command: &Words<'a>) -> Option<NamedFile<'a>> {
     let (kind, name) = match command {
-        Words::Check { .. } | Words::Show { .. } => return None,
+        Words::Check { .. } | Words::Show { .. } | Words::Together { .. } => return None,
         Words::Run { schedule, .. } => (FileKind::Schedule, *schedule),
         Words::Draw { schedule, .. } => (FileKind::Schedule, *schedule),
         Words::Threads { setup, .. } => (FileKind::Setup, *setup),

@@ -18,6 +18,7 @@ mod located;
 mod named_faults;
 mod nesting;
 mod options;
+mod parts;
 mod program;
 mod refusals;
 mod report_reasons;

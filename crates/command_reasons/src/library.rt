@@ -1,11 +1,12 @@
 //! Why the library has no such program.
+use crate::files::source_of;
 use crate::header::Header;
 use crate::located::unwritten;
 use crate::sentence::Sentence;
 use crate::word_fault::WordFault;
 use algorithm_library::LibraryFault;
 use command_runs::Refusal;
-use command_words::Source;
+use command_words::{Source, Words};
 use round_meaning::Setup;
 use std::alloc::Global;
 use std::io::Write;
@@ -22,8 +23,8 @@ pub(crate) struct LibrarySource<'a> {
 
 impl<'a> LibrarySource<'a> {
     /// That of a command, by its words.
-    pub(crate) fn of(source: Source<'a>, words: &[&'a str]) -> Option<LibrarySource<'a>> {
-        let Source::Library { name, values } = source else {
+    pub(crate) fn of(command: &Words<'a>, words: &[&'a str]) -> Option<LibrarySource<'a>> {
+        let Some(Source::Library { name, values }) = source_of(command) else {
             return None;
         };
         for word in words {

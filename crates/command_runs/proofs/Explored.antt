@@ -9,6 +9,7 @@ use Rattle.std.specs.List.{AllZip, range_with_len}
 use Rattle.std.specs.Str.Lines.{lines}
 use Rattle.std.proofs.lemmas.List.FromFn.{get_or-map-range_with_len}
 use Rattle.command_runs.specs.Desks.{WritesTrace}
+use Rattle.command_runs.specs.InParts.{IsHeadOf, explored_as}
 use Rattle.command_runs.specs.InRounds.{IsFound, IsMade, IsTrace, ShowsFailure, code_of}
 use Rattle.command_runs.specs.InRounds.{outcome_of, shown_by, trace_of}
 use Rattle.command_runs.specs.Refused.{IsRefusedCommand}
@@ -17,7 +18,7 @@ use Rattle.command_runs.specs.Served.{FindsIn, HasTrace, IsHeader, IsProgramOf, 
 use Rattle.command_runs.specs.Served.{receives_of, start_of}
 use Rattle.command_runs.specs.Stages.{HoldsText, WritesText}
 use Rattle.command_runs.specs.Texts.{Files}
-use Rattle.command_runs.specs.declared.exploring.Found.{Found}
+use Rattle.command_runs.specs.declared.exploring.Explored.{Explored}
 use Rattle.command_runs.specs.declared.outcome.Outcome.{Outcome}
 use Rattle.command_runs.specs.declared.outcome.Outcome.TheVariants.{Done, No}
 use Rattle.command_runs.specs.declared.refusal.Refusal.{Refusal}
@@ -27,7 +28,7 @@ use Rattle.command_words.specs.declared.forms.AnswerFormat.{AnswerFormat}
 use Rattle.command_words.specs.declared.values.Source.{Source}
 use Rattle.command_words.specs.declared.values.Source.TheVariants as source
 use Rattle.command_words.specs.declared.words.Words.TheVariants as words
-use Rattle.exploration_texts.specs.Lines.{answers_as, comment_text, name_text}
+use Rattle.exploration_texts.specs.Lines.{comment_text, name_text}
 use Rattle.exploration_texts.specs.Stops.{steps_of}
 use Rattle.exploration_texts.specs.Told.{IsFirstNo, all_hold}
 use Rattle.exploration_texts.specs.declared.told.PropertyName.{PropertyName}
@@ -113,14 +114,14 @@ comment_drops name round = refl
 -- ---- what is told
 
 module _ (source : Source) (files : Files) (p : ProgramTree) (s : Setup) (k : PlanKind)
-    (e : Exploring) (found : Found) where
+    (e : Exploring) (x : Explored) where
   -- what is found under a header that was read is found in its file
   pub finds_in : (file : Option (List ℕ)) → IsProgramOf source files s.nodes s.faults p
       → IfSome file (λ text. IsHeader text s k)
-      → IsFound (receives_of k) (start_of k s.nodes) p s k e found
-      → FindsIn source files file e found
-  finds_in None is read h = tt
-  finds_in (Some text) is read h = (s, k, p, read, is, h)
+      → IsFound (receives_of k) (start_of k s.nodes) p s k e x.found
+      → IsHeadOf source files s e x.head → FindsIn source files file e x
+  finds_in None is read h head = tt
+  finds_in (Some text) is read h head = (s, k, p, read, is, h, head)
 
 -- a trace that was written is in its file
 has_trace : (s : Setup) (k : PlanKind) (name : Option (Bor (List ℕ))) (after : Files)
@@ -137,24 +138,25 @@ has_trace s k (Some name) after told (Some text) holds is = inr (go (after name.
     go (Some bytes) same =
         subst (ShowsFailure (receives_of k) (start_of k s.nodes) s k told) (sym same) is
 
-module _ (source : Source) (files : Files) (e : Exploring) (found : Found) where
+module _ (source : Source) (files : Files) (e : Exploring) (x : Explored) where
   pub tells_of_all : (file : Option (List ℕ)) (after : Files)
-      → HoldsText after e.trace (trace_of found) → FindsIn source files file e found
-      → TellsOfAll source files after file e found.told.items
+      → HoldsText after e.trace (trace_of x.found) → FindsIn source files file e x
+      → TellsOfAll source files after file e x.head x.found.told.items
   tells_of_all None after holds h = tt
-  tells_of_all (Some text) after holds (s, k, p, read, is, h) = (
+  tells_of_all (Some text) after holds (s, k, p, read, is, h, head) = (
     s,
     k,
     p,
     read,
     is,
     h.answers,
-    has_trace s k e.trace after found.told.items (trace_of found) holds h.trace,
+    has_trace s k e.trace after x.found.told.items (trace_of x.found) holds h.trace,
+    head,
   )
 
   -- also if nothing is known of the files after it
-  pub tells_at_first : (file : Option (List ℕ)) → FindsIn source files file e found
-      → TellsOfAll source files (λ name. None) file e found.told.items
+  pub tells_at_first : (file : Option (List ℕ)) → FindsIn source files file e x
+      → TellsOfAll source files (λ name. None) file e x.head x.found.told.items
   tells_at_first file h = tells_of_all file (λ name. None) (nothing e.trace _) h
     where
       nothing : (name : Option (Bor (List ℕ))) (text : Option (List ℕ))
@@ -205,16 +207,21 @@ no_room (source.Library name values) files file e = inr (inl (tt, tt))
 module _ (source : Source) (files : Files) (header : Bor (List ℕ)) (e : Exploring)
     (format : AnswerFormat) where
   -- nothing was written, though there was something to write
-  pub explore_unwritten : (found : Found) (r : Refusal)
-      → FindsIn source files (files header.now) e found → (r ≡ refusal.Write)
+  pub explore_unwritten : (x : Explored) (r : Refusal)
+      → FindsIn source files (files header.now) e x → (r ≡ refusal.Write)
       ⊎ (r ≡ refusal.NoMemory) → IsRefusedCommand (words.Explore source header e format) files r
-  explore_unwritten found r h (inl same) =
+  explore_unwritten x r h (inl same) =
       subst (IsRefusedCommand (words.Explore source header e format) files) (sym same) (inr (
         (λ name. None),
-        answers_as format found.told.items,
-        (found.told.items, tells_at_first source files e found (files header.now) h, refl),
+        explored_as format x.head x.found.told.items,
+        (
+          x.head,
+          x.found.told.items,
+          tells_at_first source files e x (files header.now) h,
+          refl,
+        ),
       ))
-  explore_unwritten found r h (inr same) =
+  explore_unwritten x r h (inr same) =
       subst (IsRefusedCommand (words.Explore source header e format) files) (sym same)
       (no_room source files (files header.now) e)
 

@@ -97,6 +97,7 @@ module _ (source : Source) (files : Files) (file : Option (List ℕ)) where
   threads_refused (refusal.Schedule f) h = h
   threads_refused (refusal.Library f) h = h
   threads_refused refusal.NoSuchProgram h = h
+  threads_refused (refusal.Part cause) h = h
   threads_refused refusal.TooManyEvents h = h
   threads_refused refusal.NoVariable h = h
   threads_refused (refusal.Run f) h = h
@@ -154,6 +155,7 @@ module _ (source : Source) (files : Files) (file : Option (List ℕ)) (e : Explo
   search_refused (refusal.Schedule f) h = h
   search_refused (refusal.Library f) h = h
   search_refused refusal.NoSuchProgram h = h
+  search_refused (refusal.Part cause) h = h
   search_refused refusal.TooManyEvents h = h
   search_refused refusal.NoVariable h = h
   search_refused (refusal.Run f) h = h
@@ -196,6 +198,7 @@ module _ (source : Source) (files : Files) (header : Bor (List ℕ)) (e : Explor
   explore_refused (refusal.Schedule f) h = h
   explore_refused (refusal.Library f) h = h
   explore_refused refusal.NoSuchProgram h = h
+  explore_refused (refusal.Part cause) h = h
   explore_refused refusal.TooManyEvents h = h
   explore_refused refusal.NoVariable h = h
   explore_refused (refusal.Run f) h = h

@@ -4,6 +4,8 @@ pub mod InChanges
 pub mod InLockstep
 pub mod InOmissions
 pub mod InRounds
+pub mod InParts
+pub mod Sources
 pub mod Apart
 pub mod ByThreads
 pub mod Library

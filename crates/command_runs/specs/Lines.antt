@@ -1,19 +1,23 @@
 -- The line that each refusal has on standard error, and the exit status.
-use Rattle.std.specs.Prelude.{ℕ, ◌++◌, List, Option, Some, codes}
+use Rattle.std.specs.Prelude.{ℕ, ◌+◌, ◌++◌, List, Option, Some, codes, min}
 use Rattle.std.specs.Fmt.{decimal}
 use Rattle.adversary.specs.declared.fault.RunFault.{RunFault}
 use Rattle.adversary.specs.declared.fault.RunFault.TheVariants as run
 use Rattle.algorithm_library.specs.declared.fault.LibraryFault.{LibraryFault}
 use Rattle.algorithm_library.specs.declared.fault.LibraryFault.TheVariants as library
+use Rattle.command_runs.specs.declared.part_refusal.PartRefusal.{PartRefusal}
+use Rattle.command_runs.specs.declared.part_refusal.PartRefusal.TheVariants as part
 use Rattle.command_runs.specs.declared.refusal.Refusal.{Refusal}
 use Rattle.command_runs.specs.declared.refusal.Refusal.TheVariants.{Words, File, Source, Check}
 use Rattle.command_runs.specs.declared.refusal.Refusal.TheVariants.{Condition}
 use Rattle.command_runs.specs.declared.refusal.Refusal.TheVariants.{Schedule, Library}
 use Rattle.command_runs.specs.declared.refusal.Refusal.TheVariants.{NoSuchProgram, Run, Write}
 use Rattle.command_runs.specs.declared.refusal.Refusal.TheVariants.{NoMemory, NodeNoMemory}
-use Rattle.command_runs.specs.declared.refusal.Refusal.TheVariants.{NoVariable, TooManyEvents}
+use Rattle.command_runs.specs.declared.refusal.Refusal.TheVariants.{NoVariable, Part, TooManyEvents}
 use Rattle.command_words.specs.Lines.{words_line}
 use Rattle.exploration_texts.specs.Lines.{condition_text}
+use Rattle.part_answers.specs.declared.joining.PartsFault.{PartsFault}
+use Rattle.part_answers.specs.declared.joining.PartsFault.TheVariants as parts
 use Rattle.round_check.specs.declared.fault.CheckFault.{CheckFault}
 use Rattle.round_check.specs.declared.fault.CheckFault.TheVariants as check
 use Rattle.round_lang.specs.declared.fault.LangFault.{LangFault}
@@ -81,6 +85,26 @@ many_events =
 abbrev pub no_variable : List ℕ
 no_variable = codes "LIST of --vars is names of the program's variables with commas between them"
 
+-- the number of a file in the order of the words, which are counted from 1
+abbrev pub file_number : ℕ → ℕ
+file_number place = min (place + 1) 18446744073709551615
+
+-- why parts make no whole
+abbrev pub parts_line : PartsFault → List ℕ
+parts_line parts.NoParts = codes "refused part 5\n"
+parts_line (parts.Other place) =
+    codes "refused part 2 at " ++ decimal (file_number place) ++ codes "\n"
+parts_line (parts.Twice n) = codes "refused part 3 at " ++ decimal n ++ codes "\n"
+parts_line (parts.Missing n) = codes "refused part 4 at " ++ decimal n ++ codes "\n"
+parts_line parts.NoMemory = memory_line
+
+-- or a file has no part's answers, with the number of the file and of its line
+abbrev pub part_line : PartRefusal → List ℕ
+part_line (part.Line place n) =
+    codes "refused part 1 at " ++ decimal (file_number place) ++ codes " " ++ decimal n
+    ++ codes "\n"
+part_line (part.Parts fault) = parts_line fault
+
 -- the line of a refusal, if it isn't `clap`'s own text
 abbrev pub line_of : Refusal → Option (List ℕ)
 line_of (Words fault) = words_line fault
@@ -93,6 +117,7 @@ line_of (Schedule fault) = Some (schedule_line fault)
 line_of (Library fault) = Some (library_line fault)
 line_of NoSuchProgram = Some (codes "refused library 3\n")
 line_of (Run fault) = Some (run_line fault)
+line_of (Part cause) = Some (part_line cause)
 line_of TooManyEvents = Some (codes "refused picture: " ++ many_events ++ codes "\n")
 line_of NoVariable = Some (codes "refused table: " ++ no_variable ++ codes "\n")
 line_of Write = Some (codes "refused write\n")

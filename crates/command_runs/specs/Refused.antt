@@ -13,6 +13,7 @@ use Rattle.algorithm_library.specs.declared.fault.LibraryFault.{LibraryFault}
 use Rattle.algorithm_library.specs.declared.fault.LibraryFault.TheVariants as library
 use Rattle.command_runs.specs.InChanges.{AreFitChanges, Terms}
 use Rattle.command_runs.specs.InLockstep.{AreTerms}
+use Rattle.command_runs.specs.InParts.{HasNoPartText, MakesNoWhole, MakesWhole}
 use Rattle.command_runs.specs.Lines.{status_of}
 use Rattle.command_runs.specs.Served.{AsksForHelp, IsCheckedSource, IsHeader, IsOfKind}
 use Rattle.command_runs.specs.Served.{IsOmissionText, IsProgramOf, IsThreadSetup, Prints}
@@ -34,7 +35,7 @@ use Rattle.command_words.specs.declared.words.Words.{Words}
 use Rattle.command_words.specs.declared.drawing.Drawing.{Drawing}
 use Rattle.command_words.specs.declared.words.Words.TheVariants.{Check, Draw, Explore, Judge}
 use Rattle.command_words.specs.declared.words.Words.TheVariants.{Lockstep, Realise, Rounds, Run}
-use Rattle.command_words.specs.declared.words.Words.TheVariants.{Show, Threads}
+use Rattle.command_words.specs.declared.words.Words.TheVariants.{Show, Threads, Together}
 use Rattle.command_words.specs.declared.exploring.Exploring.{Exploring}
 use Rattle.command_words.specs.declared.forms.Form.{Form}
 use Rattle.exploration_texts.specs.Conditions.{IsConditionFor, IsFaultFor}
@@ -55,6 +56,7 @@ use Rattle.round_lang.specs.declared.fault.LangFault.TheVariants as lang
 use Rattle.round_meaning.specs.Setups.{IsLawful}
 use Rattle.round_meaning.specs.declared.setup.Setup.{Setup}
 use Rattle.omission_explainer.specs.declared.report.Report.{Report}
+use Rattle.part_answers.specs.declared.answered.Answered.{Answered}
 use Rattle.omission_texts.specs.Meaning.{IsFirstUnknown}
 use Rattle.omission_texts.specs.Readings.{IsReading as IsOmissionReading}
 use Rattle.omission_texts.specs.declared.line.OmissionLine.{OmissionLine}
@@ -427,6 +429,19 @@ IsUntabled form IsReport refusal.NoVariable =
     NamesColumns form × ((report : Report) × IsReport report)
 IsUntabled form IsReport _ = ⊥
 
+-- why nothing is made of the answers of parts
+abbrev pub IsNotTogether : Files → List (Bor (List ℕ)) → Refusal → Type 0
+IsNotTogether files names refusal.File = HasNoPartText files names
+IsNotTogether files names (refusal.Part cause) = MakesNoWhole files names cause
+IsNotTogether files names refusal.NoMemory = ⊤
+IsNotTogether files names _ = ⊥
+
+-- the same, or `out` doesn't take what they make together
+abbrev pub IsRefusedTogether : Files → List (Bor (List ℕ)) → Refusal → Type 0
+IsRefusedTogether files names refusal.Write =
+    (whole : List Answered) × MakesWhole files names whole
+IsRefusedTogether files names r = IsNotTogether files names r
+
 -- why a command isn't served, if it isn't for the output
 abbrev pub IsUnserved : Words → Files → Refusal → Type 0
 IsUnserved (Check source f) files r = IsUnchecked source files r
@@ -450,6 +465,7 @@ IsUnserved (Rounds source header omissions form) files r =
     ⊎ IsUntabled form (ReportsRounds source files (files header.now) (files omissions.now)) r
 IsUnserved (Explore source header exploring f) files r =
     IsUnexplored source files (files header.now) exploring r
+IsUnserved (Together names) files r = IsNotTogether files names.items r
 
 -- the words are `threads`, and their run is one
 abbrev pub IsThreaded : Words → Files → Type 0

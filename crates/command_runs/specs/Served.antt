@@ -6,7 +6,6 @@ use Rattle.std.specs.Global.{Vec}
 use Rattle.std.specs.Prelude.{if◌then◌else◌}
 use Rattle.std.specs.Fmt.{decimal}
 use Rattle.std.specs.Io.KnownBytes.{Appends}
-use Rattle.std.specs.Str.{bytes_eq}
 use Rattle.omission_texts.specs.Texts.{Says as SaysOmissions}
 use Rattle.omission_texts.specs.declared.line.OmissionLine.{OmissionLine}
 use Rattle.schedule_text.specs.Texts.{SaysOf, Tail, max_text as max_schedule}
@@ -18,7 +17,7 @@ use Rattle.command_runs.specs.declared.asking.Answer.{Answer}
 use Rattle.command_runs.specs.declared.asking.Answer.TheVariants as answer
 use Rattle.command_runs.specs.declared.asking.Question.{Question}
 use Rattle.command_runs.specs.declared.asking.Question.TheVariants as question
-use Rattle.command_runs.specs.declared.exploring.Found.{Found}
+use Rattle.command_runs.specs.declared.exploring.Explored.{Explored}
 use Rattle.command_runs.specs.declared.outcome.Outcome.{Outcome}
 use Rattle.command_runs.specs.declared.outcome.Outcome.TheVariants.{Done}
 use Rattle.command_runs.specs.declared.sources.Opened.{Opened}
@@ -28,9 +27,11 @@ use Rattle.command_runs.specs.Explained.{IsReportOf, IsVerdictOf}
 use Rattle.command_runs.specs.InChanges.{Terms}
 use Rattle.command_runs.specs.InLockstep.{IsLockstepText, IsWritten}
 use Rattle.command_runs.specs.InOmissions.{ShowsOmitting, realised_by}
+use Rattle.command_runs.specs.InParts.{IsHeadOf, MakesWhole, TellsWhole, explored_as}
 use Rattle.command_runs.specs.InRounds.{IsFound, ShowsFailure, outcome_of}
-use Rattle.command_runs.specs.Library.{Offers, OffersText}
-use Rattle.command_runs.specs.Texts.{Files, HoldsWhole}
+use Rattle.command_runs.specs.Library.{Offers}
+pub use Rattle.command_runs.specs.Sources.{ShowsSource, file_name}
+use Rattle.command_runs.specs.Texts.{Files}
 use Rattle.schedule_text.specs.Bytes.{IsText}
 use Rattle.clap.specs.Words.{IsAmong, fault_of}
 use Rattle.clap.specs.declared.error.ErrorKind.TheVariants as kind
@@ -49,10 +50,12 @@ use Rattle.command_words.specs.declared.words.Words.{Words}
 use Rattle.command_words.specs.declared.drawing.Drawing.{Drawing}
 use Rattle.command_words.specs.declared.words.Words.TheVariants.{Check, Draw, Explore, Judge}
 use Rattle.command_words.specs.declared.words.Words.TheVariants.{Lockstep, Realise, Rounds, Run}
-use Rattle.command_words.specs.declared.words.Words.TheVariants.{Show, Threads}
-use Rattle.exploration_texts.specs.Lines.{answers_as}
+use Rattle.command_words.specs.declared.words.Words.TheVariants.{Show, Threads, Together}
 use Rattle.exploration_texts.specs.Told.{AreAnswers, all_hold}
 use Rattle.exploration_texts.specs.declared.told.Told.{Told}
+use Rattle.part_answers.specs.Answers.{answers_text}
+use Rattle.part_answers.specs.declared.answered.Answered.{Answered as PartAnswer}
+use Rattle.part_answers.specs.declared.part.PartHead.{PartHead}
 use Rattle.omission_explainer.specs.Decided.{decided_line, summary_of}
 use Rattle.omission_explainer.specs.Report.{report_text}
 use Rattle.omission_explainer.specs.declared.summary.Decided.{Decided}
@@ -72,10 +75,6 @@ use Rattle.slot_plans.specs.declared.kind.PlanKind.{PlanKind}
 use Rattle.slot_plans.specs.declared.kind.PlanKind.TheVariants.{Growing, Known}
 use Rattle.step_machine.specs.declared.event.Event.{Event}
 
--- a source file named `-` is reached by its folder, since `-` is standard input
-abbrev pub file_name : List ℕ → List ℕ
-file_name name = if bytes_eq name (codes "-") then codes "./-" else name
-
 -- the text is this program, every expression of which has its type
 pub record IsCheckedSource (text : List ℕ) (p : ProgramTree) : Type 0 where
   pub fits : IsText max_text text
@@ -87,11 +86,6 @@ abbrev pub IsProgramOf : Source → Files → (nodes faults : ℕ) → ProgramTr
 IsProgramOf (File name) files nodes faults p =
     IfSome (files (file_name name.now)) (λ text. IsCheckedSource text p)
 IsProgramOf (Library name values) files nodes faults p = Offers name.now values nodes faults p
-
--- the text of a source: the file's, or that of the library's program
-abbrev pub ShowsSource : Source → Files → List ℕ → Type 0
-ShowsSource (File name) files text = HoldsWhole max_text (files (file_name name.now)) text
-ShowsSource (Library name values) files text = OffersText name.now values text
 
 -- a source that was opened: the program of its file, or what it names of the library
 abbrev pub Opens : Source → Files → Opened → Type 0
@@ -258,11 +252,12 @@ ReportsThreads source files file after report =
     × IfSome after (λ held. IsWritten s k events held))
 
 -- what is found in all runs of the source's program, under the header in a file
-abbrev pub FindsIn : Source → Files → Option (List ℕ) → Exploring → Found → Type 0
-FindsIn source files file e found =
+abbrev pub FindsIn : Source → Files → Option (List ℕ) → Exploring → Explored → Type 0
+FindsIn source files file e x =
     IfSome file (λ text. (s : Setup) × (k : PlanKind) × (p : ProgramTree) × IsHeader text s k
     × IsProgramOf source files s.nodes s.faults p
-    × IsFound (receives_of k) (start_of k s.nodes) p s k e found)
+    × IsFound (receives_of k) (start_of k s.nodes) p s k e x.found
+    × IsHeadOf source files s e x.head)
 
 -- if a trace is asked for and a property fails, its file shows the first that does
 abbrev pub HasTrace :
@@ -272,12 +267,13 @@ HasTrace s k (Some name) after told = (all_hold told ≡ true)
     ⊎ IfSome (after name.now) (ShowsFailure (receives_of k) (start_of k s.nodes) s k told)
 
 -- this is told of all runs of the source's program, under the header in a file
-abbrev pub TellsOfAll :
-    Source → (files after : Files) → Option (List ℕ) → Exploring → List Told → Type 0
-TellsOfAll source files after file e told =
+abbrev pub TellsOfAll : Source → (files after : Files) → Option (List ℕ) → Exploring
+    → Option PartHead → List Told → Type 0
+TellsOfAll source files after file e head told =
     IfSome file (λ text. (s : Setup) × (k : PlanKind) × (p : ProgramTree) × IsHeader text s k
     × IsProgramOf source files s.nodes s.faults p
-    × AreAnswers p s e told × HasTrace s k e.trace after told)
+    × AreAnswers p s e told × HasTrace s k e.trace after told
+    × IsHeadOf source files s e head)
 
 -- the answer to a question on a run
 abbrev pub AnswersRun : Source → Files → Option (List ℕ) → Question → Answer → Type 0
@@ -381,18 +377,23 @@ Prints (Rounds source header omissions form) files after text =
     × ReportsRounds source files (files header.now) (files omissions.now) report
     × IsReportText form report text
 Prints (Explore source header exploring f) files after text =
-    (told : List Told) × TellsOfAll source files after (files header.now) exploring told
-    × (text ≡ answers_as f told)
+    (head : Option PartHead) × (told : List Told)
+    × TellsOfAll source files after (files header.now) exploring head told
+    × (text ≡ explored_as f head told)
+Prints (Together names) files after text =
+    (whole : List PartAnswer) × MakesWhole files names.items whole × (text ≡ answers_text whole)
 
 -- `out` gained what the command prints
 abbrev pub Serves : Words → (files after : Files) → (old new : Option (List ℕ)) → Type 0
 Serves w files after old new = (text : List ℕ) × Prints w files after text × Appends old new text
 
--- and it ends so: `explore` says by that whether each property holds
+-- and it ends so: `explore` and `together` say by that whether a failure is told
 abbrev pub Ends : Words → (files after : Files) → Outcome → (old new : Option (List ℕ)) → Type 0
 Ends (Explore source header exploring f) files after o old new =
-    (told : List Told) × TellsOfAll source files after (files header.now) exploring told
-    × (o ≡ outcome_of told) × Appends old new (answers_as f told)
+    (head : Option PartHead) × (told : List Told)
+    × TellsOfAll source files after (files header.now) exploring head told
+    × (o ≡ outcome_of told) × Appends old new (explored_as f head told)
+Ends (Together names) files after o old new = TellsWhole files names.items o old new
 Ends w files after o old new = (o ≡ Done) × Serves w files after old new
 
 -- the words mean a command, and it was served and ended so

@@ -1,6 +1,6 @@
 -- What the parts of a command answer, which proofs pass through.
 use Rattle.std.specs.Borrow.{Bor}
-use Rattle.std.specs.Prelude.{◌≡◌, ◌<◌, ◌⊎◌, ◌++◌, ◌∷◌, ⊤, ℕ, All, Bool, IfSome, List, []}
+use Rattle.std.specs.Prelude.{◌≡◌, ◌≢◌, ◌<◌, ◌⊎◌, ◌++◌, ◌∷◌, ⊤, ℕ, All, Bool, IfSome, List, []}
 use Rattle.std.specs.Prelude.{Option, Some, length}
 use Rattle.std.specs.Prelude.{true}
 use Rattle.std.specs.Io.KnownBytes.{Appends}
@@ -21,11 +21,12 @@ use Rattle.command_runs.specs.Served.{IsThreadSetup, MakesLockstep, NamesColumns
 use Rattle.command_runs.specs.Served.{SaysAnswer}
 use Rattle.command_runs.specs.Served.{told_text}
 use Rattle.command_runs.specs.Texts.{Files}
-use Rattle.schedule_text.specs.Bytes.{BeginsUtf8}
+use Rattle.schedule_text.specs.Bytes.{BeginsUtf8, IsLongText, IsNoText}
 use Rattle.command_runs.specs.declared.asking.Answer.{Answer as RunAnswer}
 use Rattle.command_runs.specs.declared.asking.Answer.TheVariants as answer
 use Rattle.command_runs.specs.declared.asking.Question.{Question}
 use Rattle.command_runs.specs.declared.asking.Question.TheVariants as question
+use Rattle.command_runs.specs.declared.part_refusal.PartRefusal.TheVariants as part
 use Rattle.command_runs.specs.declared.refusal.Refusal.{Refusal}
 use Rattle.command_runs.specs.declared.refusal.Refusal.TheVariants as refusal
 use Rattle.command_runs.specs.declared.sources.Opened.{Opened}
@@ -42,6 +43,9 @@ use Rattle.node_threads.specs.Ends.{IsFitForThreads}
 use Rattle.omission_texts.specs.Texts.{Says as SaysOmissions}
 use Rattle.omission_texts.specs.declared.line.OmissionLine.{OmissionLine}
 use Rattle.omission_explainer.specs.declared.report.Report.{Report}
+use Rattle.part_answers.specs.Parts.{IsWellFormed, part_text}
+use Rattle.part_answers.specs.Wholes.{IsFaultOf}
+use Rattle.part_answers.specs.declared.part.PartAnswers.{PartAnswers}
 use Rattle.round_check.specs.Causes.{fault_of, is_typed}
 use Rattle.round_lang.specs.Limits.{max_text}
 use Rattle.round_lang.specs.Source.{IsSource}
@@ -302,6 +306,28 @@ abbrev pub IsRefusedThreads : Source → Files → Option (List ℕ) → Refusal
 IsRefusedThreads source files file refusal.Write = StartsThreads source files file
 IsRefusedThreads source files file refusal.NodeNoMemory = StartsThreads source files file
 IsRefusedThreads source files file r = IsUnthreaded source files file r
+
+-- the text is that of no part; the place is that of its file in the order of the words
+abbrev pub IsBadPart : (place : ℕ) → List ℕ → Refusal → Type 0
+IsBadPart place text (refusal.Part (part.Line k n)) =
+    (k ≡ place) × ((p : PartAnswers) → IsWellFormed p → text ≢ part_text p)
+IsBadPart place text refusal.NoMemory = ⊤
+IsBadPart place text _ = ⊥
+
+-- why there are no answers of a part in a file
+abbrev pub IsPartless : (place : ℕ) → Option (List ℕ) → Refusal → Type 0
+IsPartless place file refusal.File =
+    IfSome file (λ held. IsNoText max_text held ⊎ IsLongText max_text held)
+IsPartless place file (refusal.Part (part.Line k n)) =
+    (k ≡ place) × IfSome file (λ held. (p : PartAnswers) → IsWellFormed p → held ≢ part_text p)
+IsPartless place file refusal.NoMemory = ⊤
+IsPartless place file _ = ⊥
+
+-- why parts make no whole
+abbrev pub IsNoWhole : List PartAnswers → Refusal → Type 0
+IsNoWhole parts (refusal.Part (part.Parts fault)) = IsFaultOf parts fault
+IsNoWhole parts refusal.NoMemory = ⊤
+IsNoWhole parts _ = ⊥
 
 -- the file has the text, if there are both
 abbrev pub HoldsText : (after : Files) → Option (Bor (List ℕ)) → Option (List ℕ) → Type 0

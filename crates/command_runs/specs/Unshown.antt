@@ -3,7 +3,7 @@ use Rattle.std.specs.Prelude.{⊤, ℕ, IfSome, List, Option}
 use Rattle.algorithm_library.specs.Refusals.{IsCount}
 use Rattle.algorithm_library.specs.declared.fault.LibraryFault.TheVariants as library
 use Rattle.command_runs.specs.Library.{IsLibraryName}
-use Rattle.command_runs.specs.Served.{file_name}
+use Rattle.command_runs.specs.Sources.{file_name}
 use Rattle.command_runs.specs.Texts.{Files}
 use Rattle.command_runs.specs.declared.refusal.Refusal.{Refusal}
 use Rattle.command_runs.specs.declared.refusal.Refusal.TheVariants as refusal

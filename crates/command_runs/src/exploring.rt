@@ -2,11 +2,13 @@
 ghost use Rattle.std.specs.Prelude.{◌≡◌, ◌↔◌, All, IfErr, IfOk, IsTrue, OnOk, option_map};
 ghost use Rattle.std.specs.Prelude.{string_bytes};
 ghost use Rattle.command_runs.specs.Apart.{IsApartIfNamed};
+ghost use Rattle.command_runs.specs.InParts.{IsHeadOf};
 ghost use Rattle.command_runs.specs.InRounds.{IsFound, IsMade, IsShown, IsTrace, ShowsFirst};
 ghost use Rattle.command_runs.specs.InRounds.{trace_of};
 ghost use Rattle.command_runs.specs.Refused.{IsExplorable, IsExplored, IsNotExplored, IsUnexplored};
 ghost use Rattle.command_runs.specs.Served.{FindsIn, receives_of, start_of};
 ghost use Rattle.command_runs.specs.Stages.{AreSearchable, IsNotExploredAs, IsRefusedSearch};
+ghost use Rattle.command_runs.specs.Unshown.{IsUnshown};
 ghost use Rattle.exploration_texts.specs.Stops.{IsShowable, IsToldToShow};
 ghost use Rattle.round_meaning.specs.Setups.{IsSetup};
 
@@ -14,14 +16,16 @@ use crate::desk::Desk;
 use crate::limits::is_plan;
 use crate::lockstep::header_in;
 use crate::refusal::Refusal;
+use crate::showing::source_text;
 use crate::sources::Opened;
 use crate::traces::try_trace_if_named;
 use adversary::RunFault;
 use command_words::{Exploring, Source};
 use exploration_texts::{
-    Failed, Told, answer_all, commented, first_failure, read_condition, stops_of,
+    Failed, Told, answer_all, commented, first_failure, question_digest, read_condition, stops_of,
 };
 use omission_schedules::schedule_with_stops;
+use part_answers::{Part, PartHead, Question};
 use round_check::Checked;
 use round_explorer::Watch;
 use round_lang::NoMemory;
@@ -29,6 +33,7 @@ use round_meaning::Setup;
 use schedule_text::write_stored_schedule;
 use slot_plans::{Growing, Known, Plan, PlanKind};
 use std::alloc::Global;
+use std::thread::Threads;
 
 /// A source, the file of a header, and what is asked of all runs.
 #[derive(Clone, Copy)]
@@ -46,34 +51,49 @@ pub struct Found {
     pub trace: Option<String>,
 }
 
+/// What is found, and which part of which question it answers, if only a part was asked about.
+#[derive(Drop)]
+pub struct Explored {
+    pub head: Option<PartHead>,
+    pub found: Found,
+}
+
 impl<'a> Exploration<'a> {
     /// Goes through all runs, once the file of the trace was tried.
-    pub fn find<D: Desk>(&self, alloc: Global, desk: &mut D) -> Result<Found, Refusal>
+    pub fn find<R: Threads + Sync, D: Desk>(
+        &self,
+        rt: &R,
+        alloc: Global,
+        desk: &mut D,
+    ) -> Result<Explored, Refusal>
         ensures found { IfOk result (FindsIn self.now.source (D.files desk.old)
             (D.files desk.old self.now.header.now) self.now.exploring) }
-        ensures made { IfOk result (λ found.
-            IsMade self.now.exploring.trace found.told.items (trace_of found)) }
+        ensures made { IfOk result (λ explored. IsMade self.now.exploring.trace
+            explored.found.told.items (trace_of explored.found)) }
         ensures apart { OnOk result (IsApartIfNamed self.now.exploring.trace self.now.source
             self.now.header.now) }
         ensures refused { IfErr result (IsRefusedSearch self.now.source (D.files desk.old)
             (D.files desk.old self.now.header.now) self.now.exploring) }
         ensures written { D.written desk.new ≡ D.written desk.old }
     {
-        let (program, setup, plan) = self.read(alloc, desk)?;
+        let (program, setup, plan, head) = self.read(alloc, desk)?;
         try_trace_if_named(self.exploring.trace, self.source, self.header, desk)?;
         let watch = desk.watch();
-        found_by(alloc, &program, &setup, plan, &self.exploring, &watch)
+        let found = found_by(rt, alloc, &program, &setup, plan, &self.exploring, &watch)?;
+        Ok(Explored { head, found })
     }
 
-    /// The program, the setup and the plan, whose numbers are within their limits; and EXPR is a
-    /// condition.
+    /// The program, the setup and the plan, whose numbers are within their limits, and the part
+    /// that is asked about if it's only one; and EXPR is a condition.
     fn read<D: Desk>(
         &self,
         alloc: Global,
         desk: &mut D,
-    ) -> Result<(Checked, Setup, PlanKind), Refusal>
+    ) -> Result<(Checked, Setup, PlanKind, Option<PartHead>), Refusal>
         ensures searchable { IfOk result (λ o. AreSearchable self.now.source (D.files desk.old)
             (D.files desk.old self.now.header.now) self.now.exploring o.0 o.1 o.2) }
+        ensures headed { IfOk result (λ o. IsHeadOf self.now.source (D.files desk.old) o.1
+            self.now.exploring o.3) }
         ensures refused { IfErr result (IsUnexplored self.now.source (D.files desk.old)
             (D.files desk.old self.now.header.now) self.now.exploring) }
         ensures written { D.written desk.new ≡ D.written desk.old }
@@ -82,7 +102,34 @@ impl<'a> Exploration<'a> {
         let (setup, plan) = header_in(alloc, self.header, desk)?;
         let program = opened.program(alloc, setup.nodes, setup.faults)?;
         check_asked(alloc, &program, &setup, plan, &self.exploring)?;
-        Ok((program, setup, plan))
+        let head = self.head(alloc, &setup, desk)?;
+        Ok((program, setup, plan, head))
+    }
+
+    /// Which part of which question is asked about, if it is only one.
+    fn head<D: Desk>(
+        &self,
+        alloc: Global,
+        setup: &Setup,
+        desk: &mut D,
+    ) -> Result<Option<PartHead>, Refusal>
+        ensures headed { IfOk result (IsHeadOf self.now.source (D.files desk.old) setup.now
+            self.now.exploring) }
+        ensures refused { IfErr result (IsUnshown self.now.source (D.files desk.old)) }
+        ensures written { D.written desk.new ≡ D.written desk.old }
+    {
+        let Some(part) = self.exploring.part else {
+            return Ok(None);
+        };
+        let text = source_text(alloc, self.source, desk)?;
+        let digest = question_digest(alloc, text.as_str(), setup, &self.exploring)?;
+        Ok(Some(PartHead {
+            part: Part {
+                number: part.number,
+                count: part.count,
+            },
+            question: Question::of(&digest),
+        }))
     }
 }
 
@@ -110,7 +157,8 @@ fn check_asked(
 }
 
 /// What is found under a plan of this name.
-fn found_by<W: Watch>(
+fn found_by<R: Threads + Sync, W: Watch + Sync>(
+    rt: &R,
     alloc: Global,
     program: &Checked,
     setup: &Setup,
@@ -118,7 +166,7 @@ fn found_by<W: Watch>(
     exploring: &Exploring<'_>,
     watch: &W,
 ) -> Result<Found, Refusal>
-    requires { IsExplorable program.now setup.now exploring.now }
+    requires explorable { IsExplorable program.now setup.now exploring.now }
     ensures found { IfOk result (IsFound (receives_of kind) (start_of kind setup.now.nodes)
         program.now setup.now kind exploring.now) }
     ensures made { IfOk result (λ found.
@@ -127,17 +175,18 @@ fn found_by<W: Watch>(
 {
     match kind {
         PlanKind::Known(delta) => match Known::new(setup.nodes, delta) {
-            Some(plan) => found_under(alloc, program, setup, kind, plan, exploring, watch),
+            Some(plan) => found_under(rt, alloc, program, setup, kind, plan, exploring, watch),
             None => Err(Refusal::Run(RunFault::BadSetup)),
         },
         PlanKind::Growing => match Growing::new(setup.nodes) {
-            Some(plan) => found_under(alloc, program, setup, kind, plan, exploring, watch),
+            Some(plan) => found_under(rt, alloc, program, setup, kind, plan, exploring, watch),
             None => Err(Refusal::Run(RunFault::BadSetup)),
         },
     }
 }
 
-fn found_under<P: Plan, W: Watch>(
+fn found_under<R: Threads + Sync, P: Plan, W: Watch + Sync>(
+    rt: &R,
     alloc: Global,
     program: &Checked,
     setup: &Setup,
@@ -154,7 +203,7 @@ fn found_under<P: Plan, W: Watch>(
         IsMade exploring.now.trace found.told.items (trace_of found)) }
     ensures refused { IfErr result (IsNotExploredAs program.now setup.now exploring.now) }
 {
-    let told = answer_all(alloc, program, setup, exploring, watch)?;
+    let told = answer_all(rt, alloc, program, setup, exploring, watch)?;
     let trace = trace_for(alloc, setup, kind, plan, exploring.trace, &told)?;
     Ok(Found { told, trace })
 }

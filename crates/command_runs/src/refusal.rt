@@ -6,6 +6,7 @@ ghost use Rattle.command_runs.specs.Lines.{check_line, library_line, line_of, me
 ghost use Rattle.command_runs.specs.Lines.{run_line, schedule_line, source_line, status_of};
 
 use crate::desk::DeskFault;
+use crate::part_refusal::{PartRefusal, write_part_refusal};
 use adversary::{ReadFault, RunFault, ScheduleFault};
 use algorithm_library::LibraryFault;
 use command_words::WordsFault;
@@ -33,6 +34,8 @@ pub enum Refusal {
     /// The library has no program of the name.
     NoSuchProgram,
     Run(RunFault),
+    /// The answers of parts make no whole.
+    Part(PartRefusal),
     /// The run has more events than are drawn at once.
     TooManyEvents,
     /// A list of a table's variables has a name that is that of none.
@@ -87,6 +90,7 @@ impl fmt::Display for Refusal {
             Refusal::Library(fault) => write_library(*fault, f),
             Refusal::NoSuchProgram => writeln!(f, "refused library 3"),
             Refusal::Run(fault) => write_run(*fault, f),
+            Refusal::Part(cause) => write_part_refusal(*cause, f),
             Refusal::TooManyEvents => writeln!(f, "refused picture: {}", MANY_EVENTS),
             Refusal::NoVariable => writeln!(f, "refused table: {}", NO_VARIABLE),
             Refusal::Write => writeln!(f, "refused write"),

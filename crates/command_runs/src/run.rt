@@ -17,18 +17,18 @@ use crate::asking::{Answer, Question, Run};
 use crate::desk::Desk;
 use crate::drawing::draw;
 use crate::explained::Terms;
-use crate::exploring::{Exploration, Found};
+use crate::exploring::{Exploration, Explored, Found};
 use crate::forms::{tell_report, write_declared, write_told, write_verdict};
 use crate::lockstep::{Paced, Pacing};
 use crate::omitting::Omitting;
 use crate::outcome::Outcome;
+use crate::parts::{put_together, write_explored};
 use crate::refusal::Refusal;
 use crate::showing::show_source;
 use crate::sources::Opened;
 use crate::threads::{ThreadRun, Threaded};
 use crate::traces::{write_shown, write_trace};
 use command_words::{AnswerFormat, Form, Source, Words, WordsFault, read_words};
-use exploration_texts::write_answers;
 use policies::{Bounded, Table};
 use round_check::Checked;
 use std::alloc::Global;
@@ -251,8 +251,9 @@ fn carry_out<'a, R: Threads + Wait + Sync, D: Desk, O: Write>(
                 header,
                 exploring,
             };
-            explore(alloc, exploration, format, desk, out)
+            explore(rt, alloc, exploration, format, desk, out)
         }
+        Words::Together { files } => put_together(alloc, files.as_slice(), desk, out),
     }
 }
 
@@ -409,7 +410,8 @@ fn run_rounds<'a, D: Desk, O: Write>(
 
 /// Tells what is found in all runs, and first writes the schedule that shows a property failing.
 #[tactic(auto, using(crate::proofs::Telling::silent_same))]
-fn explore<'a, D: Desk, O: Write>(
+fn explore<'a, R: Threads + Sync, D: Desk, O: Write>(
+    rt: &R,
     alloc: Global,
     exploration: Exploration<'a>,
     format: AnswerFormat,
@@ -430,9 +432,10 @@ fn explore<'a, D: Desk, O: Write>(
     ensures traced { IfOk result (λ o. WritesTrace exploration.entry.exploring.trace o
         (D.written desk.old) (D.written desk.new)) }
 {
-    let Found { told, trace } = exploration.find(alloc, desk)?;
+    let Explored { head, found } = exploration.find(rt, alloc, desk)?;
+    let Found { told, trace } = found;
     write_shown(exploration.exploring.trace, &trace, desk)?;
-    written(write_answers(&told, format, out), out)?;
+    written(write_explored(&head, &told, format, out), out)?;
     Ok(Outcome::of(&told))
 }
 

@@ -40,7 +40,7 @@ pub(crate) fn show_source<'a, D: Desk, O: Write>(
 }
 
 /// The text of a source, also if it's no program.
-fn source_text<'a, D: Desk>(
+pub(crate) fn source_text<'a, D: Desk>(
     alloc: Global,
     source: Source<'a>,
     desk: &mut D,

@@ -73,6 +73,7 @@ pub fn read_whole<D: Desk>(
     ensures held { IfOk result (λ text.
         HoldsWhole limit (D.files desk.old name.now) (string_bytes text)) }
     ensures refused { IfErr result (HoldsNoWhole limit (D.files desk.old name.now)) }
+    ensures files { (other : List ℕ) → D.files desk.new other ≡ D.files desk.old other }
     ensures written { D.written desk.new ≡ D.written desk.old }
 {
     match Text::read(alloc, name, limit, desk) {

@@ -170,7 +170,7 @@ lack_explained words name rows (fault.Refused e) none is lack = absurd (elim lac
                     | inr more ↦ elim more [ inl exploring ↦ exploring | inr format ↦ format ]
                   ]
                 ]
-                | inr other ↦ cc (other.1)
+                | inr more ↦ elim more [ inl together ↦ together.1 | inr other ↦ cc (other.1) ]
               ]
             ]
           ]
@@ -191,6 +191,10 @@ lack_explained words name rows fault.Faults none is lack = (none, (name, rows, i
 lack_explained words name rows fault.Clear none is lack = inl (none, (name, rows, is, lack))
 lack_explained words name rows fault.Hears none is lack = inl (none, (name, rows, is, lack))
 lack_explained words name rows fault.Checks none is lack = (none, (name, rows, is, lack))
+lack_explained words name rows fault.Part none is lack = inl (none, (name, rows, is, lack))
+lack_explained words name rows fault.Jobs none is lack = inl (none, (name, rows, is, lack))
+lack_explained words name rows fault.Sample none is lack = inl (none, (name, rows, is, lack))
+lack_explained words name rows fault.Seed none is lack = inl (none, (name, rows, is, lack))
 lack_explained words name rows fault.Range none is lack = inl (none, (name, rows, is, lack))
 lack_explained words name rows fault.Format none is lack = (none, (name, rows, is, lack))
 lack_explained words name rows fault.AnswerFormat none is lack =
@@ -217,6 +221,10 @@ mistake_explained words error fault.Faults kinds is = absurd is
 mistake_explained words error fault.Clear kinds is = inr is
 mistake_explained words error fault.Hears kinds is = inr is
 mistake_explained words error fault.Checks kinds is = absurd is
+mistake_explained words error fault.Part kinds is = inr is
+mistake_explained words error fault.Jobs kinds is = inr is
+mistake_explained words error fault.Sample kinds is = inr is
+mistake_explained words error fault.Seed kinds is = inr is
 mistake_explained words error fault.Range kinds is = inr is
 mistake_explained words error fault.Format kinds is = absurd is
 mistake_explained words error fault.AnswerFormat kinds is = absurd is

@@ -1,6 +1,6 @@
 -- The parts of a range, round its dash.
 use Rattle.std.proofs.Common.{◌≡◌, ◌≢◌, ◌∙◌, ◌≤◌, ℕ, [], ◌∷◌, true, false, length, arith}
-use Rattle.std.proofs.Common.{zero, suc, ap, sym, subst}
+use Rattle.std.proofs.Common.{zero, suc, ap, refl, sym, subst}
 use Rattle.std.specs.Char.{is_ascii_digit}
 use Rattle.std.specs.List.{after_first, before_first, list_all}
 use Rattle.std.proofs.lemmas.Bool.{and_parts}
@@ -18,21 +18,20 @@ pub record AreRangeParts (text : Text) (r : RoundRange) : Type 0 where
   pub some : 1 ≤ r.first
   pub rising : r.first ≤ r.last
 
-no_dash : (b : ℕ) → is_ascii_digit b ≡ true → b ≢ dash
-no_dash b passes is = let bad : true ≡ false =
-    sym passes ∙ ap is_ascii_digit is in absurd (cc bad)
-
-digits_lack_dash : (text : Text) → list_all is_ascii_digit text ≡ true → Lacks dash text
-digits_lack_dash [] all i below is = absurd (omega arith)
-digits_lack_dash (b ∷ rest) all zero below is =
-    no_dash b (and_parts (is_ascii_digit b) (list_all is_ascii_digit rest) all).0 is
-digits_lack_dash (b ∷ rest) all (suc i) below is =
-    digits_lack_dash rest (and_parts (is_ascii_digit b) (list_all is_ascii_digit rest) all).1 i
-    (omega arith) is
+-- digits have no byte that is none
+pub digits_lack : (c : ℕ) → is_ascii_digit c ≡ false → (text : Text)
+    → list_all is_ascii_digit text ≡ true → Lacks c text
+digits_lack c other [] all i below is = absurd (omega arith)
+digits_lack c other (b ∷ rest) all zero below is =
+    let passes = (and_parts (is_ascii_digit b) (list_all is_ascii_digit rest) all).0 in
+    let bad : true ≡ false = sym passes ∙ ap is_ascii_digit is ∙ other in absurd (cc bad)
+digits_lack c other (b ∷ rest) all (suc i) below is =
+    digits_lack c other rest
+    (and_parts (is_ascii_digit b) (list_all is_ascii_digit rest) all).1 i (omega arith) is
 
 pub range_parts : (text : Text) (r : RoundRange) → RangeText text r → AreRangeParts text r
 range_parts text r h =
-    let lacks = digits_lack_dash h.0 ((digits_tested h.0).1 h.3.digits.1) in
+    let lacks = digits_lack dash refl h.0 ((digits_tested h.0).1 h.3.digits.1) in
     record {
       first = subst (λ (t : Text). NumberText t r.first)
           (sym (ap (before_first is_dash) h.2 ∙ before_first-at dash h.0 h.1 lacks)) h.3;

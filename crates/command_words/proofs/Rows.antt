@@ -1,6 +1,6 @@
 -- Command lines written out: `clap`'s definition takes them, and gives these values.
 use Rattle.std.proofs.Common.{◌≡◌, refl, codes, true, option_map, None, Some, List, [], ◌∷◌}
-use Rattle.clap.specs.Words.{Text, fault_of, first_of, subcommand_of, takes}
+use Rattle.clap.specs.Words.{Text, all_of, fault_of, first_of, subcommand_of, takes}
 use Rattle.clap.specs.declared.error.kind.ErrorKind.TheVariants as kind
 use Rattle.clap.proofs.OnLiterals.{clap_on_literals}
 use Rattle.command_words.specs.Changes.{values_of}
@@ -35,6 +35,27 @@ form_by : option_map (λ p. first_of (codes "by") p.1) (subcommand_of roundc_app
     ≡ Some (Some (codes "node"))
 unfolding clap_on_literals
 form_by = refl
+
+abbrev together_row : List Text
+together_row = codes "together" ∷ codes "a" ∷ codes "-" ∷ codes "b" ∷ []
+
+together_taken : takes roundc_app together_row ≡ true
+unfolding clap_on_literals
+together_taken = refl
+
+together_files : option_map (λ p. all_of (codes "files") p.1)
+    (subcommand_of roundc_app together_row) ≡ Some (Some (codes "a" ∷ codes "-" ∷ codes "b" ∷ []))
+unfolding clap_on_literals
+together_files = refl
+
+abbrev parts_row : List Text
+parts_row = codes "explore" ∷ codes "a" ∷ codes "--header" ∷ codes "b" ∷ codes "--part" ∷ codes
+    "2/8" ∷ codes "--jobs=4" ∷ codes "--inputs" ∷ codes "any" ∷ []
+
+parts_part : option_map (λ p. first_of (codes "part") p.1) (subcommand_of roundc_app parts_row)
+    ≡ Some (Some (codes "2/8"))
+unfolding clap_on_literals
+parts_part = refl
 
 help_refused : fault_of roundc_app (codes "run" ∷ codes "--help" ∷ []) ≡ kind.DisplayHelp ∷ []
 unfolding clap_on_literals

@@ -118,12 +118,28 @@ explore_some_runs_app =
     (optional_rule (codes "inputs"))) (optional_rule (codes "faults")))
     (optional_rule (codes "clear"))) (optional_rule (codes "hears"))
 
+-- the same with `[--part I/N] [--jobs J] [--sample COUNT] [--seed S]`
+abbrev pub explore_by_search_app : App
+explore_by_search_app =
+    with_rule (with_rule (with_rule (with_rule explore_some_runs_app
+    (optional_rule (codes "part"))) (optional_rule (codes "jobs")))
+    (optional_rule (codes "sample"))) (optional_rule (codes "seed"))
+
 -- the same with `[--check LIST] [--always EXPR] [--trace FILE] [--format FORMAT]`
 abbrev pub explore_app : App
 explore_app =
-    with_rule (with_rule (with_rule (with_rule explore_some_runs_app
+    with_rule (with_rule (with_rule (with_rule explore_by_search_app
     (optional_rule (codes "check"))) (optional_rule (codes "always")))
     (optional_rule (codes "trace"))) format_rule
+
+-- `FILE..`, one or more words of their own
+abbrev pub files_rule : Rule
+files_rule =
+    record (new_rule (codes "files")) { value_names = 1; required = true; action = Some Append }
+
+-- `together FILE..`
+abbrev pub together_app : App
+together_app = with_rule (new_app (codes "together")) files_rule
 
 -- the command line with no command in it yet; its version is that of each command
 abbrev pub bare_app : App
@@ -139,9 +155,9 @@ bare_app = let new = new_app (codes "roundc") in record new {
 -- the whole command line
 abbrev pub roundc_app : App
 roundc_app = with_subcommand (with_subcommand (with_subcommand (with_subcommand (with_subcommand
-    (with_subcommand (with_subcommand (with_subcommand (with_subcommand (with_subcommand bare_app
-    check_app.top) show_app.top) run_app.top) draw_app.top) threads_app.top) judge_app.top)
-    lockstep_app.top) realise_app.top) rounds_app.top) explore_app.top
+    (with_subcommand (with_subcommand (with_subcommand (with_subcommand (with_subcommand
+    (with_subcommand bare_app check_app.top) show_app.top) run_app.top) draw_app.top) threads_app.top) judge_app.top)
+    lockstep_app.top) realise_app.top) rounds_app.top) explore_app.top) together_app.top
 
 -- what a parse reads of the command is this, and none of its arguments is global
 abbrev pub IsCommandOf : App → Command → Type 0

@@ -4,6 +4,7 @@ use Rattle.std.specs.Prelude.{codes, false, option_map, true}
 use Rattle.std.specs.List.{list_all, slice_split}
 use Rattle.std.specs.Str.{bytes_eq}
 use Rattle.clap.specs.Words.{Row, Text, first_of}
+use Rattle.command_words.specs.Searching.{FailsBySearching, GivesJobs, GivesPart, GivesSample}
 use Rattle.command_words.specs.Values.{NumberText, is_comma}
 use Rattle.command_words.specs.declared.exploring.Checks.{Checks}
 use Rattle.command_words.specs.declared.exploring.Exploring.{Exploring}
@@ -86,6 +87,9 @@ pub record GivesExploring (rows : List Row) (e : Exploring) : Type 0 where
   pub faults : GivesOr faults.Nobody (codes "faults") FaultsText rows e.faults
   pub clear : GivesClear rows e.clear
   pub hears : GivesOr 0 (codes "hears") NumberText rows e.hears
+  pub part : GivesPart rows e.part
+  pub jobs : GivesJobs rows e.jobs
+  pub sample : GivesSample rows e.sample
   pub checks : GivesOr usual_checks (codes "check") ChecksText rows e.checks
   pub always : first_of (codes "always") rows ≡ option_map (λ text. text.now) e.always
   pub trace : first_of (codes "trace") rows ≡ option_map (λ name. name.now) e.trace
@@ -97,4 +101,4 @@ FailsByExploring rows fault.Faults = HasNoValue (codes "faults") FaultsText rows
 FailsByExploring rows fault.Clear = HasNoValue (codes "clear") ClearText rows
 FailsByExploring rows fault.Hears = HasNoValue (codes "hears") NumberText rows
 FailsByExploring rows fault.Checks = HasNoValue (codes "check") ChecksText rows
-FailsByExploring rows _ = ⊥
+FailsByExploring rows fault = FailsBySearching rows fault

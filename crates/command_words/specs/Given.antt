@@ -1,9 +1,11 @@
 -- What the words of a command line say, by `clap`'s own definition of a simple command's matches.
+use Rattle.std.specs.Borrow.{Bor}
 use Rattle.std.specs.Prelude.{◌≡◌, ◌≢◌, ◌≤◌, ◌⊎◌, ◌↔◌, ◌∷◌, ◌&&◌, ◌||◌, ℕ, Bool, IsTrue, List, None}
-use Rattle.std.specs.Prelude.{Option, Some, codes, [], false, option_map, take, true, ⊤}
+use Rattle.std.specs.Prelude.{Option, Some, codes, [], false, map, option_map, take, true, ⊤}
 use Rattle.std.specs.List.{list_any}
 use Rattle.std.specs.Str.{bytes_eq}
-use Rattle.clap.specs.Words.{Row, Text, first_of, subcommand_of, fault_of, IsAmong, kind_of}
+use Rattle.clap.specs.Words.{Row, Text, all_of, first_of, subcommand_of, fault_of, IsAmong}
+use Rattle.clap.specs.Words.{kind_of}
 use Rattle.clap.specs.declared.error.Error.{Error}
 use Rattle.clap.specs.declared.error.kind.ErrorKind.TheVariants.{OutOfMemory}
 use Rattle.command_words.specs.Changes.{FailsByChanges, GivesChanges}
@@ -23,7 +25,7 @@ use Rattle.command_words.specs.declared.values.Source.{Source}
 use Rattle.command_words.specs.declared.words.Words.{Words}
 use Rattle.command_words.specs.declared.words.Words.TheVariants.{Check, Draw, Explore, Judge}
 use Rattle.command_words.specs.declared.words.Words.TheVariants.{Lockstep, Realise, Rounds, Run}
-use Rattle.command_words.specs.declared.words.Words.TheVariants.{Show, Threads}
+use Rattle.command_words.specs.declared.words.Words.TheVariants.{Show, Threads, Together}
 use Rattle.command_words.specs.declared.words.WordsFault.{WordsFault}
 use Rattle.command_words.specs.declared.words.WordsFault.TheVariants.{Refused, Missing, NoMemory}
 use Rattle.command_words.specs.declared.words.WordsFault.TheVariants as fault
@@ -95,6 +97,10 @@ pub record GivesForm (rows : List Row) (f : Form) : Type 0 where
   pub changed : IsTrue f.changed ↔ HasFlag (codes "changed") rows
   pub decided : IsTrue f.decided ↔ IsDecidedAsked rows
 
+-- the words of their own are the names of these files
+abbrev pub GivesFiles : List Row → List (Bor Text) → Type 0
+GivesFiles rows files = all_of (codes "files") rows ≡ Some (map (λ name. name.now) files)
+
 -- the command of this name with these matches is what the words say
 abbrev pub Gives : Text → List Row → Words → Type 0
 Gives name rows (Check source f) =
@@ -127,6 +133,7 @@ Gives name rows (Rounds source header omissions form) = (name ≡ codes "rounds"
 Gives name rows (Explore source header exploring f) = (name ≡ codes "explore")
     × GivesSource rows source × (first_of (codes "header") rows ≡ Some header.now)
     × GivesExploring rows exploring × GivesFormat rows f
+Gives name rows (Together files) = (name ≡ codes "together") × GivesFiles rows files.items
 
 -- the words name a command, and give it its values
 abbrev pub Means : List Text → Words → Type 0
@@ -258,6 +265,12 @@ FailsByExplore rows fault = FailsBySource rows fault
     ⊎ (FailsByFile (codes "header") rows fault
     ⊎ (FailsByExploring rows fault ⊎ FailsByFormat rows fault))
 
+-- the fault of a value of `together`: no file is named, or there was no memory for the names
+abbrev pub FailsByFiles : List Row → WordsFault → Type 0
+FailsByFiles rows Missing = all_of (codes "files") rows ≡ None
+FailsByFiles rows NoMemory = ⊤
+FailsByFiles rows _ = ⊥
+
 -- the fault of a command's values; a command of another name lacks all
 abbrev pub FailsByValue : Text → List Row → WordsFault → Type 0
 FailsByValue name rows fault =
@@ -271,10 +284,11 @@ FailsByValue name rows fault =
     ⊎ (((name ≡ codes "realise") × FailsByOmissions rows fault)
     ⊎ (((name ≡ codes "rounds") × FailsByRounds rows fault)
     ⊎ (((name ≡ codes "explore") × FailsByExplore rows fault)
+    ⊎ (((name ≡ codes "together") × FailsByFiles rows fault)
     ⊎ (((name ≢ codes "check") × (name ≢ codes "show") × (name ≢ codes "run")
     × (name ≢ codes "draw") × (name ≢ codes "threads") × (name ≢ codes "judge")
     × (name ≢ codes "lockstep") × (name ≢ codes "realise") × (name ≢ codes "rounds")
-    × (name ≢ codes "explore")) × (fault ≡ Missing)))))))))
+    × (name ≢ codes "explore") × (name ≢ codes "together")) × (fault ≡ Missing))))))))))
 
 -- `clap` finds no mistake in the words, and a value of the command that they name has the fault
 abbrev pub HasBadValue : List Text → WordsFault → Type 0
@@ -323,6 +337,10 @@ Explains words fault.Gst = HasBadNumber (codes "--gst") words fault.Gst
 Explains words fault.Ticks = HasBadNumber (codes "--ticks") words fault.Ticks
 Explains words fault.Clear = HasBadNumber (codes "--clear") words fault.Clear
 Explains words fault.Hears = HasBadNumber (codes "--hears") words fault.Hears
+Explains words fault.Part = HasBadNumber (codes "--part") words fault.Part
+Explains words fault.Jobs = HasBadNumber (codes "--jobs") words fault.Jobs
+Explains words fault.Sample = HasBadNumber (codes "--sample") words fault.Sample
+Explains words fault.Seed = HasBadNumber (codes "--seed") words fault.Seed
 Explains words fault.Range = HasBadNumber (codes "--rounds") words fault.Range
 Explains words fault.Change =
     HasBadValue words fault.Change ⊎ (has_negative_change words ≡ true)
@@ -338,6 +356,10 @@ IsMistake words error fault.Gst = has_negative (codes "--gst") words ≡ true
 IsMistake words error fault.Ticks = has_negative (codes "--ticks") words ≡ true
 IsMistake words error fault.Clear = has_negative (codes "--clear") words ≡ true
 IsMistake words error fault.Hears = has_negative (codes "--hears") words ≡ true
+IsMistake words error fault.Part = has_negative (codes "--part") words ≡ true
+IsMistake words error fault.Jobs = has_negative (codes "--jobs") words ≡ true
+IsMistake words error fault.Sample = has_negative (codes "--sample") words ≡ true
+IsMistake words error fault.Seed = has_negative (codes "--seed") words ≡ true
 IsMistake words error fault.Range = has_negative (codes "--rounds") words ≡ true
 IsMistake words error fault.Change = has_negative_change words ≡ true
 IsMistake words error NoMemory = kind_of error ≡ OutOfMemory

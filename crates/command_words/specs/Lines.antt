@@ -1,5 +1,5 @@
 -- The line that each mistake in the words has on standard error.
-use Rattle.std.specs.Prelude.{ℕ, List, Option, Some, None, codes}
+use Rattle.std.specs.Prelude.{ℕ, ◌++◌, List, Option, Some, None, codes}
 use Rattle.command_words.specs.declared.words.WordsFault.{WordsFault}
 use Rattle.command_words.specs.declared.words.WordsFault.TheVariants.{Refused, Missing, Source}
 use Rattle.command_words.specs.declared.words.WordsFault.TheVariants.{List as BadList, Delta, Gst}
@@ -7,6 +7,7 @@ use Rattle.command_words.specs.declared.words.WordsFault.TheVariants.{Ticks, Cha
 use Rattle.command_words.specs.declared.words.WordsFault.TheVariants.{AnswerFormat, Blocks, Format}
 use Rattle.command_words.specs.declared.words.WordsFault.TheVariants.{Faults, Clear, Range}
 use Rattle.command_words.specs.declared.words.WordsFault.TheVariants.{Hears, Checks, NoMemory}
+use Rattle.command_words.specs.declared.words.WordsFault.TheVariants.{Part, Jobs, Sample, Seed}
 
 -- a mistake in the words; the text of one that `clap` finds is its own
 abbrev pub words_line : WordsFault → Option (List ℕ)
@@ -26,6 +27,13 @@ words_line Clear = Some (codes "error: C is a number of 1 to 4294967295\n")
 words_line Hears = Some (codes "error: M is a number of 0 to 4294967295\n")
 words_line Checks = Some (codes
     "error: LIST is `agreement`, `validity`, `final` or `termination` with commas between them\n")
+words_line Part = Some (codes "error: `--part` is I/N with 1 <= I <= N <= 65536; it goes with "
+    ++ codes "`--inputs any`, and not with `--sample`\n")
+words_line Jobs = Some (codes
+    "error: J is a number of 1 to 256; `--jobs` doesn't go with `--sample`\n")
+words_line Sample = Some (codes "error: COUNT is a number of 1 to 4294967295\n")
+words_line Seed = Some (codes
+    "error: S is a number of 0 to 4294967295; `--seed` goes with `--sample`\n")
 words_line Range = Some (codes
     "error: RANGE is A-B, two numbers of 1 to 4294967295 with A <= B\n")
 words_line Format = Some (codes "error: FORMAT is `text`, `json`, `table` or `summary`\n")

@@ -3,6 +3,7 @@ ghost use Rattle.std.specs.Prelude.{◌≡◌, IfOk, codes, false, length};
 ghost use Rattle.clap.specs.Words.{App, rule_of};
 ghost use Rattle.command_words.specs.Commands.{IsCommandOf, bare_app, check_app, decided_rule};
 ghost use Rattle.command_words.specs.Commands.{draw_app, explore_app, explore_by_header_app};
+ghost use Rattle.command_words.specs.Commands.{explore_by_search_app, files_rule, together_app};
 ghost use Rattle.command_words.specs.Commands.{paced_lockstep_app, repeated_rule};
 ghost use Rattle.command_words.specs.Commands.{explore_some_runs_app, flag_rule, format_rule};
 ghost use Rattle.command_words.specs.Commands.{judge_app, lockstep_app, optional_rule};
@@ -412,11 +413,42 @@ fn explore_some_runs<'a>(alloc: Global) -> Result<Command<'a>, AllocError>
         ))
 }
 
+/// The same with the options that say how the runs are gone through.
+fn explore_by_search<'a>(alloc: Global) -> Result<Command<'a>, AllocError>
+    ensures { IfOk result (IsCommandOf explore_by_search_app) }
+{
+    explore_some_runs(alloc)?
+        .arg(optional_arg(
+            alloc,
+            "part",
+            "I/N",
+            "Only part I of N of all lists of inputs; N is 65536 at most",
+        ))?
+        .arg(optional_arg(
+            alloc,
+            "jobs",
+            "J",
+            "How many jobs search at once, 1 to 256; 1 by default",
+        ))?
+        .arg(optional_arg(
+            alloc,
+            "sample",
+            "COUNT",
+            "Only so many runs, made at random",
+        ))?
+        .arg(optional_arg(
+            alloc,
+            "seed",
+            "S",
+            "What the runs of a sample are made from; 0 by default",
+        ))
+}
+
 /// The same with the options that say what is asked, and where a run is written.
 fn explore_command<'a>(alloc: Global) -> Result<Command<'a>, AllocError>
     ensures { IfOk result (IsCommandOf explore_app) }
 {
-    explore_some_runs(alloc)?
+    explore_by_search(alloc)?
         .arg(optional_arg(
             alloc,
             "check",
@@ -438,6 +470,27 @@ fn explore_command<'a>(alloc: Global) -> Result<Command<'a>, AllocError>
         .arg(format_arg(alloc, "text (by default) or json"))
 }
 
+/// `together FILE..`.
+fn together_command<'a>(alloc: Global) -> Result<Command<'a>, AllocError>
+    ensures { IfOk result (IsCommandOf together_app) }
+{
+    Command::new(alloc, "together")
+        .about("Puts the answers of all parts of a search together")
+        .arg(files_arg(alloc))
+}
+
+/// `FILE..`, one or more words of their own.
+fn files_arg<'a>(alloc: Global) -> Arg<'a>
+    ensures rule { rule_of result ≡ files_rule }
+    ensures local { result.global ≡ false }
+{
+    Arg::new(alloc, "files")
+        .value_name("FILE")
+        .required(true)
+        .action(ArgAction::Append)
+        .help("What `explore --part` has printed of each part, or - for standard input")
+}
+
 /// The command line with no command in it yet.
 fn bare_command<'a>(alloc: Global) -> Result<Command<'a>, AllocError>
     ensures { IfOk result (IsCommandOf bare_app) }
@@ -445,7 +498,7 @@ fn bare_command<'a>(alloc: Global) -> Result<Command<'a>, AllocError>
     Ok(
         Command::new(alloc, "roundc")
             .bin_name("roundc")?
-            .version("0.2.0, proved with rattle-kit-13f")
+            .version("0.3.0, proved with rattle-kit-13b")
             .propagate_version(true)
             .about(
                 "Runs algorithms written in rounds, step by step. roundc why COMMAND .. says why \
@@ -470,5 +523,6 @@ pub(crate) fn roundc_command<'a>(alloc: Global) -> Result<Command<'a>, AllocErro
         .subcommand(lockstep_command(alloc)?)?
         .subcommand(realise_command(alloc)?)?
         .subcommand(rounds_command(alloc)?)?
-        .subcommand(explore_command(alloc)?)
+        .subcommand(explore_command(alloc)?)?
+        .subcommand(together_command(alloc)?)
 }

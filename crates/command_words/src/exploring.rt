@@ -10,6 +10,7 @@ ghost use Rattle.command_words.specs.Values.{NumberText, is_comma};
 ghost use Rattle.command_words.specs.declared.exploring.FaultChoice.TheVariants as faults;
 ghost use Rattle.command_words.specs.declared.exploring.InputChoice.TheVariants as inputs;
 
+use crate::searching::{PartChoice, SampleChoice, jobs_of, part_of, sample_of};
 use crate::values::read_number;
 use crate::words::{WordsFault, optional_text};
 use clap::ArgMatches;
@@ -49,6 +50,12 @@ pub struct Exploring<'a> {
     pub clear: Option<u32>,
     /// M, or 0 if it is left out.
     pub hears: u32,
+    /// I and N, if they aren't left out: then all lists of inputs are asked about, and no sample.
+    pub part: Option<PartChoice>,
+    /// J, or 1 if it is left out, as it is with a sample.
+    pub jobs: u32,
+    /// COUNT and S, if COUNT isn't left out.
+    pub sample: Option<SampleChoice>,
     pub checks: Checks,
     /// EXPR, if it isn't left out.
     pub always: Option<&'a str>,
@@ -198,6 +205,9 @@ pub(crate) fn exploring_of<'a>(matches: &ArgMatches<'a>) -> Result<Exploring<'a>
         faults: faults_of(matches)?,
         clear: clear_of(matches)?,
         hears: hears_of(matches)?,
+        part: part_of(matches)?,
+        jobs: jobs_of(matches)?,
+        sample: sample_of(matches)?,
         checks: checks_of(matches)?,
         always: optional_text(matches, "always"),
         trace: optional_text(matches, "trace"),

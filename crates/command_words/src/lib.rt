@@ -14,17 +14,20 @@
 //! roundc rounds SOURCE --header FILE --omissions FILE [--decided] [--format FORMAT] [--by BY]
 //!     [--vars LIST] [--changed]
 //! roundc explore SOURCE --header FILE [--inputs INPUTS] [--faults FAULTS] [--clear C]
-//!     [--hears M] [--check LIST] [--always EXPR] [--trace FILE] [--format FORMAT]
+//!     [--hears M] [--part I/N] [--jobs J] [--sample COUNT] [--seed S] [--check LIST]
+//!     [--always EXPR] [--trace FILE] [--format FORMAT]
+//! roundc together FILE..
 //! ```
 //!
 //! SOURCE is a file's name, or `@NAME:VALUES`, a program of the library. FILE is a file's name, or
 //! `-` for standard input: what `-` means is left to the caller, who opens the file. LIST is
 //! numbers with commas, for `--check` names of properties, or for `--vars` any text, which is to
 //! be names of variables. INPUTS are `header` or `any`, FAULTS `none`, `omission` or `crash`. D is
-//! a number of 1 to 1,024, and all others are numbers of 32 bits, C of `--clear` of 1 on. RANGE is
-//! `A-B`, two such numbers of 1 on with A no larger than B. EXPR is any text. FORMAT is `text` or
-//! `json`, or for `run` and `rounds` also `table` or `summary`, and BY is `round` or `node`. What
-//! two dots follow may be there several times.
+//! a number of 1 to 1,024, J one of 1 to 256, and all others are numbers of 32 bits, C of `--clear`
+//! and COUNT of 1 on. RANGE is `A-B`, two such numbers of 1 on with A no larger than B, and I is
+//! one of 1 to N, which is 65,536 at most. EXPR is any text. FORMAT is `text` or `json`, or for
+//! `run` and `rounds` also `table` or `summary`, and BY is `round` or `node`. What two dots follow
+//! may be there several times.
 #![tactic(auto)]
 
 mod changes;
@@ -33,6 +36,7 @@ mod drawing;
 mod exploring;
 mod forms;
 mod negative;
+mod searching;
 mod values;
 mod words;
 
@@ -40,5 +44,6 @@ pub use changes::{Changes, NodeStop, OwnDelay};
 pub use drawing::{Drawing, RoundRange};
 pub use exploring::{Checks, Exploring, FaultChoice, InputChoice};
 pub use forms::{AnswerFormat, Blocks, Form, Format};
+pub use searching::{PartChoice, SampleChoice};
 pub use values::Source;
 pub use words::{Words, WordsFault, read_words};

@@ -8,7 +8,7 @@ ghost use Rattle.command_words.specs.Given.{FailsByExplore, FailsByFile, FailsBy
 ghost use Rattle.command_words.specs.Given.{FailsByJudge, FailsByList, FailsByLockstep};
 ghost use Rattle.command_words.specs.Given.{FailsByOmissions, FailsByReport, FailsByRounds};
 ghost use Rattle.command_words.specs.Given.{FailsBySource, FailsByTable, FailsByThreads};
-ghost use Rattle.command_words.specs.Given.{FailsByTicks};
+ghost use Rattle.command_words.specs.Given.{FailsByFiles, FailsByTicks, GivesFiles};
 ghost use Rattle.command_words.specs.Given.{FailsByValue, Gives, GivesDelta, GivesGst, GivesList};
 ghost use Rattle.command_words.specs.Given.{GivesSource, GivesTable, GivesTicks, HasFlag};
 ghost use Rattle.command_words.specs.Given.{IsDecidedAsked, IsMistake, Means};
@@ -102,13 +102,18 @@ pub enum Words<'a> {
         form: Form<'a>,
     },
     /// `explore SOURCE --header FILE [--inputs INPUTS] [--faults FAULTS] [--clear C] [--hears M]
-    /// [--check LIST] [--always EXPR] [--trace FILE] [--format FORMAT]`; `header` is FILE as it was
-    /// written, `-` included.
+    /// [--part I/N] [--jobs J] [--sample COUNT] [--seed S] [--check LIST] [--always EXPR]
+    /// [--trace FILE] [--format FORMAT]`; `header` is FILE as it was written, `-` included.
     Explore {
         source: Source<'a>,
         header: &'a str,
         exploring: Exploring<'a>,
         format: AnswerFormat,
+    },
+    /// `together FILE..`; `files` has each FILE as it was written, `-` included, in their order,
+    /// and one at least.
+    Together {
+        files: Vec<&'a str>,
     },
 }
 
@@ -144,6 +149,15 @@ pub enum WordsFault {
     Hears,
     /// A LIST of `--check` that isn't one or more names of properties with commas between them.
     Checks,
+    /// An I/N that isn't two numbers with 1 <= I <= N <= 65,536, or that is there without
+    /// `--inputs any` or with `--sample`.
+    Part,
+    /// A J that isn't a number of 1 to 256, also one below 0, or that is there with `--sample`.
+    Jobs,
+    /// A COUNT that isn't a number of 1 to the largest of 32 bits, also one below 0.
+    Sample,
+    /// An S that isn't a number of 32 bits, also one below 0, or that is there without `--sample`.
+    Seed,
     /// A RANGE that isn't two numbers of 1 to the largest of 32 bits with `-` between them, or
     /// whose first is larger than its last; also one that begins with a number below 0.
     Range,
@@ -196,6 +210,26 @@ impl fmt::Display for WordsFault {
                      between them"
                 )
             }
+            WordsFault::Part => {
+                writeln!(
+                    f,
+                    "error: `--part` is I/N with 1 <= I <= N <= 65536; it goes with \
+                     `--inputs any`, and not with `--sample`"
+                )
+            }
+            WordsFault::Jobs => {
+                writeln!(
+                    f,
+                    "error: J is a number of 1 to 256; `--jobs` doesn't go with `--sample`"
+                )
+            }
+            WordsFault::Sample => writeln!(f, "error: COUNT is a number of 1 to 4294967295"),
+            WordsFault::Seed => {
+                writeln!(
+                    f,
+                    "error: S is a number of 0 to 4294967295; `--seed` goes with `--sample`"
+                )
+            }
             WordsFault::Range => {
                 writeln!(
                     f,
@@ -241,6 +275,10 @@ fn refusal(error: clap::Error, words: &[&str]) -> WordsFault
         _ if has_negative("--ticks", words) => WordsFault::Ticks,
         _ if has_negative("--clear", words) => WordsFault::Clear,
         _ if has_negative("--hears", words) => WordsFault::Hears,
+        _ if has_negative("--part", words) => WordsFault::Part,
+        _ if has_negative("--jobs", words) => WordsFault::Jobs,
+        _ if has_negative("--sample", words) => WordsFault::Sample,
+        _ if has_negative("--seed", words) => WordsFault::Seed,
         _ if has_negative("--rounds", words) => WordsFault::Range,
         _ if has_negative_change(words) => WordsFault::Change,
         _ => WordsFault::Refused(error),
@@ -487,6 +525,17 @@ fn explore_of<'a>(matches: &ArgMatches<'a>) -> Result<Words<'a>, WordsFault>
     })
 }
 
+/// Each FILE of the command `together`.
+fn files_of<'a>(alloc: Global, matches: &ArgMatches<'a>) -> Result<Vec<&'a str>, WordsFault>
+    ensures ok { IfOk result (λ files. GivesFiles (rows_of (found_of matches.now)) files.items) }
+    ensures err { IfErr result (FailsByFiles (rows_of (found_of matches.now))) }
+{
+    match matches.get_strs("files") {
+        Some(files) => Ok(Vec::from_slice(alloc, files)?),
+        None => Err(WordsFault::Missing),
+    }
+}
+
 /// The values of the command `name`.
 fn command_of<'a>(
     alloc: Global,
@@ -508,6 +557,9 @@ fn command_of<'a>(
         "lockstep" => lockstep_of(alloc, matches),
         "realise" => realise_of(matches),
         "rounds" => rounds_of(matches),
+        "together" => Ok(Words::Together {
+            files: files_of(alloc, matches)?,
+        }),
         "explore" => explore_of(matches),
         _ => Err(WordsFault::Missing),
     }

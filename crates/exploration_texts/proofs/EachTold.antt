@@ -6,17 +6,17 @@ use Rattle.std.proofs.lemmas.List.{append-nil}
 use Rattle.std.proofs.lemmas.List.Elements.{All-append, All-cons, All-nil}
 use Rattle.command_words.specs.declared.exploring.Checks.{Checks}
 use Rattle.command_words.specs.declared.exploring.Exploring.{Exploring}
+use Rattle.command_words.specs.declared.searching.SampleChoice.{SampleChoice}
 use Rattle.exploration_texts.specs.Asking.{inputs_of, question_of}
 use Rattle.exploration_texts.specs.Conditions.{IsConditionFor}
 use Rattle.exploration_texts.specs.Told.{Adds, AddsAlways, AddsAnswer, AreAnswers, AreAnswersOf}
-use Rattle.exploration_texts.specs.Told.{IsNamed, IsRightOf, asked, name_of}
+use Rattle.exploration_texts.specs.Told.{IsAnswer, IsAnswerOf, IsNamed, IsRightOf, asked}
+use Rattle.exploration_texts.specs.Told.{name_of, no_failure}
 use Rattle.exploration_texts.specs.declared.answering.Search.{Search}
 use Rattle.exploration_texts.specs.declared.told.PropertyName.{PropertyName}
 use Rattle.exploration_texts.specs.declared.told.PropertyName.TheVariants as kinds
 use Rattle.exploration_texts.specs.declared.told.Told.{Told}
 use Rattle.round_explorer.specs.declared.property.Property.{Property}
-use Rattle.round_explorer.specs.Answers.{IsRight}
-use Rattle.round_explorer.specs.declared.answer.Answer.TheVariants.{Holds}
 use Rattle.round_explorer.specs.declared.property.Property.TheVariants.{Agreement, Always, Final}
 use Rattle.round_explorer.specs.declared.property.Property.TheVariants.{Safety, Validity}
 use Rattle.round_lang.specs.Syntax.{ProgramTree}
@@ -28,7 +28,7 @@ pub record AreTold (w : Search) (condition : Option Tree) (names : List Property
     (told : List Told) : Type 0 where
   pub named : map (λ t. t.name) told ≡ names
   pub right :
-      All (IsRightOf w.program.now w.setup.now w.question w.inputs condition) told
+      All (IsRightOf w.program.now w.setup.now w.question w.inputs w.sample condition) told
 
 names_more : (told : List Told) (one : Told)
     → map (λ t. t.name) (told ++ one ∷ []) ≡ map (λ t. t.name) told ++ one.name ∷ []
@@ -37,7 +37,7 @@ names_more (t ∷ ts) one = ap (λ ns. t.name ∷ ns) (names_more ts one)
 
 module _ (w : Search) (condition : Option Tree) where
   abbrev IsRightHere : Told → Type 0
-  IsRightHere = IsRightOf w.program.now w.setup.now w.question w.inputs condition
+  IsRightHere = IsRightOf w.program.now w.setup.now w.question w.inputs w.sample condition
 
   pub none_told : (told : List Told) → told ≡ [] → AreTold w condition [] told
   none_told told e = record {
@@ -82,19 +82,28 @@ told_always w None names old new h same = none_added w None names old new h same
 abbrev pub IsOfSafety : Property → Type 0
 IsOfSafety x = (x ≡ Agreement) ⊎ ((x ≡ Validity) ⊎ (x ≡ Final))
 
--- and holds if they all do
+-- the answer that tells of no failure is right of the property, of all runs or of a sample
+abbrev IsNoneOf : Search → Option SampleChoice → Property → Type 0
+IsNoneOf w sample x =
+    IsAnswer w.program.now w.setup.now w.question w.inputs sample x (no_failure sample)
+
+safe_by : (w : Search) (sample : Option SampleChoice) (x : Property) → IsOfSafety x
+    → IsNoneOf w sample Safety → IsNoneOf w sample x
+safe_by w (Some sample) x is h = refl
+safe_by w None x (inl same) h =
+    subst (IsNoneOf w None) (sym same) (λ inputs pattern omits asked.
+    (h inputs pattern omits asked).0)
+safe_by w None x (inr (inl same)) h =
+    subst (IsNoneOf w None) (sym same) (λ inputs pattern omits asked.
+    (h inputs pattern omits asked).1)
+safe_by w None x (inr (inr same)) h =
+    subst (IsNoneOf w None) (sym same) (λ inputs pattern omits asked.
+    (h inputs pattern omits asked).2)
+
+-- and no failure of it is found if none of the three is
 pub holds_if_safe : (w : Search) (x : Property) → IsOfSafety x
-    → IsRight w.program.now w.setup.now w.question w.inputs Safety Holds
-    → IsRight w.program.now w.setup.now w.question w.inputs x Holds
-holds_if_safe w x (inl same) h =
-    subst (λ y. IsRight w.program.now w.setup.now w.question w.inputs y Holds) (sym same)
-    (λ inputs pattern omits asked. (h inputs pattern omits asked).0)
-holds_if_safe w x (inr (inl same)) h =
-    subst (λ y. IsRight w.program.now w.setup.now w.question w.inputs y Holds) (sym same)
-    (λ inputs pattern omits asked. (h inputs pattern omits asked).1)
-holds_if_safe w x (inr (inr same)) h =
-    subst (λ y. IsRight w.program.now w.setup.now w.question w.inputs y Holds) (sym same)
-    (λ inputs pattern omits asked. (h inputs pattern omits asked).2)
+    → IsAnswerOf w Safety (no_failure w.sample) → IsAnswerOf w x (no_failure w.sample)
+holds_if_safe w x safe h = safe_by w w.sample x safe h
 
 -- what is asked of a search is told
 pub all_told : (w : Search) (c : Checks) (condition : Option Tree) (told : List Told)
@@ -110,16 +119,17 @@ all_told w c condition told h = record {
 -- what is told of a search is told of what the options ask
 pub answers_asked : (w : Search) (p : ProgramTree) (s : Setup) (e : Exploring)
     (condition : Option Tree) (told : List Told) → w.program.now ≡ p → w.setup.now ≡ s
-    → w.question ≡ question_of e → w.inputs ≡ inputs_of e.inputs
+    → w.question ≡ question_of e → w.inputs ≡ inputs_of e → w.sample ≡ e.sample
     → IsConditionFor p e.always condition → AreAnswersOf w e.checks condition told
     → AreAnswers p s e told
-answers_asked w p s e condition told same_p same_s same_q same_i is h = record {
+answers_asked w p s e condition told same_p same_s same_q same_i same_k is h = record {
   condition = condition;
   is_condition = is;
   names = h.names;
-  right = subst (λ x. All (IsRightOf x s (question_of e) (inputs_of e.inputs) condition) told)
-      same_p (subst (λ x. All (IsRightOf w.program.now x (question_of e) (inputs_of e.inputs)
+  right = subst (λ x. All (IsRightOf x s (question_of e) (inputs_of e) e.sample condition) told)
+      same_p (subst (λ x. All (IsRightOf w.program.now x (question_of e) (inputs_of e) e.sample
       condition) told) same_s (subst (λ x. All (IsRightOf w.program.now w.setup.now x
-      (inputs_of e.inputs) condition) told) same_q (subst (λ x. All (IsRightOf w.program.now
-      w.setup.now w.question x condition) told) same_i h.right)));
+      (inputs_of e) e.sample condition) told) same_q (subst (λ x. All (IsRightOf w.program.now
+      w.setup.now w.question x e.sample condition) told) same_i (subst (λ x. All (IsRightOf
+      w.program.now w.setup.now w.question w.inputs x condition) told) same_k h.right))));
 }

@@ -1,22 +1,23 @@
 -- That a schedule can show each run that is told of.
-use Rattle.std.proofs.Common.{◌≡◌, ◌∙◌, ◌≤◌, ◌∷◌, [], ℕ, All, List, Option, ap, arith}
+use Rattle.std.proofs.Common.{◌≡◌, ◌∙◌, ◌≤◌, ◌∷◌, [], ℕ, All, List, None, Option, Some, ap, arith}
 use Rattle.std.proofs.Common.{false, get_or, inl, inr, length, refl, subst, suc, sym}
 use Rattle.std.proofs.lemmas.Bool.{cases_lt}
 use Rattle.std.proofs.lemmas.List.{get_or_past}
 use Rattle.command_words.specs.declared.exploring.Exploring.{Exploring}
+use Rattle.command_words.specs.declared.searching.SampleChoice.{SampleChoice}
 use Rattle.exploration_texts.specs.Asking.{inputs_of, question_of}
 use Rattle.exploration_texts.specs.Stops.{AreWithin, CanBeShown, IsShowable, IsToldToShow}
-use Rattle.exploration_texts.specs.Told.{AreAnswers, IsFirstNo, IsRightOf, all_hold}
+use Rattle.exploration_texts.specs.Told.{AreAnswers, IsAnswer, IsFirstNo, IsRightOf, all_hold}
+use Rattle.exploration_texts.specs.declared.told.Answered.{Answered}
+use Rattle.exploration_texts.specs.declared.told.Answered.TheVariants.{Fails, Holds, NotFound}
 use Rattle.exploration_texts.specs.declared.told.PropertyName.{PropertyName}
 use Rattle.exploration_texts.specs.declared.told.Told.{Told}
-use Rattle.round_explorer.specs.Answers.{IsRight}
+use Rattle.round_explorer.specs.Answers.{IsAsked}
 use Rattle.round_explorer.specs.Questions.{AreAsked, IsOfKind, failure_of}
-use Rattle.round_explorer.specs.declared.answer.Answer.{Answer}
-use Rattle.round_explorer.specs.declared.answer.Answer.TheVariants.{Fails, Holds}
 use Rattle.round_explorer.specs.declared.answer.Counterexample.{Counterexample}
 use Rattle.round_explorer.specs.declared.property.Property.{Property}
 use Rattle.round_explorer.specs.declared.question.AskedInputs.{AskedInputs}
-use Rattle.round_explorer.specs.declared.question.AskedInputs.TheVariants.{Any, Header}
+use Rattle.round_explorer.specs.declared.question.AskedInputs.TheVariants.{Any, Header, Part}
 use Rattle.round_explorer.specs.declared.question.Failure.{Failure}
 use Rattle.round_explorer.specs.declared.question.Failure.TheVariants.{Crashes, Never}
 use Rattle.round_explorer.specs.declared.question.FaultKind.{FaultKind}
@@ -24,6 +25,7 @@ use Rattle.round_explorer.specs.declared.question.FaultKind.TheVariants.{Crash, 
 use Rattle.round_explorer.specs.declared.question.Question.{Question}
 use Rattle.round_lang.specs.Syntax.{ProgramTree}
 use Rattle.round_lang.specs.Tree.{Tree}
+use Rattle.round_meaning.specs.Omissions.{is_omitted}
 use Rattle.round_meaning.specs.Setups.{IsSetup}
 use Rattle.round_meaning.specs.declared.setup.Setup.{Setup}
 
@@ -51,26 +53,34 @@ inputs_many : (values : ℕ) (s : Setup) (asked : AskedInputs) (inputs : List �
     → AreAsked values s asked inputs → length inputs ≡ s.nodes
 inputs_many values s Header inputs sized h = ap length h ∙ sized.inputs
 inputs_many values s Any inputs sized h = h.0
+inputs_many values s (Part part) inputs sized h = h.0.0
 
 module _ (p : ProgramTree) (s : Setup) (sized : IsSetup s) (question : Question)
     (asked : AskedInputs) where
-  right_shown : (x : Property) (a : Answer) → IsRight p s question asked x a → CanBeShown s a
-  right_shown x Holds h = tt
-  right_shown x (Fails c) h = record {
-    inputs = inputs_many p.values s asked c.inputs sized h.is_asked.are_asked;
-    past = h.past;
-    within = all_within question.faults s.rounds c.failures.items h.is_asked.is_pattern.kinds;
+  asked_shown : (c : Counterexample) → IsAsked p s question asked c.inputs c.failures.items
+      (is_omitted c.omissions) → c.round ≤ s.rounds → IsShowable s c
+  asked_shown c h past = record {
+    inputs = inputs_many p.values s asked c.inputs sized h.are_asked;
+    past = past;
+    within = all_within question.faults s.rounds c.failures.items h.is_pattern.kinds;
   }
 
-  told_shown : (condition : Option Tree) (t : Told)
-      → IsRightOf p s question asked condition t → IsToldToShow s t
-  told_shown condition t (x, named, right) = right_shown x t.answer right
+  right_shown : (sample : Option SampleChoice) (x : Property) (a : Answered)
+      → IsAnswer p s question asked sample x a → CanBeShown s a
+  right_shown sample x Holds h = tt
+  right_shown sample x (NotFound n) h = tt
+  right_shown None x (Fails c) h = asked_shown c h.is_asked h.past
+  right_shown (Some sample) x (Fails c) h = asked_shown c h.is_asked h.past
+
+  told_shown : (sample : Option SampleChoice) (condition : Option Tree) (t : Told)
+      → IsRightOf p s question asked sample condition t → IsToldToShow s t
+  told_shown sample condition t (x, named, right) = right_shown sample x t.answer right
 
 -- all answers can be shown
 pub answers_shown : (p : ProgramTree) (s : Setup) (e : Exploring) (told : List Told) → IsSetup s
     → AreAnswers p s e told → All (IsToldToShow s) told
 answers_shown p s e told sized h k d lt =
-    told_shown p s sized (question_of e) (inputs_of e.inputs) h.condition (get_or told k d)
+    told_shown p s sized (question_of e) (inputs_of e) e.sample h.condition (get_or told k d)
     (h.right k d lt)
 
 -- and the first that fails is one of them

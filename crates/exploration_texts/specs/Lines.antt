@@ -6,13 +6,13 @@ use Rattle.command_words.specs.declared.forms.AnswerFormat.{AnswerFormat}
 use Rattle.command_words.specs.declared.forms.AnswerFormat.TheVariants as format
 use Rattle.exploration_texts.specs.declared.condition.ConditionFault.{ConditionFault}
 use Rattle.exploration_texts.specs.declared.condition.ConditionFault.TheVariants as fault
+use Rattle.exploration_texts.specs.declared.told.Answered.{Answered}
+use Rattle.exploration_texts.specs.declared.told.Answered.TheVariants.{Fails, Holds, NotFound}
 use Rattle.exploration_texts.specs.declared.told.PropertyName.{PropertyName}
 use Rattle.exploration_texts.specs.declared.told.PropertyName.TheVariants as names
 use Rattle.exploration_texts.specs.declared.told.Told.{Told}
 use Rattle.round_check.specs.declared.fault.CheckFault.{CheckFault}
 use Rattle.round_check.specs.declared.fault.CheckFault.TheVariants as check
-use Rattle.round_explorer.specs.declared.answer.Answer.{Answer}
-use Rattle.round_explorer.specs.declared.answer.Answer.TheVariants.{Fails, Holds}
 use Rattle.round_lang.specs.declared.fault.LangFault.{LangFault}
 use Rattle.round_lang.specs.declared.fault.LangFault.TheVariants as lang
 
@@ -25,9 +25,10 @@ name_text names.Safety = codes "safety"
 name_text names.Termination = codes "termination"
 name_text names.Always = codes "always"
 
-abbrev pub answer_text : Answer → List ℕ
+abbrev pub answer_text : Answered → List ℕ
 answer_text Holds = codes " yes"
 answer_text (Fails c) = codes " no in round " ++ decimal c.round
+answer_text (NotFound n) = codes " none found in " ++ decimal n
 
 -- the property and its answer
 abbrev pub told_text : Told → List ℕ
@@ -40,9 +41,10 @@ told_line t = told_text t ++ codes "\n"
 abbrev pub answers_text : List Told → List ℕ
 answers_text told = flat_map told_line told
 
-abbrev pub answer_data : Answer → List ℕ
+abbrev pub answer_data : Answered → List ℕ
 answer_data Holds = codes "true,\"round\":null"
 answer_data (Fails c) = codes "false,\"round\":" ++ decimal c.round
+answer_data (NotFound n) = codes "null,\"round\":null,\"runs\":" ++ decimal n
 
 -- the property and its answer as an object, `{"property":"final","holds":false,"round":2}`
 abbrev pub told_data : Told → List ℕ

@@ -1,9 +1,9 @@
 -- How many steps each node takes in a run with failures.
 use Rattle.std.specs.Prelude.{◌≡◌, ◌+◌, ◌≤◌, ⊤, ℕ, List, length}
+use Rattle.exploration_texts.specs.declared.told.Answered.{Answered}
+use Rattle.exploration_texts.specs.declared.told.Answered.TheVariants.{Fails, Holds, NotFound}
 use Rattle.exploration_texts.specs.declared.told.Told.{Told}
 use Rattle.round_explorer.specs.Questions.{failure_of}
-use Rattle.round_explorer.specs.declared.answer.Answer.{Answer}
-use Rattle.round_explorer.specs.declared.answer.Answer.TheVariants.{Fails, Holds}
 use Rattle.round_explorer.specs.declared.answer.Counterexample.{Counterexample}
 use Rattle.round_explorer.specs.declared.question.Failure.{Failure}
 use Rattle.round_explorer.specs.declared.question.Failure.TheVariants.{Crashes, Never, Omits}
@@ -34,8 +34,9 @@ pub record IsShowable (s : Setup) (c : Counterexample) : Type 0 where
   pub within : AreWithin s.rounds c.failures.items
 
 -- the same of what was found of a property, if it fails
-abbrev pub CanBeShown : Setup → Answer → Type 0
+abbrev pub CanBeShown : Setup → Answered → Type 0
 CanBeShown s Holds = ⊤
+CanBeShown s (NotFound n) = ⊤
 CanBeShown s (Fails c) = IsShowable s c
 
 abbrev pub IsToldToShow : Setup → Told → Type 0

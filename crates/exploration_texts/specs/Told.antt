@@ -4,15 +4,18 @@ use Rattle.std.specs.Prelude.{◌≡◌, ◌++◌, ◌∷◌, ◌&&◌, ◌⊎�
 use Rattle.std.specs.Prelude.{false, is_some, map, true}
 use Rattle.command_words.specs.declared.exploring.Checks.{Checks}
 use Rattle.command_words.specs.declared.exploring.Exploring.{Exploring}
+use Rattle.command_words.specs.declared.searching.SampleChoice.{SampleChoice}
 use Rattle.exploration_texts.specs.Asking.{inputs_of, question_of}
 use Rattle.exploration_texts.specs.Conditions.{IsConditionFor}
 use Rattle.exploration_texts.specs.declared.answering.Search.{Search}
+use Rattle.exploration_texts.specs.declared.told.Answered.{Answered}
+use Rattle.exploration_texts.specs.declared.told.Answered.TheVariants.{Fails, Holds, NotFound}
 use Rattle.exploration_texts.specs.declared.told.PropertyName.{PropertyName}
 use Rattle.exploration_texts.specs.declared.told.PropertyName.TheVariants as names
 use Rattle.exploration_texts.specs.declared.told.Told.{Told}
 use Rattle.round_explorer.specs.Answers.{IsRight}
 use Rattle.round_explorer.specs.declared.answer.Answer.{Answer}
-use Rattle.round_explorer.specs.declared.answer.Answer.TheVariants.{Fails, Holds}
+use Rattle.round_explorer.specs.declared.answer.Answer.TheVariants as all
 use Rattle.round_explorer.specs.declared.answer.Counterexample.{Counterexample}
 use Rattle.round_explorer.specs.declared.property.Property.{Property}
 use Rattle.round_explorer.specs.declared.property.Property.TheVariants.{Agreement, Always, Final}
@@ -23,6 +26,7 @@ use Rattle.round_explorer.specs.declared.question.Question.{Question}
 use Rattle.round_lang.specs.Syntax.{ProgramTree}
 use Rattle.round_lang.specs.Tree.{Tree}
 use Rattle.round_meaning.specs.declared.setup.Setup.{Setup}
+use Rattle.run_samples.specs.Found.{IsFound}
 
 -- the name of a property
 abbrev pub name_of : Property → PropertyName
@@ -51,11 +55,33 @@ IsNamed condition names.Always (Always f) = condition ≡ Some f.now
 IsNamed condition names.Always _ = ⊥
 IsNamed condition name property = name_of property ≡ name
 
+-- the answer of a search through all runs
+abbrev pub answered_by : Answer → Answered
+answered_by all.Holds = Holds
+answered_by (all.Fails c) = Fails c
+
+-- the answer is right of a property: it's one of all runs that are asked about; or of a sample, and
+-- then a failure is one, and else it says how many runs there were
+abbrev pub IsAnswer : ProgramTree → Setup → Question → AskedInputs → Option SampleChoice
+    → Property → Answered → Type 0
+IsAnswer p s question inputs None x Holds = IsRight p s question inputs x all.Holds
+IsAnswer p s question inputs None x (Fails c) = IsRight p s question inputs x (all.Fails c)
+IsAnswer p s question inputs None x (NotFound n) = ⊥
+IsAnswer p s question inputs (Some sample) x Holds = ⊥
+IsAnswer p s question inputs (Some sample) x (Fails c) = IsFound p s question inputs x c
+IsAnswer p s question inputs (Some sample) x (NotFound n) = n ≡ sample.count
+
+-- what is answered if no failure is found
+abbrev pub no_failure : Option SampleChoice → Answered
+no_failure None = Holds
+no_failure (Some sample) = NotFound sample.count
+
 -- the answer is right of the property of this name
-abbrev pub IsRightOf : ProgramTree → Setup → Question → AskedInputs → Option Tree → Told → Type 0
-IsRightOf p s question inputs condition told =
+abbrev pub IsRightOf : ProgramTree → Setup → Question → AskedInputs → Option SampleChoice
+    → Option Tree → Told → Type 0
+IsRightOf p s question inputs sample condition told =
     (property : Property) × IsNamed condition told.name property
-    × IsRight p s question inputs property told.answer
+    × IsAnswer p s question inputs sample property told.answer
 
 -- what the options ask is told, in order, and each answer is right
 pub record AreAnswers (p : ProgramTree) (s : Setup) (e : Exploring) (told : List Told)
@@ -63,34 +89,41 @@ pub record AreAnswers (p : ProgramTree) (s : Setup) (e : Exploring) (told : List
   pub condition : Option Tree
   pub is_condition : IsConditionFor p e.always condition
   pub names : map (λ t. t.name) told ≡ names_of e.checks (is_some condition)
-  pub right : All (IsRightOf p s (question_of e) (inputs_of e.inputs) condition) told
+  pub right : All (IsRightOf p s (question_of e) (inputs_of e) e.sample condition) told
 
-abbrev pub holds : Answer → Bool
+-- no failure is told
+abbrev pub holds : Answered → Bool
 holds Holds = true
 holds (Fails c) = false
+holds (NotFound n) = true
 
--- each property holds
+-- of no property is a failure told
 abbrev pub all_hold : List Told → Bool
 all_hold [] = true
 all_hold (t ∷ ts) = holds t.answer && all_hold ts
 
--- this is the first property that doesn't, and what was found
+-- this is the first property of which one is, and what was found
 abbrev pub IsFirstNo : List Told → PropertyName → Counterexample → Type 0
 IsFirstNo [] name c = ⊥
 IsFirstNo (t ∷ ts) name c =
     (t ≡ record { name = name; answer = Fails c })
     ⊎ ((holds t.answer ≡ true) × IsFirstNo ts name c)
 
--- it's known that agreement, validity and finality hold, all at once
+-- the answer is right of what a search is about
+abbrev pub IsAnswerOf : Search → Property → Answered → Type 0
+IsAnswerOf w x answer =
+    IsAnswer w.program.now w.setup.now w.question w.inputs w.sample x answer
+
+-- it's known that no failure of agreement, validity and finality is found, all at once
 abbrev pub AreKnownSafe : Search → Bool → Type 0
-AreKnownSafe w known =
-    known ≡ true → IsRight w.program.now w.setup.now w.question w.inputs Safety Holds
+AreKnownSafe w known = known ≡ true → IsAnswerOf w Safety (no_failure w.sample)
 
 -- the answer of one more property
 abbrev pub AddsAnswer : Search → Property → (old new : List Told) → Type 0
 AddsAnswer w property old new =
-    (answer : Answer) × (new ≡ old ++ record { name = name_of property; answer = answer } ∷ [])
-    × IsRight w.program.now w.setup.now w.question w.inputs property answer
+    (answer : Answered)
+    × (new ≡ old ++ record { name = name_of property; answer = answer } ∷ [])
+    × IsAnswerOf w property answer
 
 -- the same, if it is asked
 abbrev pub Adds : Search → Bool → Property → (old new : List Told) → Type 0
@@ -107,4 +140,4 @@ pub record AreAnswersOf (w : Search) (c : Checks) (condition : Option Tree) (tol
     : Type 0 where
   pub names : map (λ t. t.name) told ≡ names_of c (is_some condition)
   pub right :
-      All (IsRightOf w.program.now w.setup.now w.question w.inputs condition) told
+      All (IsRightOf w.program.now w.setup.now w.question w.inputs w.sample condition) told

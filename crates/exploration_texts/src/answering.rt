@@ -1,20 +1,21 @@
 //! The answers to what is asked.
-ghost use Rattle.std.specs.Prelude.{IfErr, IfOk, OnOk, option_map, true};
+ghost use Rattle.std.specs.Prelude.{◌≡◌, IfErr, IfOk, None, OnOk, Some, option_map, true};
 ghost use Rattle.round_meaning.specs.Setups.{IsLawful};
 ghost use Rattle.exploration_texts.specs.Conditions.{IsConditionFor, IsFaultFor};
 ghost use Rattle.exploration_texts.specs.Told.{Adds, AddsAlways, AreAnswers, AreAnswersOf};
-ghost use Rattle.exploration_texts.specs.Told.{AreKnownSafe};
-ghost use Rattle.round_explorer.specs.Answers.{IsRight};
+ghost use Rattle.exploration_texts.specs.Told.{AreKnownSafe, IsAnswerOf, no_failure};
 
 use crate::asking::{inputs_of, question_of};
 use crate::condition::{ConditionFault, read_condition};
-use crate::told::{PropertyName, Told};
-use command_words::{Checks, Exploring};
+use crate::told::{Answered, PropertyName, Told};
+use command_words::{Checks, Exploring, SampleChoice};
 use round_check::Checked;
-use round_explorer::{Answer, AskedInputs, Property, Question, Watch, explore};
+use round_explorer::{AskedInputs, Property, Question, Watch, explore_by_jobs};
 use round_lang::{Formula, NoMemory};
 use round_meaning::Setup;
+use run_samples::{Sampling, sample as sample_runs};
 use std::alloc::Global;
+use std::thread::Threads;
 
 /// Which runs are gone through.
 #[derive(Clone, Copy)]
@@ -23,11 +24,16 @@ pub struct Search<'a> {
     pub setup: &'a Setup,
     pub question: Question,
     pub inputs: AskedInputs,
+    /// By how many jobs all runs are gone through.
+    pub jobs: u32,
+    /// The sample that is gone through in place of all runs.
+    pub sample: Option<SampleChoice>,
 }
 
-/// The answers to what the options ask of all runs, in the order agreement, validity, final,
-/// termination, always. `watch` is told how far each search has come.
-pub fn answer_all<W: Watch>(
+/// The answers to what the options ask of all runs or of a sample, in the order agreement,
+/// validity, final, termination, always. `watch` is told how far each search has come.
+pub fn answer_all<R: Threads + Sync, W: Watch + Sync>(
+    rt: &R,
     alloc: Global,
     program: &Checked,
     setup: &Setup,
@@ -44,9 +50,11 @@ pub fn answer_all<W: Watch>(
         program,
         setup,
         question: question_of(exploring),
-        inputs: inputs_of(exploring.inputs),
+        inputs: inputs_of(exploring),
+        jobs: exploring.jobs,
+        sample: exploring.sample,
     };
-    Ok(answers(alloc, &search, exploring.checks, always.as_ref(), watch)?)
+    Ok(answers(rt, alloc, &search, exploring.checks, always.as_ref(), watch)?)
 }
 
 /// The condition, if there is one.
@@ -65,7 +73,8 @@ fn condition_of(
 }
 
 /// The answers of a search.
-fn answers<W: Watch>(
+fn answers<R: Threads + Sync, W: Watch + Sync>(
+    rt: &R,
     alloc: Global,
     search: &Search<'_>,
     checks: Checks,
@@ -76,9 +85,10 @@ fn answers<W: Watch>(
     ensures { IfOk result (λ told. AreAnswersOf search.now checks
         (option_map (λ f. f.now) always.entry) told.items) }
 {
-    let safe = search.is_safe(alloc, checks, watch)?;
+    let safe = search.is_safe(rt, alloc, checks, watch)?;
     let mut told = Vec::new(alloc);
     search.add_if(
+        rt,
         alloc,
         checks.agreement,
         Property::Agreement,
@@ -87,6 +97,7 @@ fn answers<W: Watch>(
         watch,
     )?;
     search.add_if(
+        rt,
         alloc,
         checks.validity,
         Property::Validity,
@@ -95,6 +106,7 @@ fn answers<W: Watch>(
         watch,
     )?;
     search.add_if(
+        rt,
         alloc,
         checks.finality,
         Property::Final,
@@ -103,6 +115,7 @@ fn answers<W: Watch>(
         watch,
     )?;
     search.add_if(
+        rt,
         alloc,
         checks.termination,
         Property::Termination,
@@ -110,7 +123,7 @@ fn answers<W: Watch>(
         &mut told,
         watch,
     )?;
-    search.add_always(alloc, always, &mut told, watch)?;
+    search.add_always(rt, alloc, always, &mut told, watch)?;
     Ok(told)
 }
 
@@ -121,33 +134,59 @@ fn asks_several(checks: Checks) -> bool {
 }
 
 impl<'a> Search<'a> {
-    /// Whether one search shows that agreement, validity and finality hold. It's made only if more
-    /// than one of them is asked, since it takes as long as the search for one.
-    fn is_safe<W: Watch>(&self, alloc: Global, checks: Checks, watch: &W) -> Result<bool, NoMemory>
+    /// Whether one search finds no failure of agreement, validity and finality. It's made only if
+    /// more than one of them is asked, since it takes as long as the search for one.
+    fn is_safe<R: Threads + Sync, W: Watch + Sync>(
+        &self,
+        rt: &R,
+        alloc: Global,
+        checks: Checks,
+        watch: &W,
+    ) -> Result<bool, NoMemory>
         requires { IsLawful self.now.program.now.values self.now.setup.now }
         ensures { IfOk result (AreKnownSafe self.now) }
     {
         if !asks_several(checks) {
             return Ok(false);
         }
-        match self.explore(alloc, Property::Safety, watch)? {
-            Answer::Holds => Ok(true),
-            Answer::Fails(_) => Ok(false),
+        match self.explore(rt, alloc, Property::Safety, watch)? {
+            Answered::Holds | Answered::NotFound(_) => Ok(true),
+            Answered::Fails(_) => Ok(false),
         }
     }
 
     /// The answer of a search for a property.
-    fn explore<W: Watch>(
+    fn explore<R: Threads + Sync, W: Watch + Sync>(
         &self,
+        rt: &R,
         alloc: Global,
         property: Property<'_>,
         watch: &W,
-    ) -> Result<Answer, NoMemory>
+    ) -> Result<Answered, NoMemory>
         requires { IsLawful self.now.program.now.values self.now.setup.now }
-        ensures { IfOk result (λ answer. IsRight self.now.program.now self.now.setup.now
-            self.now.question self.now.inputs property.entry answer) }
+        ensures { IfOk result (IsAnswerOf self.now property.entry) }
     {
-        explore(
+        match self.sample {
+            None => self.explore_all(rt, alloc, property, watch),
+            Some(sample) => self.explore_some(alloc, sample, property, watch),
+        }
+    }
+
+    /// The answer of a search through all runs.
+    fn explore_all<R: Threads + Sync, W: Watch + Sync>(
+        &self,
+        rt: &R,
+        alloc: Global,
+        property: Property<'_>,
+        watch: &W,
+    ) -> Result<Answered, NoMemory>
+        requires lawful { IsLawful self.now.program.now.values self.now.setup.now }
+        requires all { self.now.sample ≡ None }
+        ensures { IfOk result (IsAnswerOf self.now property.entry) }
+    {
+        let answer = explore_by_jobs(
+            rt,
+            self.jobs,
             alloc,
             self.program,
             self.setup,
@@ -155,31 +194,77 @@ impl<'a> Search<'a> {
             self.inputs,
             property,
             watch,
-        )
+        )?;
+        Ok(Answered::from(answer))
+    }
+
+    /// The answer of a search through a sample.
+    fn explore_some<W: Watch>(
+        &self,
+        alloc: Global,
+        sample: SampleChoice,
+        property: Property<'_>,
+        watch: &W,
+    ) -> Result<Answered, NoMemory>
+        requires lawful { IsLawful self.now.program.now.values self.now.setup.now }
+        requires some { self.now.sample ≡ Some sample }
+        ensures { IfOk result (IsAnswerOf self.now property.entry) }
+    {
+        let sampling = Sampling {
+            count: sample.count,
+            seed: u64::from(sample.seed),
+        };
+        let found = sample_runs(
+            alloc,
+            self.program,
+            self.setup,
+            self.question,
+            self.inputs,
+            property,
+            sampling,
+            watch,
+        )?;
+        match found {
+            Some(found) => Ok(Answered::Fails(found)),
+            None => Ok(Answered::NotFound(sample.count)),
+        }
+    }
+
+    /// What is answered if no failure is found.
+    fn no_failure(&self) -> Answered
+        ensures { result ≡ no_failure self.now.sample }
+    {
+        match self.sample {
+            None => Answered::Holds,
+            Some(sample) => Answered::NotFound(sample.count),
+        }
     }
 
     /// The answer of a property, without a search if it's known already.
-    fn answer<W: Watch>(
+    fn answer<R: Threads + Sync, W: Watch + Sync>(
         &self,
+        rt: &R,
         alloc: Global,
         property: Property<'_>,
         safe: bool,
         watch: &W,
-    ) -> Result<Answer, NoMemory>
+    ) -> Result<Answered, NoMemory>
         requires lawful { IsLawful self.now.program.now.values self.now.setup.now }
         requires safe { AreKnownSafe self.now safe }
-        ensures { IfOk result (λ answer. IsRight self.now.program.now self.now.setup.now
-            self.now.question self.now.inputs property.entry answer) }
+        ensures { IfOk result (IsAnswerOf self.now property.entry) }
     {
         match property {
-            Property::Agreement | Property::Validity | Property::Final if safe => Ok(Answer::Holds),
-            _ => self.explore(alloc, property, watch),
+            Property::Agreement | Property::Validity | Property::Final if safe => {
+                Ok(self.no_failure())
+            }
+            _ => self.explore(rt, alloc, property, watch),
         }
     }
 
     /// Adds the answer of a property, if it's asked.
-    fn add_if<W: Watch>(
+    fn add_if<R: Threads + Sync, W: Watch + Sync>(
         &self,
+        rt: &R,
         alloc: Global,
         asked: bool,
         property: Property<'_>,
@@ -193,14 +278,15 @@ impl<'a> Search<'a> {
             (Adds self.now asked property.entry told.old.items told.new.items) }
     {
         if asked {
-            self.add(alloc, property, safe, told, watch)?;
+            self.add(rt, alloc, property, safe, told, watch)?;
         }
         Ok(())
     }
 
     /// Adds the answer of a condition, if there is one.
-    fn add_always<W: Watch>(
+    fn add_always<R: Threads + Sync, W: Watch + Sync>(
         &self,
+        rt: &R,
         alloc: Global,
         always: Option<&Formula>,
         told: &mut Vec<Told>,
@@ -211,14 +297,15 @@ impl<'a> Search<'a> {
             (AddsAlways self.now always.entry told.old.items told.new.items) }
     {
         match always {
-            Some(formula) => self.add(alloc, Property::Always(formula), false, told, watch),
+            Some(formula) => self.add(rt, alloc, Property::Always(formula), false, told, watch),
             None => Ok(()),
         }
     }
 
     /// Adds the answer of a property.
-    fn add<W: Watch>(
+    fn add<R: Threads + Sync, W: Watch + Sync>(
         &self,
+        rt: &R,
         alloc: Global,
         property: Property<'_>,
         safe: bool,
@@ -230,7 +317,7 @@ impl<'a> Search<'a> {
         ensures { OnOk result (Adds self.now true property.entry told.old.items told.new.items) }
     {
         let name = PropertyName::of(property);
-        let answer = self.answer(alloc, property, safe, watch)?;
+        let answer = self.answer(rt, alloc, property, safe, watch)?;
         told.push(Told { name, answer })?;
         Ok(())
     }

@@ -4,6 +4,7 @@
 mod answering;
 mod asking;
 mod condition;
+mod question;
 mod stops;
 mod told;
 mod trace;
@@ -11,6 +12,7 @@ mod trace;
 pub use answering::answer_all;
 pub use asking::{inputs_of, question_of};
 pub use condition::{ConditionFault, read_condition};
+pub use question::question_digest;
 pub use stops::stops_of;
-pub use told::{Failed, PropertyName, Told, first_failure, write_answers};
+pub use told::{Answered, Failed, PropertyName, Told, first_failure, write_answers};
 pub use trace::commented;

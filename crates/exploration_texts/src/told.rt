@@ -23,11 +23,37 @@ pub enum PropertyName {
     Always,
 }
 
-/// A property, and the answer to whether it holds of all runs that are asked about.
+/// Whether a property holds of the runs that are asked about.
+#[derive(Drop)]
+pub enum Answered {
+    /// It holds of all of them.
+    Holds,
+    /// It fails in this one.
+    Fails(Counterexample),
+    /// It fails in none of this many that were made at random.
+    NotFound(u32),
+}
+
+/// What is answered of a property.
 #[derive(Drop)]
 pub struct Told {
     pub name: PropertyName,
-    pub answer: Answer,
+    pub answer: Answered,
+}
+
+/// The answer of a search through all runs.
+impl From<Answer> for Answered {
+    ghost use Rattle.std.specs.Prelude.{◌≡◌};
+    ghost use Rattle.exploration_texts.specs.Told.{answered_by};
+
+    ghost from_gives = { λ answer a. a ≡ answered_by answer };
+
+    fn from(answer: Answer) -> Answered {
+        match answer {
+            Answer::Holds => Answered::Holds,
+            Answer::Fails(found) => Answered::Fails(found),
+        }
+    }
 }
 
 /// A property that doesn't hold, and a run in which it fails.
@@ -67,7 +93,7 @@ impl PropertyName {
     }
 }
 
-/// The property and `yes`, or `no` and the round.
+/// The property and `yes`, `no` and the round, or in how many runs no failure was found.
 impl fmt::Display for Told {
     ghost use Rattle.std.specs.Prelude.{Some};
     ghost use Rattle.exploration_texts.specs.Lines.{told_text};
@@ -77,13 +103,14 @@ impl fmt::Display for Told {
     fn fmt<W: fmt::Write>(&self, f: &mut fmt::Formatter<W>) -> fmt::Result {
         let name = self.name.as_str();
         match &self.answer {
-            Answer::Holds => write!(f, "{name} yes"),
-            Answer::Fails(found) => write!(f, "{name} no in round {}", found.round),
+            Answered::Holds => write!(f, "{name} yes"),
+            Answered::Fails(found) => write!(f, "{name} no in round {}", found.round),
+            Answered::NotFound(runs) => write!(f, "{name} none found in {runs}"),
         }
     }
 }
 
-/// The first property that doesn't hold.
+/// The first property of which a failure is told.
 pub fn first_failure(told: &[Told]) -> Option<Failed<'_>>
     ensures none { IfNone result (all_hold told.now ≡ true) }
     ensures some { IfSome result (λ failed. IsFirstNo told.now failed.name failed.found.now) }
@@ -91,8 +118,8 @@ pub fn first_failure(told: &[Told]) -> Option<Failed<'_>>
     match told {
         [] => None,
         [first, rest @ ..] => match &first.answer {
-            Answer::Holds => first_failure(rest),
-            Answer::Fails(found) => Some(Failed {
+            Answered::Holds | Answered::NotFound(_) => first_failure(rest),
+            Answered::Fails(found) => Some(Failed {
                 name: first.name,
                 found,
             }),
@@ -145,13 +172,19 @@ fn write_object<W: Write>(told: &Told, out: &mut W) -> io::Result<()>
 {
     let name = told.name.as_str();
     match &told.answer {
-        Answer::Holds => {
+        Answered::Holds => {
             writeln!(
                 out,
                 "{{\"property\":\"{name}\",\"holds\":true,\"round\":null}}"
             )
         }
-        Answer::Fails(found) => {
+        Answered::NotFound(runs) => {
+            writeln!(
+                out,
+                "{{\"property\":\"{name}\",\"holds\":null,\"round\":null,\"runs\":{runs}}}"
+            )
+        }
+        Answered::Fails(found) => {
             let round = found.round;
             writeln!(
                 out,

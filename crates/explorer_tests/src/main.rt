@@ -1,8 +1,8 @@
 //! What exploring all runs of a program answers.
 //!
 //! ```text
-//! explorer_tests [watched] SOURCE KIND CLEAR HEARS NODES FAULTS ROUNDS [INPUT ..]
-//!     [always WORD ..]
+//! explorer_tests [watched] [part INDEX COUNT] [jobs JOBS] SOURCE KIND CLEAR HEARS NODES FAULTS
+//!     ROUNDS [INPUT ..] [always WORD ..]
 //! ```
 //!
 //! SOURCE is a program's file, or `@NAME` for a program of the library over two values. KIND is
@@ -13,7 +13,8 @@
 //! words after `always` are an expression, which is asked about too.
 //!
 //! With `watched` a line behind each answer says what the search told of how far it had come: how
-//! many notes, whether each followed on the one before, and the last one.
+//! many notes, whether each followed on the one before, and the last one. With `part` only that
+//! part of the lists of inputs is asked about, and with `jobs` so many jobs search at once.
 #![tactic(auto)]
 
 ghost use Rattle.round_meaning.specs.Setups.{IsLawful};
@@ -22,11 +23,14 @@ ghost use Rattle.std.specs.Prelude.{◌≤◌, length};
 mod reading;
 mod record;
 
-use reading::{checked_of, formula_in, offered, program_with, question_of, setup_of};
+use reading::{
+    Manner, checked_of, formula_in, manner_of, offered, program_with, question_of, setup_of,
+};
 use record::Record;
 use round_check::Checked;
 use round_explorer::{
-    Answer, AskedInputs, Counterexample, Failure, Property, Question, Unwatched, Watch, explore,
+    Answer, AskedInputs, Counterexample, Failure, Property, Question, Unwatched, Watch,
+    explore_by_jobs,
 };
 use round_lang::{Formula, NoMemory};
 use round_meaning::Setup;
@@ -34,6 +38,7 @@ use std::alloc::Global;
 use std::fmt::Write as _;
 use std::io::Write;
 use std::process::ExitCode;
+use std::thread::Threads;
 use std::{env, fs};
 use test_kit::{Fault, texts};
 
@@ -94,20 +99,21 @@ fn properties<'a>(alloc: Global, formula: Option<&'a Formula>) -> Result<Vec<Pro
     Ok(properties)
 }
 
-/// Which runs are gone through, and whether the search is watched.
+/// Which runs are gone through, and how.
 #[derive(Clone, Copy)]
 struct Search<'a> {
     program: &'a Checked,
     setup: &'a Setup,
     question: Question,
     asked: AskedInputs,
-    is_watched: bool,
+    manner: Manner,
 }
 
 impl<'a> Search<'a> {
     /// Tells the answer of each property.
-    fn tell_all(
+    fn tell_all<R: Threads + Sync>(
         &self,
+        starter: &R,
         alloc: Global,
         formula: Option<&Formula>,
         out: &mut String,
@@ -116,35 +122,44 @@ impl<'a> Search<'a> {
             return Err(Fault::Unreadable);
         }
         for property in &properties(alloc, formula)? {
-            self.tell(alloc, *property, out)?;
+            self.tell(starter, alloc, *property, out)?;
         }
         Ok(())
     }
 
     /// Tells the answer of a property, and of a watched search what it told.
-    fn tell(&self, alloc: Global, property: Property<'_>, out: &mut String) -> Result<(), Fault>
+    fn tell<R: Threads + Sync>(
+        &self,
+        starter: &R,
+        alloc: Global,
+        property: Property<'_>,
+        out: &mut String,
+    ) -> Result<(), Fault>
         requires { IsLawful self.now.program.now.values self.now.setup.now }
     {
         out.push_str(name_of(property))?;
-        if self.is_watched {
+        if self.manner.is_watched {
             let record = Record::new();
-            tell_answer(out, &self.answer(alloc, property, &record)?)?;
+            tell_answer(out, &self.answer(starter, alloc, property, &record)?)?;
             write!(out, "{record}\n")?;
             Ok(())
         } else {
-            tell_answer(out, &self.answer(alloc, property, &Unwatched)?)
+            tell_answer(out, &self.answer(starter, alloc, property, &Unwatched)?)
         }
     }
 
-    fn answer<W: Watch>(
+    fn answer<R: Threads + Sync, W: Watch + Sync>(
         &self,
+        starter: &R,
         alloc: Global,
         property: Property<'_>,
         watch: &W,
     ) -> Result<Answer, NoMemory>
         requires { IsLawful self.now.program.now.values self.now.setup.now }
     {
-        explore(
+        explore_by_jobs(
+            starter,
+            self.manner.jobs,
             alloc,
             self.program,
             self.setup,
@@ -172,13 +187,14 @@ fn program_of(
 }
 
 /// Does what the words say, and gives what is to be printed.
-fn answer(rt: &HostRuntime, alloc: Global) -> Result<String, Fault> {
+fn answer<R: Threads + Sync>(
+    rt: &HostRuntime,
+    starter: &R,
+    alloc: Global,
+) -> Result<String, Fault> {
     let words = env::args(rt)?.collect::<Vec<String>>(alloc)?;
     let words = texts(alloc, words.as_slice())?;
-    let (is_watched, words) = match words.as_slice() {
-        ["watched", words @ ..] => (true, words),
-        words => (false, words),
-    };
+    let (manner, words) = manner_of(words.as_slice())?;
     let [source, faults, clear, hears, words @ ..] = words else {
         return Err(Fault::Unreadable);
     };
@@ -193,10 +209,10 @@ fn answer(rt: &HostRuntime, alloc: Global) -> Result<String, Fault> {
         program: &program,
         setup: &setup,
         question,
-        asked,
-        is_watched,
+        asked: manner.asked(asked)?,
+        manner,
     };
-    search.tell_all(alloc, formula, &mut out)?;
+    search.tell_all(starter, alloc, formula, &mut out)?;
     Ok(out)
 }
 
@@ -210,14 +226,14 @@ fn place_of_always(words: &[&str]) -> usize
     }
 }
 
-fn run(rt: &HostRuntime) -> Result<(), Fault> {
-    let out = answer(rt, rt.alloc())?;
+fn run<R: Threads + Sync>(rt: &HostRuntime, starter: &R) -> Result<(), Fault> {
+    let out = answer(rt, starter, rt.alloc())?;
     rt.stdout().write_all(out.as_bytes())?;
     Ok(())
 }
 
 fn main(rt: HostRuntime) -> ExitCode {
-    match run(&rt) {
+    match run(&rt, &rt) {
         Ok(()) => ExitCode::SUCCESS,
         Err(fault) => {
             // Where standard error fails too there is nobody left to tell.

@@ -1,11 +1,57 @@
 //! Programs, setups and questions in words.
 use algorithm_library::{LibraryFault, count_votes, dls1, gather};
 use round_check::{Checked, check};
-use round_explorer::{AskedInputs, FaultKind, Question};
+use round_explorer::{AskedInputs, FaultKind, Part, Question};
 use round_lang::{Formula, Program, VariableKind, parse};
 use round_meaning::{Inputs, Setup};
 use std::alloc::Global;
 use test_kit::{Fault, number, numbers};
+
+/// How it's searched.
+#[derive(Clone, Copy)]
+pub struct Manner {
+    pub is_watched: bool,
+    /// The part of the lists of inputs that is asked about, if not all are.
+    pub part: Option<Part>,
+    pub jobs: u32,
+}
+
+impl Manner {
+    /// Which inputs are asked about; a part only if no inputs are given.
+    pub fn asked(self, asked: AskedInputs) -> Result<AskedInputs, Fault> {
+        match (self.part, asked) {
+            (None, asked) => Ok(asked),
+            (Some(part), AskedInputs::Any) => Ok(AskedInputs::Part(part)),
+            (Some(_), _) => Err(Fault::Unreadable),
+        }
+    }
+}
+
+/// How it's searched, and the words behind that.
+pub fn manner_of<'a>(words: &'a [&'a str]) -> Result<(Manner, &'a [&'a str]), Fault> {
+    let (is_watched, words) = match words {
+        ["watched", words @ ..] => (true, words),
+        words => (false, words),
+    };
+    let (part, words) = match words {
+        ["part", index, count, words @ ..] => {
+            let index = number(index)?;
+            let count = number(count)?;
+            (Some(Part { index, count }), words)
+        }
+        words => (None, words),
+    };
+    let (jobs, words) = match words {
+        ["jobs", jobs, words @ ..] => (number(jobs)?, words),
+        words => (1, words),
+    };
+    let manner = Manner {
+        is_watched,
+        part,
+        jobs,
+    };
+    Ok((manner, words))
+}
 
 /// A setup: nodes, faults and rounds, and then the inputs, or none if each list is asked about.
 pub fn setup_of(alloc: Global, words: &[&str]) -> Result<(Setup, AskedInputs), Fault> {

@@ -1,35 +1,48 @@
 //! What a search tells of how far it has come.
 use round_explorer::{Progress, Watch};
-use std::cell::Cell;
 use std::fmt;
+use std::sync::atomic::{AtomicBool, AtomicU32, AtomicU64, Ordering};
 
-/// What a search told.
+/// What a search told. One job of several tells, so no two notes come at once.
 #[derive(Drop)]
 pub struct Record {
-    notes: Cell<u32>,
-    last: Cell<Progress>,
-    is_ordered: Cell<bool>,
+    notes: AtomicU32,
+    round: AtomicU32,
+    states: AtomicU64,
+    transitions: AtomicU64,
+    is_ordered: AtomicBool,
 }
 
 impl Record {
     pub fn new() -> Record {
         Record {
-            notes: Cell::new(0),
-            last: Cell::new(Progress {
-                round: 1,
-                states: 0,
-                transitions: 0,
-            }),
-            is_ordered: Cell::new(true),
+            notes: AtomicU32::new(0),
+            round: AtomicU32::new(1),
+            states: AtomicU64::new(0),
+            transitions: AtomicU64::new(0),
+            is_ordered: AtomicBool::new(true),
+        }
+    }
+
+    fn last(&self) -> Progress {
+        Progress {
+            round: self.round.load(Ordering::SeqCst),
+            states: self.states.load(Ordering::SeqCst),
+            transitions: self.transitions.load(Ordering::SeqCst),
         }
     }
 }
 
 impl Watch for Record {
     fn note(&self, progress: Progress) {
-        self.is_ordered.set(self.is_ordered.get() && follows(self.last.get(), progress));
-        self.last.set(progress);
-        self.notes.set(self.notes.get().saturating_add(1));
+        if !follows(self.last(), progress) {
+            self.is_ordered.store(false, Ordering::SeqCst);
+        }
+        self.round.store(progress.round, Ordering::SeqCst);
+        self.states.store(progress.states, Ordering::SeqCst);
+        self.transitions
+            .store(progress.transitions, Ordering::SeqCst);
+        self.notes.fetch_add(1, Ordering::SeqCst);
     }
 }
 
@@ -41,8 +54,8 @@ fn follows(before: Progress, progress: Progress) -> bool {
 
 impl fmt::Display for Record {
     fn fmt<W: fmt::Write>(&self, f: &mut fmt::Formatter<W>) -> fmt::Result {
-        let last = self.last.get();
-        let order = if self.is_ordered.get() {
+        let last = self.last();
+        let order = if self.is_ordered.load(Ordering::SeqCst) {
             "in order"
         } else {
             "out of order"
@@ -50,7 +63,7 @@ impl fmt::Display for Record {
         write!(
             f,
             "{} notes {order} to round {}",
-            self.notes.get(),
+            self.notes.load(Ordering::SeqCst),
             last.round
         )?;
         write!(

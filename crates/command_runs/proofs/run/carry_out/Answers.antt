@@ -4,12 +4,13 @@ use Rattle.std.proofs.lemmas.Result.{IfErr-weaker}
 use Rattle.command_words.specs.declared.words.Words.{Words}
 use Rattle.command_runs.proofs.Serving.{ended_as}
 use Rattle.command_runs.proofs.Telling.{judge_refused, judge_served, run_refused, run_served}
+use Rattle.command_runs.proofs.Together.{together_refused}
 use Rattle.command_runs.proofs.Unmade.{lockstep_refused}
 use Rattle.command_runs.specs.InChanges.{Terms}
 use Rattle.command_words.specs.declared.changes.NodeStop.{NodeStop}
 use Rattle.command_words.specs.declared.changes.OwnDelay.{OwnDelay}
 use Rattle.command_runs.proofs.run.carry_out.Goals as goal
-use Rattle.command_runs.specs.Refused.{IsRefusedCommand}
+use Rattle.command_runs.specs.Refused.{IsRefusedCommand, IsRefusedTogether}
 use Rattle.command_runs.specs.Served.{Ends}
 use Rattle.command_runs.specs.declared.outcome.Outcome.TheVariants.{Done}
 
@@ -90,3 +91,13 @@ returns-in-Lockstep-clause-refused g c =
     c.new.ensures c.new-in-Lockstep.ensures c.deref-in-Lockstep-2.ensures.value
     c.deref-in-Lockstep-3.ensures.value) r h))
     c.pace.ensures.refused
+
+pub returns-in-Together-clause-refused : goal.returns-in-Together-clause-refused
+returns-in-Together-clause-refused g c =
+    let files = g.D.Desk.files c.args.desk.now in
+    let names = c.in-Together.files in
+    IfErr-weaker c.put_together.result _ _
+    (λ r h. subst (λ (w : Words). IsRefusedCommand w files r) (sym c.in-Together.is)
+    (together_refused files names r
+    (subst (λ list. IsRefusedTogether files list r) c.as_slice.ensures.value h)))
+    c.put_together.ensures.refused

@@ -1,26 +1,26 @@
 use Rattle.std.proofs.Common.{◌≡◌, ◌∙◌, ap, inl, subst, sym}
 use Rattle.std.specs.Io.KnownBytes.{Appends}
 use Rattle.command_words.specs.declared.words.Words.TheVariants.{Explore}
+use Rattle.command_runs.specs.InParts.{explored_as}
 use Rattle.command_runs.specs.InRounds.{outcome_of, trace_of}
 use Rattle.command_runs.specs.Refused.{IsRefusedCommand}
 use Rattle.command_runs.specs.Stages.{WritesText}
-use Rattle.exploration_texts.specs.Lines.{answers_as}
 use Rattle.command_runs.proofs.Explored.{explore_unwritten, tells_of_all, trace_written}
 use Rattle.command_runs.proofs.Refusing.{err_then}
 use Rattle.command_runs.proofs.Serving.{written_whole}
 use Rattle.command_runs.proofs.Tried.{explore_refused}
 use Rattle.command_runs.proofs.run.explore.Goals as goal
 
-pub returns-in_err-told-clause-refused : goal.returns-in_err-told-clause-refused
-returns-in_err-told-clause-refused g c =
+pub returns-in_err-head-clause-refused : goal.returns-in_err-head-clause-refused
+returns-in_err-head-clause-refused g c =
     let x = c.args.exploration in
     let files = g.D.Desk.files c.args.desk.now in
     let cause = IsRefusedCommand (Explore x.source x.header x.exploring c.args.format) files in
-    let fault = c.in_err-told.field-0.0 in
+    let fault = c.in_err-head.field-0.0 in
     err_then c.from_residual.result (λ r. r ≡ fault) cause c.from_residual.ensures.1
     (λ r is. subst cause (sym is)
     (explore_refused x.source files x.header x.exploring c.args.format fault
-    c.in_err-told.ensures.refused))
+    c.in_err-head.ensures.refused))
 
 pub returns-in_err-write_shown-clause-refused : goal.returns-in_err-write_shown-clause-refused
 returns-in_err-write_shown-clause-refused g c =
@@ -30,8 +30,8 @@ returns-in_err-write_shown-clause-refused g c =
     let fault = c.in_err-write_shown.field-0.0 in
     err_then c.from_residual-in_err-write_shown.result (λ r. r ≡ fault) cause
     c.from_residual-in_err-write_shown.ensures.1 (λ r is. subst cause (sym is)
-    (explore_unwritten x.source files x.header x.exploring c.args.format c.in_ok-told.field-0 fault
-    c.in_ok-told.ensures.found c.in_err-write_shown.ensures.refused))
+    (explore_unwritten x.source files x.header x.exploring c.args.format c.in_ok-head.field-0 fault
+    c.in_ok-head.ensures.found c.in_err-write_shown.ensures.refused))
 
 pub returns-in_err-written-clause-refused : goal.returns-in_err-written-clause-refused
 returns-in_err-written-clause-refused g c =
@@ -41,8 +41,8 @@ returns-in_err-written-clause-refused g c =
     let fault = c.in_err-written.field-0.0 in
     err_then c.from_residual-in_err-written.result (λ r. r ≡ fault) cause
     c.from_residual-in_err-written.ensures.1 (λ r is. subst cause (sym is)
-    (explore_unwritten x.source files x.header x.exploring c.args.format c.in_ok-told.field-0 fault
-    c.in_ok-told.ensures.found (inl c.in_err-written.ensures.refused)))
+    (explore_unwritten x.source files x.header x.exploring c.args.format c.in_ok-head.field-0 fault
+    c.in_ok-head.ensures.found (inl c.in_err-written.ensures.refused)))
 
 pub returns-clause-served : goal.returns-clause-served
 returns-clause-served g c =
@@ -50,25 +50,27 @@ returns-clause-served g c =
     let files = g.D.Desk.files c.args.desk.now in
     let after = g.D.Desk.files c.write_shown.new.desk in
     let out = g.O.Write.contents in
-    let found = c.in_ok-told.field-0 in
-    let told = found.told.items in (
+    let explored = c.in_ok-head.field-0 in
+    let told = explored.found.told.items in (
+      explored.head,
       told,
-      tells_of_all x.source files x.exploring found (files x.header.now) after
-          c.in_ok-write_shown.ensures.held c.in_ok-told.ensures.found,
+      tells_of_all x.source files x.exploring explored (files x.header.now) after
+          c.in_ok-write_shown.ensures.held c.in_ok-head.ensures.found,
       c.of.ensures ∙ ap outcome_of c.deref-2.ensures.value,
       subst (λ ts. Appends (out c.args.out.now) (out c.written.new.out)
-          (answers_as c.args.format ts)) c.deref.ensures.value
-          (written_whole c.write_answers.result (out c.args.out.now) (out c.write_answers.new.out)
-          (out c.written.new.out) (answers_as c.args.format c.deref.result.now)
-          c.in_ok-written.ensures.done c.write_answers.ensures c.in_ok-written.ensures.kept),
+          (explored_as c.args.format explored.head ts)) c.deref.ensures.value
+          (written_whole c.write_explored.result (out c.args.out.now)
+          (out c.write_explored.new.out) (out c.written.new.out)
+          (explored_as c.args.format explored.head c.deref.result.now)
+          c.in_ok-written.ensures.done c.write_explored.ensures c.in_ok-written.ensures.kept),
     )
 
 pub returns-clause-traced : goal.returns-clause-traced
 returns-clause-traced g c =
-    let found = c.in_ok-told.field-0 in
+    let found = c.in_ok-head.field-0.found in
     trace_written c.args.exploration.exploring.trace found.told.items (trace_of found) c.of.result
     (g.D.Desk.written c.args.desk.now) (g.D.Desk.written c.write_shown.new.desk)
-    c.in_ok-told.ensures.made (c.of.ensures ∙ ap outcome_of c.deref-2.ensures.value)
+    c.in_ok-head.ensures.made (c.of.ensures ∙ ap outcome_of c.deref-2.ensures.value)
     (subst (λ old. WritesText c.args.exploration.exploring.trace (trace_of found) old
     (g.D.Desk.written c.write_shown.new.desk)) c.find.ensures.written
     c.in_ok-write_shown.ensures.traced)

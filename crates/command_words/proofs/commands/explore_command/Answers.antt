@@ -4,7 +4,7 @@ use Rattle.command_words.proofs.commands.explore_command.Goals as goal
 
 pub returns : goal.returns
 returns c =
-    let first = arg_added _ _ _ _ _ c.in_ok-arg.ensures c.in_ok-explore_some_runs.ensures
+    let first = arg_added _ _ _ _ _ c.in_ok-arg.ensures c.in_ok-explore_by_search.ensures
     c.optional_arg.ensures.rule c.optional_arg.ensures.local in
     let second = arg_added _ _ _ _ _ c.in_ok-arg-2.ensures first c.optional_arg-2.ensures.rule
     c.optional_arg-2.ensures.local in

@@ -22,6 +22,8 @@ returns c =
     c.in_ok-realise_command.ensures in
     let ninth = subcommand_added _ _ _ _ _ c.in_ok-subcommand-9.ensures eighth
     c.in_ok-rounds_command.ensures in
-    IfOk-weaker c.subcommand-10.result _ _
-    (λ r h. subcommand_added _ _ _ _ _ h ninth c.in_ok-explore_command.ensures)
-    c.subcommand-10.ensures
+    let tenth = subcommand_added _ _ _ _ _ c.in_ok-subcommand-10.ensures ninth
+    c.in_ok-explore_command.ensures in
+    IfOk-weaker c.subcommand-11.result _ _
+    (λ r h. subcommand_added _ _ _ _ _ h tenth c.in_ok-together_command.ensures)
+    c.subcommand-11.ensures

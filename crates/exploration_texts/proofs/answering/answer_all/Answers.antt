@@ -10,8 +10,10 @@ returns-clause-told g c =
       setup = c.args.setup;
       question = c.question_of.result;
       inputs = c.inputs_of.result;
+      jobs = c.args.exploring.now.jobs;
+      sample = c.args.exploring.now.sample;
     } in
     answers_asked w c.args.program.now c.args.setup.now c.args.exploring.now
     c.in_ok-always.always c.in_ok-answers.field-0.items refl refl c.question_of.ensures
-    c.inputs_of.ensures c.in_ok-always.ensures.read
+    c.inputs_of.ensures refl c.in_ok-always.ensures.read
     (rw (← c.as_ref.ensures.value) c.in_ok-answers.ensures)

@@ -1,0 +1,11 @@
+pub mod AnswerLemmas
+pub mod CutLemmas
+pub mod HeadLemmas
+pub mod JoinLemmas
+pub mod LeastLemmas
+pub mod ReadLemmas
+pub mod TableLemmas
+pub mod TextLemmas
+pub mod WholeLemmas
+pub mod LineLemmas
+pub mod HexDigits

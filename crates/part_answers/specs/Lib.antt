@@ -1,0 +1,9 @@
+pub mod Answers
+pub mod Cuts
+pub mod Heads
+pub mod Parts
+pub mod Properties
+pub mod Questions
+pub mod Readings
+pub mod Tables
+pub mod Wholes

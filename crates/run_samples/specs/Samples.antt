@@ -1,0 +1,75 @@
+-- What is known of a sample while it's made and run.
+use Rattle.std.specs.Prelude.{◌≡◌, ℕ, ◌+◌, ◌<◌, ◌≤◌, ◌++◌, Bool, List, [], ◌∷◌, Option, None, Some}
+use Rattle.round_lang.specs.declared.value.Value.{Value}
+use Rattle.round_lang.specs.Syntax.{ProgramTree}
+use Rattle.round_meaning.specs.declared.omissions.Omission.{Omission}
+use Rattle.round_meaning.specs.declared.received.Received.{Received}
+use Rattle.round_meaning.specs.declared.setup.Setup.{Setup}
+use Rattle.round_meaning.specs.Omissions.{is_omitted}
+use Rattle.round_explorer.specs.declared.answer.Counterexample.{Counterexample}
+use Rattle.round_explorer.specs.declared.property.Property.{Property}
+use Rattle.round_explorer.specs.declared.question.AskedInputs.{AskedInputs}
+use Rattle.round_explorer.specs.declared.question.Question.{Question}
+use Rattle.round_explorer.specs.Answers.{with_inputs}
+use Rattle.round_explorer.specs.Properties.{HoldsUpTo, Run}
+use Rattle.round_explorer.specs.Questions.{AreAsked, IsPattern, IsTable, Messages}
+use Rattle.round_explorer.specs.Searched.{AreLost, Case, End, IsEndWithout, IsTrack, Search, Track}
+use Rattle.round_explorer.specs.Searched.{with_end}
+
+-- the case is that of a question, with inputs and failures that are asked about
+pub record IsCaseOf (p : ProgramTree) (s : Setup) (question : Question) (asked : AskedInputs)
+    (property : Property) (c : Case) : Type 0 where
+  pub is_setup : c.setup ≡ with_inputs s c.setup.inputs
+  pub is_question : c.question ≡ question
+  pub is_property : c.property ≡ property
+  pub are_asked : AreAsked p.values s asked c.setup.inputs
+  pub is_pattern : IsPattern question s c.pattern
+
+-- the run of a case in which these messages are omitted
+abbrev pub run_of_case : ProgramTree → Case → Messages → Run
+run_of_case p c omits =
+    record { program = p; setup = c.setup; pattern = c.pattern; omits = omits }
+
+-- in this run of the case, under a table that is asked about, the property first fails in the round
+pub record IsFailing (p : ProgramTree) (c : Case) (found : Counterexample) : Type 0 where
+  pub inputs : found.inputs ≡ c.setup.inputs
+  pub failures : found.failures.items ≡ c.pattern
+  pub begun : 1 ≤ found.round
+  pub past : found.round ≤ c.setup.rounds
+  pub table : IsTable c.question c.setup.nodes c.pattern c.setup.rounds (is_omitted found.omissions)
+  pub fails : HoldsUpTo c.property (run_of_case p c (is_omitted found.omissions)) found.round → ⊥
+  pub first : (k : ℕ) → k < found.round
+      → HoldsUpTo c.property (run_of_case p c (is_omitted found.omissions)) k
+
+-- both tests omit the same up to round k
+abbrev pub AgreeUpTo : (k : ℕ) → Messages → Messages → Type 0
+AgreeUpTo k one other = (i r j : ℕ) → r ≤ k → one i r j ≡ other i r j
+
+-- the property holds up to each round before n, whatever is omitted after that round
+abbrev pub HoldsBefore : ProgramTree → Case → (lost : List Omission) → (n : ℕ) → Type 0
+HoldsBefore p c lost n =
+    (k : ℕ) → k < n → (omits : Messages) → AgreeUpTo k (is_omitted lost) omits
+    → HoldsUpTo c.property (run_of_case p c omits) k
+
+-- the inbox, and behind it what node j sends, if it sends something
+abbrev pub inbox_with : (j : ℕ) → Option (List Value) → List Received → List Received
+inbox_with j None inbox = inbox
+inbox_with j (Some m) inbox = inbox ++ record { from = j; message = m } ∷ []
+
+-- the run loses just these nodes' messages of round r to node i more
+pub record Loses (old new : Track) (i r n : ℕ) (missed : ℕ → Bool) : Type 0 where
+  pub more : List Omission
+  pub are_lost : AreLost more i r n missed
+  pub is : new ≡ record { lost = old.lost ++ more; states = old.states; seen = old.seen }
+
+-- the run gets the end of one node more, which misses these nodes in round r
+pub record EndsWithout (w : Search) (before : List (List Value)) (r i : ℕ) (missed : ℕ → Bool)
+    (old new : Track) : Type 0 where
+  pub end : End
+  pub is_end : IsEndWithout w before r i missed end
+  pub is : new ≡ with_end old end
+
+-- the new run is the old one with round r + 1
+pub record Follows (w : Search) (r : ℕ) (old new : Track) : Type 0 where
+  pub is_track : IsTrack w (r + 1) new
+  pub same : AgreeUpTo r (is_omitted old.lost) (is_omitted new.lost)

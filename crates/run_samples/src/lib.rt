@@ -1,0 +1,25 @@
+//! Runs in rounds made at random: whether a property fails in one of them.
+//!
+//! A sample has inputs, a pattern of failures, and for each round and node the messages that the
+//! node misses, all drawn of those that a question allows. What a node misses is tested before it's
+//! used, and the property after each round. So what is found is a run that the question asks about,
+//! and it's told with the first round in which the property fails in that run.
+#![tactic(auto)]
+
+mod case;
+mod checking;
+mod dice;
+mod drawing;
+mod failures;
+mod losses;
+mod machine;
+mod missing;
+mod noting;
+mod path;
+mod rows;
+mod running;
+mod sampling;
+mod tables;
+mod tally;
+
+pub use sampling::{Sampling, sample};
