@@ -90,6 +90,7 @@ check_text check.NoDecision = codes "check 7"
 check_text check.MissingRound = codes "check 8"
 check_text check.NoMemory = codes "no memory"
 
+-- why EXPR isn't asked, in words
 abbrev pub condition_text : ConditionFault → List ℕ
 condition_text (fault.Source e) = source_text e
 condition_text (fault.Check e) = check_text e

@@ -18,6 +18,7 @@ faults_word faults.Nobody = codes "none"
 faults_word faults.Omission = codes "omission"
 faults_word faults.Crash = codes "crash"
 
+-- C, or `-`
 abbrev pub clear_text : Option ℕ → List ℕ
 clear_text None = codes "-"
 clear_text (Some round) = decimal round
