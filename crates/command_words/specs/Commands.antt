@@ -156,7 +156,8 @@ bare_app = let new = new_app (codes "roundc") in record new {
 abbrev pub roundc_app : App
 roundc_app = with_subcommand (with_subcommand (with_subcommand (with_subcommand (with_subcommand
     (with_subcommand (with_subcommand (with_subcommand (with_subcommand (with_subcommand
-    (with_subcommand bare_app check_app.top) show_app.top) run_app.top) draw_app.top) threads_app.top) judge_app.top)
+    (with_subcommand bare_app check_app.top) show_app.top) run_app.top) draw_app.top)
+    threads_app.top) judge_app.top)
     lockstep_app.top) realise_app.top) rounds_app.top) explore_app.top) together_app.top
 
 -- what a parse reads of the command is this, and none of its arguments is global
