@@ -3,7 +3,8 @@
 It goes level by level through the states of all nodes, for one pattern of failures after the other,
 as .ci/exploring.py does, but notes what it has computed: a node's next states are computed once for
 each state and messages sent to it, and level states that leave each node the same next states are
-gone on from once. So it answers for four nodes too.
+gone on from once. So it answers for four nodes too. Whether a property holds in all rounds is told
+by whether a round adds anything, as there.
 """
 import collections
 import hashlib
@@ -134,8 +135,26 @@ def broken(turns, setup, pattern, number, runs):
     return {name for name, test in tests.items() if any(map(test, runs))}
 
 
-def first_failures(turns, setup, asked, pattern, inputs):
-    """Returns the first round in which each property fails in a run of these inputs."""
+class Growth:
+    """What runs have come to that matters to a property, and whether a round added nothing to it."""
+
+    def __init__(self, name, start, period):
+        self.name, self.start, self.period = name, start, period
+        self.seen, self.is_over = {}, False
+
+    def add(self, number, runs):
+        """Adds what the runs come to after a round."""
+        if self.is_over or number < self.start:
+            return
+        now = {exploring.seen_of(self.name, it) for it in runs}
+        before = self.seen.setdefault(number % self.period, set())
+        self.is_over = number > self.start and now <= before
+        before |= now
+
+
+def first_failures(turns, setup, asked, pattern, inputs, growths):
+    """Returns the first round in which each property fails in a run of these inputs. What runs come
+    to is added to the growths."""
     first = {}
     runs = {Run(turns.begins(inputs), 0, True, True)}
     for number in range(1, setup.rounds + 1):
@@ -147,6 +166,8 @@ def first_failures(turns, setup, asked, pattern, inputs):
         runs = follow(turns, number, runs, choices, counting)
         for name in broken(turns, setup, pattern, number, runs):
             first.setdefault(name, number)
+        for growth in growths:
+            growth.add(number, runs)
     return first
 
 
@@ -166,14 +187,27 @@ def question_of(source, setup, options):
 
 
 def answers(checked, setup, asked):
-    """Returns the first round in which each property that is asked fails in a run."""
+    """Returns the first round in which each property that is asked fails in a run, or ALL if it
+    holds in any number of rounds."""
     turns, first = Turns(checked, setup, asked.formula), {}
+    safety = set(exploring.SAFETY)
+    is_one_search = len(safety & set(asked.names)) > 1
+    lasting = exploring.can_last(asked.question, asked.formula)
+    stationary = exploring.is_stationary(checked)
+    lasting &= {*asked.names, "safety"} if is_one_search else set(asked.names)
+    start = exploring.first_alike(asked.question)
     every = itertools.product(range(checked.values), repeat=setup.nodes)
     if asked.part:
         number, count = asked.part
         every = itertools.islice(every, number - 1, None, count)
     for inputs in every if asked.is_any else [setup.inputs]:
         for pattern in exploring.patterns(setup, asked.question):
-            for name, number in first_failures(turns, setup, asked, pattern, inputs).items():
+            growths = [Growth(it, start, checked.period) for it in lasting if stationary]
+            failures = first_failures(turns, setup, asked, pattern, inputs, growths)
+            for name, number in failures.items():
                 first[name] = min(number, first.get(name, number))
-    return {name: first.get(name) for name in PROPERTIES if name in asked.names}
+            lasting = {it.name for it in growths if it.is_over}
+    if is_one_search and not safety & first.keys():
+        lasting = lasting | safety if "safety" in lasting else lasting - safety
+    found = {**dict.fromkeys(lasting, exploring.ALL), **first}
+    return {name: found.get(name) for name in PROPERTIES if name in asked.names}

@@ -4,6 +4,11 @@ It goes level by level through the states of all nodes that runs come to under t
 question allows, for one list of inputs and one pattern of failures after the other, or, for small
 runs, through the tables themselves. It shares nothing with the crates.
 
+A property holds in all rounds if a round adds no state to those of earlier rounds of its place in
+the period, in each search: what follows has been seen then. That needs rounds that are alike, so
+that the program says neither `round` nor `phase`, no node crashes, and the network is clear already
+or stays as it is.
+
 usage: exploring.py SOURCE NODES FAULTS ROUNDS [INPUT ..] [--faults none|omission|crash]
        [--clear C] [--hears M] [--check LIST] [--always EXPRESSION] [--tables]
 
@@ -23,6 +28,10 @@ Setup = collections.namedtuple("Setup", "nodes faults inputs rounds")
 Question = collections.namedtuple("Question", "faults clear hears")
 SAFETY = ("agreement", "validity", "final")
 PROPERTIES = (*SAFETY, "safety", "termination", "always")
+ALL = "all"  # the answer to a property that holds in any number of rounds
+# What matters to each property of a run that has come to some states: what was decided, whether
+# decisions were kept, and whether the formula was true. Termination is asked after the last round.
+SEEN = {"agreement": [1], "validity": [1], "final": [2], "safety": [1, 2], "always": [3]}
 # A failure is None, "omits", or the round of a crash.
 
 
@@ -56,6 +65,44 @@ def rows(setup, question, pattern, number):
 
 def counts(failure, number):
     return not isinstance(failure, int) or number < failure
+
+
+def says_round(tree):
+    """Returns whether an expression says which round it is."""
+    return tree.form in ("round", "phase") or any(map(says_round, tree.parts))
+
+
+def is_stationary(checked):
+    """Returns whether no expression of a program's blocks says which round it is."""
+    return not any(says_round(it) for it, *_ in checked.places())
+
+
+def can_last(question, formula):
+    """Returns the properties that can hold in all rounds: those that ask the same of each."""
+    if question.faults == "crash":
+        return set()
+    return set(SEEN) - ({"always"} if formula and says_round(formula) else set())
+
+
+def first_alike(question):
+    """Returns the first round after which all rounds of one place in the period are alike."""
+    return 1 if question.clear is None else max(1, question.clear - 1)
+
+
+def seen_of(name, run):
+    """Returns what matters to a property of a run: its states, and what of the rest does."""
+    return run[0], *(run[it] for it in SEEN[name])
+
+
+def lasts(name, levels, first, period):
+    """Returns whether a round adds nothing to what runs came to after earlier ones of its place,
+    from the first on; the levels are those before round 1 and after each round."""
+    seen = [{seen_of(name, it) for it in level} for level in levels]
+    for number in range(first + 1, len(seen)):
+        before = (seen[it] for it in range(first, number) if (number - it) % period == 0)
+        if seen[number] <= set().union(*before):
+            return True
+    return False
 
 
 class Level:
@@ -126,18 +173,21 @@ class Level:
 
 
 def by_levels(algorithm, question, pattern, names, formula=None):
-    """Returns the first round in which each property fails, if it does."""
+    """Returns the first round in which each property fails, if it does, and what runs come to
+    before round 1 and after each round."""
     setup, first = algorithm.setup, {}
     choices = [rows(setup, question, pattern, it + 1) for it in range(setup.rounds)]
-    if not all(choices):
-        return first
     level = Level(algorithm, pattern, formula)
+    levels = [set(level.runs)]
+    if not all(choices):
+        return first, levels
     for choice in choices:
         level.follow(choice)
+        levels.append(set(level.runs))
         for name in names:
             if name not in first and level.broken(name):
                 first[name] = level.number
-    return first
+    return first, levels
 
 
 def by_tables(algorithm, question, pattern, names, formula=None):
@@ -145,8 +195,10 @@ def by_tables(algorithm, question, pattern, names, formula=None):
     setup, first = algorithm.setup, {}
     choices = [rows(setup, question, pattern, it // setup.nodes + 1)
                for it in range(setup.rounds * setup.nodes)]
+    levels = [set() for _ in range(setup.rounds + 1)]
     for table in itertools.product(*choices):
         level = Level(algorithm, pattern, formula)
+        levels[0] |= level.runs.keys()
         for number in range(setup.rounds):
             row = table[number * setup.nodes : (number + 1) * setup.nodes]
             (states, *_seen), = level.runs.values()
@@ -154,25 +206,32 @@ def by_tables(algorithm, question, pattern, names, formula=None):
             level.ends = lambda states, choices, node, after=after: [after[node]]
             level.follow(None)
             del level.ends
+            levels[level.number] |= level.runs.keys()
             for name in names:
                 if level.broken(name):
                     first[name] = min(first.get(name, level.number), level.number)
-    return first
+    return first, levels
 
 
 def explore(checked, setup, question, names, is_any, by=by_levels, formula=None, part=(1, 1)):
     """Returns the first round in which each property fails, and the inputs and failures of the
-    first run in which it does. Of all lists of inputs those of one part are taken."""
+    first run in which it does, or ALL if it holds in any number of rounds. Of all lists of inputs
+    those of one part are taken."""
     every = itertools.product(range(checked.values), repeat=setup.nodes)
     every = itertools.islice(every, part[0] - 1, None, part[1])
-    first = {}
+    first, start = {}, first_alike(question)
+    lasting = can_last(question, formula) & set(names)
+    stationary = is_stationary(checked)
     for inputs in every if is_any else [setup.inputs]:
         algorithm = reading.Algorithm(checked, setup._replace(inputs=list(inputs)))
         for pattern in patterns(setup, question):
-            for name, number in by(algorithm, question, pattern, names, formula).items():
+            failures, levels = by(algorithm, question, pattern, names, formula)
+            for name, number in failures.items():
                 if name not in first or number < first[name][0]:
                     first[name] = number, inputs, pattern
-    return first
+            lasting = {it for it in lasting
+                       if stationary and lasts(it, levels, start, checked.period)}
+    return {**dict.fromkeys(lasting, ALL), **first}
 
 
 def expression(text):
@@ -184,6 +243,8 @@ def shown(answer):
     """Returns the words on a property, from the earliest run in which it fails, if there is one."""
     if answer is None:
         return "yes"
+    if answer == ALL:
+        return "yes in all rounds"
     number, inputs, pattern = answer
     failures = ["-" if it is None else str(it) for it in pattern]
     return f"no in round {number} inputs {' '.join(map(str, inputs))} failures {' '.join(failures)}"

@@ -25,6 +25,8 @@ use Rattle.part_answers.specs.Heads.{head_line}
 use Rattle.part_answers.specs.Parts.{IsWellFormed, part_text}
 use Rattle.part_answers.specs.Wholes.{AreAllParts, IsFaultOf, IsWhole}
 use Rattle.part_answers.specs.declared.answered.Answered.{Answered}
+use Rattle.part_answers.specs.declared.answered.Outcome.{Outcome as PropertyOutcome}
+use Rattle.part_answers.specs.declared.answered.Outcome.TheVariants as property
 use Rattle.part_answers.specs.declared.part.Part.{Part}
 use Rattle.part_answers.specs.declared.part.PartAnswers.{PartAnswers}
 use Rattle.part_answers.specs.declared.part.PartHead.{PartHead}
@@ -83,13 +85,13 @@ MakesWhole files names whole =
     (parts : List PartAnswers) × HoldParts files names parts × AreAllParts parts
     × IsWhole parts whole
 
--- a part tells of no failure
+-- the property doesn't fail
 abbrev pub is_yes : Answered → Bool
-is_yes a = has_none a.failed
+is_yes a = holds a.outcome
   where
-    has_none : Option ℕ → Bool
-    has_none None = true
-    has_none (Some round) = false
+    holds : PropertyOutcome → Bool
+    holds (property.Fails round) = false
+    holds _ = true
 
 -- how `together` ends that prints this
 abbrev pub outcome_of_whole : List Answered → Outcome

@@ -189,5 +189,5 @@ fn are_yes(whole: &[Answered]) -> bool
 fn is_yes(one: &Answered) -> bool
     ensures { result ≡ is_yes one.now }
 {
-    one.failed.is_none()
+    !matches!(one.outcome, part_answers::Outcome::Fails(_))
 }

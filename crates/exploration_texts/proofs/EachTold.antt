@@ -1,6 +1,6 @@
 -- The answers of all properties, one after another.
-use Rattle.std.proofs.Common.{◌≡◌, ◌∙◌, ◌++◌, ◌∷◌, [], All, Bool, List, None, Option, Some, Bor}
-use Rattle.std.proofs.Common.{ap, false, inl, inr, map, refl, subst, sym, true, ◌⊎◌}
+use Rattle.std.proofs.Common.{◌≡◌, ◌∙◌, ◌++◌, ◌∷◌, [], ℕ, All, Bool, List, None, Option, Some, Bor}
+use Rattle.std.proofs.Common.{ap, false, map, refl, subst, sym, true}
 use Rattle.std.specs.Prelude.{is_some, option_map}
 use Rattle.std.proofs.lemmas.List.{append-nil}
 use Rattle.std.proofs.lemmas.List.Elements.{All-append, All-cons, All-nil}
@@ -11,14 +11,20 @@ use Rattle.exploration_texts.specs.Asking.{inputs_of, question_of}
 use Rattle.exploration_texts.specs.Conditions.{IsConditionFor}
 use Rattle.exploration_texts.specs.Told.{Adds, AddsAlways, AddsAnswer, AreAnswers, AreAnswersOf}
 use Rattle.exploration_texts.specs.Told.{IsAnswer, IsAnswerOf, IsNamed, IsRightOf, asked}
-use Rattle.exploration_texts.specs.Told.{name_of, no_failure}
+use Rattle.exploration_texts.specs.Told.{is_of_safety, name_of, no_failure}
 use Rattle.exploration_texts.specs.declared.answering.Search.{Search}
+use Rattle.exploration_texts.specs.declared.told.Answered.{Answered}
+use Rattle.exploration_texts.specs.declared.told.Answered.TheVariants.{HoldsInAllRounds}
 use Rattle.exploration_texts.specs.declared.told.PropertyName.{PropertyName}
 use Rattle.exploration_texts.specs.declared.told.PropertyName.TheVariants as kinds
 use Rattle.exploration_texts.specs.declared.told.Told.{Told}
+use Rattle.round_explorer.specs.Answers.{AllHoldUpTo, in_rounds}
 use Rattle.round_explorer.specs.declared.property.Property.{Property}
 use Rattle.round_explorer.specs.declared.property.Property.TheVariants.{Agreement, Always, Final}
-use Rattle.round_explorer.specs.declared.property.Property.TheVariants.{Safety, Validity}
+use Rattle.round_explorer.specs.declared.property.Property.TheVariants.{Safety, Termination}
+use Rattle.round_explorer.specs.declared.property.Property.TheVariants.{Validity}
+use Rattle.round_explorer.specs.declared.question.AskedInputs.{AskedInputs}
+use Rattle.round_explorer.specs.declared.question.Question.{Question}
 use Rattle.round_lang.specs.Syntax.{ProgramTree}
 use Rattle.round_lang.specs.Tree.{Tree}
 use Rattle.round_meaning.specs.declared.setup.Setup.{Setup}
@@ -78,32 +84,46 @@ told_always w (Some f) names old new h added =
     one_told w (Some f.now) names (Always f) old new refl h added
 told_always w None names old new h same = none_added w None names old new h same
 
--- the property is one of the three that are safety
-abbrev pub IsOfSafety : Property → Type 0
-IsOfSafety x = (x ≡ Agreement) ⊎ ((x ≡ Validity) ⊎ (x ≡ Final))
+-- a property that is agreement, validity or finality holds up to a round if all three do
+one_of_safety : (p : ProgramTree) (s : Setup) (question : Question) (asked : AskedInputs) (k : ℕ)
+    (x : Property) → is_of_safety x ≡ true → AllHoldUpTo p s question asked Safety k
+    → AllHoldUpTo p s question asked x k
+one_of_safety p s question asked k Agreement is h = λ inputs pattern omits run.
+    (h inputs pattern omits run).0
+one_of_safety p s question asked k Validity is h = λ inputs pattern omits run.
+    (h inputs pattern omits run).1
+one_of_safety p s question asked k Final is h = λ inputs pattern omits run.
+    (h inputs pattern omits run).2
+one_of_safety p s question asked k Safety is h = absurd (cc is)
+one_of_safety p s question asked k Termination is h = absurd (cc is)
+one_of_safety p s question asked k (Always f) is h = absurd (cc is)
 
--- the answer that tells of no failure is right of the property, of all runs or of a sample
-abbrev IsNoneOf : Search → Option SampleChoice → Property → Type 0
-IsNoneOf w sample x =
-    IsAnswer w.program.now w.setup.now w.question w.inputs sample x (no_failure sample)
+-- the answer is right of the property, of all runs or of a sample
+abbrev IsOf : Search → Option SampleChoice → Property → Answered → Type 0
+IsOf w sample x answer = IsAnswer w.program.now w.setup.now w.question w.inputs sample x answer
 
-safe_by : (w : Search) (sample : Option SampleChoice) (x : Property) → IsOfSafety x
-    → IsNoneOf w sample Safety → IsNoneOf w sample x
-safe_by w (Some sample) x is h = refl
-safe_by w None x (inl same) h =
-    subst (IsNoneOf w None) (sym same) (λ inputs pattern omits asked.
-    (h inputs pattern omits asked).0)
-safe_by w None x (inr (inl same)) h =
-    subst (IsNoneOf w None) (sym same) (λ inputs pattern omits asked.
-    (h inputs pattern omits asked).1)
-safe_by w None x (inr (inr same)) h =
-    subst (IsNoneOf w None) (sym same) (λ inputs pattern omits asked.
-    (h inputs pattern omits asked).2)
+none_by : (w : Search) (sample : Option SampleChoice) (x : Property) → is_of_safety x ≡ true
+    → IsOf w sample Safety (no_failure sample) → IsOf w sample x (no_failure sample)
+none_by w (Some sample) x is h = refl
+none_by w None x is h =
+    one_of_safety w.program.now w.setup.now w.question w.inputs w.setup.now.rounds x is h
 
--- and no failure of it is found if none of the three is
-pub holds_if_safe : (w : Search) (x : Property) → IsOfSafety x
+all_by : (w : Search) (sample : Option SampleChoice) (x : Property) → is_of_safety x ≡ true
+    → IsOf w sample Safety HoldsInAllRounds → IsOf w sample x HoldsInAllRounds
+all_by w (Some sample) x is h = absurd h
+all_by w None x is h = λ rounds.
+    one_of_safety w.program.now (in_rounds w.setup.now rounds) w.question w.inputs rounds x is
+    (h rounds)
+
+-- no failure of it is found if none of the three is
+pub none_if_safe : (w : Search) (x : Property) → is_of_safety x ≡ true
     → IsAnswerOf w Safety (no_failure w.sample) → IsAnswerOf w x (no_failure w.sample)
-holds_if_safe w x safe h = safe_by w w.sample x safe h
+none_if_safe w x is h = none_by w w.sample x is h
+
+-- and it holds in any number of rounds if the three do
+pub all_if_safe : (w : Search) (x : Property) → is_of_safety x ≡ true
+    → IsAnswerOf w Safety HoldsInAllRounds → IsAnswerOf w x HoldsInAllRounds
+all_if_safe w x is h = all_by w w.sample x is h
 
 -- what is asked of a search is told
 pub all_told : (w : Search) (c : Checks) (condition : Option Tree) (told : List Told)

@@ -9,7 +9,8 @@ use Rattle.exploration_texts.specs.Asking.{inputs_of, question_of}
 use Rattle.exploration_texts.specs.Stops.{AreWithin, CanBeShown, IsShowable, IsToldToShow}
 use Rattle.exploration_texts.specs.Told.{AreAnswers, IsAnswer, IsFirstNo, IsRightOf, all_hold}
 use Rattle.exploration_texts.specs.declared.told.Answered.{Answered}
-use Rattle.exploration_texts.specs.declared.told.Answered.TheVariants.{Fails, Holds, NotFound}
+use Rattle.exploration_texts.specs.declared.told.Answered.TheVariants.{Fails, Holds}
+use Rattle.exploration_texts.specs.declared.told.Answered.TheVariants.{HoldsInAllRounds, NotFound}
 use Rattle.exploration_texts.specs.declared.told.PropertyName.{PropertyName}
 use Rattle.exploration_texts.specs.declared.told.Told.{Told}
 use Rattle.round_explorer.specs.Answers.{IsAsked}
@@ -68,6 +69,7 @@ module _ (p : ProgramTree) (s : Setup) (sized : IsSetup s) (question : Question)
   right_shown : (sample : Option SampleChoice) (x : Property) (a : Answered)
       → IsAnswer p s question asked sample x a → CanBeShown s a
   right_shown sample x Holds h = tt
+  right_shown sample x HoldsInAllRounds h = tt
   right_shown sample x (NotFound n) h = tt
   right_shown None x (Fails c) h = asked_shown c h.is_asked h.past
   right_shown (Some sample) x (Fails c) h = asked_shown c h.is_asked h.past

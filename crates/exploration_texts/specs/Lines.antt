@@ -7,7 +7,8 @@ use Rattle.command_words.specs.declared.forms.AnswerFormat.TheVariants as format
 use Rattle.exploration_texts.specs.declared.condition.ConditionFault.{ConditionFault}
 use Rattle.exploration_texts.specs.declared.condition.ConditionFault.TheVariants as fault
 use Rattle.exploration_texts.specs.declared.told.Answered.{Answered}
-use Rattle.exploration_texts.specs.declared.told.Answered.TheVariants.{Fails, Holds, NotFound}
+use Rattle.exploration_texts.specs.declared.told.Answered.TheVariants.{Fails, Holds}
+use Rattle.exploration_texts.specs.declared.told.Answered.TheVariants.{HoldsInAllRounds, NotFound}
 use Rattle.exploration_texts.specs.declared.told.PropertyName.{PropertyName}
 use Rattle.exploration_texts.specs.declared.told.PropertyName.TheVariants as names
 use Rattle.exploration_texts.specs.declared.told.Told.{Told}
@@ -27,6 +28,7 @@ name_text names.Always = codes "always"
 
 abbrev pub answer_text : Answered → List ℕ
 answer_text Holds = codes " yes"
+answer_text HoldsInAllRounds = codes " yes in all rounds"
 answer_text (Fails c) = codes " no in round " ++ decimal c.round
 answer_text (NotFound n) = codes " none found in " ++ decimal n
 
@@ -43,6 +45,7 @@ answers_text told = flat_map told_line told
 
 abbrev pub answer_data : Answered → List ℕ
 answer_data Holds = codes "true,\"round\":null"
+answer_data HoldsInAllRounds = codes "true,\"round\":null,\"rounds\":\"all\""
 answer_data (Fails c) = codes "false,\"round\":" ++ decimal c.round
 answer_data (NotFound n) = codes "null,\"round\":null,\"runs\":" ++ decimal n
 

@@ -1,7 +1,8 @@
 -- How many steps each node takes in a run with failures.
 use Rattle.std.specs.Prelude.{◌≡◌, ◌+◌, ◌≤◌, ⊤, ℕ, List, length}
 use Rattle.exploration_texts.specs.declared.told.Answered.{Answered}
-use Rattle.exploration_texts.specs.declared.told.Answered.TheVariants.{Fails, Holds, NotFound}
+use Rattle.exploration_texts.specs.declared.told.Answered.TheVariants.{Fails, Holds}
+use Rattle.exploration_texts.specs.declared.told.Answered.TheVariants.{HoldsInAllRounds, NotFound}
 use Rattle.exploration_texts.specs.declared.told.Told.{Told}
 use Rattle.round_explorer.specs.Questions.{failure_of}
 use Rattle.round_explorer.specs.declared.answer.Counterexample.{Counterexample}
@@ -36,6 +37,7 @@ pub record IsShowable (s : Setup) (c : Counterexample) : Type 0 where
 -- the same of what was found of a property, if it fails
 abbrev pub CanBeShown : Setup → Answered → Type 0
 CanBeShown s Holds = ⊤
+CanBeShown s HoldsInAllRounds = ⊤
 CanBeShown s (NotFound n) = ⊤
 CanBeShown s (Fails c) = IsShowable s c
 

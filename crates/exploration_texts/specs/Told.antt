@@ -1,15 +1,18 @@
 -- What is told of the properties that the options of `explore` ask.
 use Rattle.std.specs.Borrow.{Bor}
 use Rattle.std.specs.Prelude.{◌≡◌, ◌++◌, ◌∷◌, ◌&&◌, ◌⊎◌, [], All, Bool, List, None, Option, Some}
-use Rattle.std.specs.Prelude.{false, is_some, map, true}
+use Rattle.std.specs.Prelude.{false, is_some, map, true, ⊤}
 use Rattle.command_words.specs.declared.exploring.Checks.{Checks}
 use Rattle.command_words.specs.declared.exploring.Exploring.{Exploring}
 use Rattle.command_words.specs.declared.searching.SampleChoice.{SampleChoice}
 use Rattle.exploration_texts.specs.Asking.{inputs_of, question_of}
 use Rattle.exploration_texts.specs.Conditions.{IsConditionFor}
+use Rattle.exploration_texts.specs.declared.answering.Known.{Known}
+use Rattle.exploration_texts.specs.declared.answering.Known.TheVariants as known
 use Rattle.exploration_texts.specs.declared.answering.Search.{Search}
 use Rattle.exploration_texts.specs.declared.told.Answered.{Answered}
-use Rattle.exploration_texts.specs.declared.told.Answered.TheVariants.{Fails, Holds, NotFound}
+use Rattle.exploration_texts.specs.declared.told.Answered.TheVariants.{Fails, Holds}
+use Rattle.exploration_texts.specs.declared.told.Answered.TheVariants.{HoldsInAllRounds, NotFound}
 use Rattle.exploration_texts.specs.declared.told.PropertyName.{PropertyName}
 use Rattle.exploration_texts.specs.declared.told.PropertyName.TheVariants as names
 use Rattle.exploration_texts.specs.declared.told.Told.{Told}
@@ -58,6 +61,7 @@ IsNamed condition name property = name_of property ≡ name
 -- the answer of a search through all runs
 abbrev pub answered_by : Answer → Answered
 answered_by all.Holds = Holds
+answered_by all.HoldsInAllRounds = HoldsInAllRounds
 answered_by (all.Fails c) = Fails c
 
 -- the answer is right of a property: it's one of all runs that are asked about; or of a sample, and
@@ -65,9 +69,12 @@ answered_by (all.Fails c) = Fails c
 abbrev pub IsAnswer : ProgramTree → Setup → Question → AskedInputs → Option SampleChoice
     → Property → Answered → Type 0
 IsAnswer p s question inputs None x Holds = IsRight p s question inputs x all.Holds
+IsAnswer p s question inputs None x HoldsInAllRounds =
+    IsRight p s question inputs x all.HoldsInAllRounds
 IsAnswer p s question inputs None x (Fails c) = IsRight p s question inputs x (all.Fails c)
 IsAnswer p s question inputs None x (NotFound n) = ⊥
 IsAnswer p s question inputs (Some sample) x Holds = ⊥
+IsAnswer p s question inputs (Some sample) x HoldsInAllRounds = ⊥
 IsAnswer p s question inputs (Some sample) x (Fails c) = IsFound p s question inputs x c
 IsAnswer p s question inputs (Some sample) x (NotFound n) = n ≡ sample.count
 
@@ -94,6 +101,7 @@ pub record AreAnswers (p : ProgramTree) (s : Setup) (e : Exploring) (told : List
 -- no failure is told
 abbrev pub holds : Answered → Bool
 holds Holds = true
+holds HoldsInAllRounds = true
 holds (Fails c) = false
 holds (NotFound n) = true
 
@@ -114,9 +122,18 @@ abbrev pub IsAnswerOf : Search → Property → Answered → Type 0
 IsAnswerOf w x answer =
     IsAnswer w.program.now w.setup.now w.question w.inputs w.sample x answer
 
--- it's known that no failure of agreement, validity and finality is found, all at once
-abbrev pub AreKnownSafe : Search → Bool → Type 0
-AreKnownSafe w known = known ≡ true → IsAnswerOf w Safety (no_failure w.sample)
+-- the property is agreement, validity or finality
+abbrev pub is_of_safety : Property → Bool
+is_of_safety Agreement = true
+is_of_safety Validity = true
+is_of_safety Final = true
+is_of_safety _ = false
+
+-- what is known of agreement, validity and finality is true of all at once
+abbrev pub IsKnown : Search → Known → Type 0
+IsKnown w known.Nothing = ⊤
+IsKnown w known.NoFailure = IsAnswerOf w Safety (no_failure w.sample)
+IsKnown w known.HoldInAllRounds = IsAnswerOf w Safety HoldsInAllRounds
 
 -- the answer of one more property
 abbrev pub AddsAnswer : Search → Property → (old new : List Told) → Type 0

@@ -3,7 +3,7 @@ ghost use Rattle.std.specs.Prelude.{◌≡◌, IfErr, IfOk, None, OnOk, Some, op
 ghost use Rattle.round_meaning.specs.Setups.{IsLawful};
 ghost use Rattle.exploration_texts.specs.Conditions.{IsConditionFor, IsFaultFor};
 ghost use Rattle.exploration_texts.specs.Told.{Adds, AddsAlways, AreAnswers, AreAnswersOf};
-ghost use Rattle.exploration_texts.specs.Told.{AreKnownSafe, IsAnswerOf, no_failure};
+ghost use Rattle.exploration_texts.specs.Told.{IsAnswerOf, IsKnown, is_of_safety, no_failure};
 
 use crate::asking::{inputs_of, question_of};
 use crate::condition::{ConditionFault, read_condition};
@@ -28,6 +28,17 @@ pub struct Search<'a> {
     pub jobs: u32,
     /// The sample that is gone through in place of all runs.
     pub sample: Option<SampleChoice>,
+}
+
+/// What one search for agreement, validity and finality at once tells of each of them.
+#[derive(Clone, Copy)]
+enum Known {
+    /// Nothing: it wasn't made, or there is a failure.
+    Nothing,
+    /// No failure is found of any of them.
+    NoFailure,
+    /// Each of them holds in any number of rounds.
+    HoldInAllRounds,
 }
 
 /// The answers to what the options ask of all runs or of a sample, in the order agreement,
@@ -85,14 +96,14 @@ fn answers<R: Threads + Sync, W: Watch + Sync>(
     ensures { IfOk result (λ told. AreAnswersOf search.now checks
         (option_map (λ f. f.now) always.entry) told.items) }
 {
-    let safe = search.is_safe(rt, alloc, checks, watch)?;
+    let known = search.search_safety(rt, alloc, checks, watch)?;
     let mut told = Vec::new(alloc);
     search.add_if(
         rt,
         alloc,
         checks.agreement,
         Property::Agreement,
-        safe,
+        known,
         &mut told,
         watch,
     )?;
@@ -101,7 +112,7 @@ fn answers<R: Threads + Sync, W: Watch + Sync>(
         alloc,
         checks.validity,
         Property::Validity,
-        safe,
+        known,
         &mut told,
         watch,
     )?;
@@ -110,7 +121,7 @@ fn answers<R: Threads + Sync, W: Watch + Sync>(
         alloc,
         checks.finality,
         Property::Final,
-        safe,
+        known,
         &mut told,
         watch,
     )?;
@@ -119,7 +130,7 @@ fn answers<R: Threads + Sync, W: Watch + Sync>(
         alloc,
         checks.termination,
         Property::Termination,
-        safe,
+        known,
         &mut told,
         watch,
     )?;
@@ -133,25 +144,36 @@ fn asks_several(checks: Checks) -> bool {
         || (checks.finality && (checks.agreement || checks.validity))
 }
 
+/// Whether a property is agreement, validity or finality.
+fn is_of_safety(property: Property<'_>) -> bool
+    ensures { result ≡ is_of_safety property.entry }
+{
+    matches!(
+        property,
+        Property::Agreement | Property::Validity | Property::Final
+    )
+}
+
 impl<'a> Search<'a> {
-    /// Whether one search finds no failure of agreement, validity and finality. It's made only if
+    /// What one search for agreement, validity and finality tells of each of them. It's made only if
     /// more than one of them is asked, since it takes as long as the search for one.
-    fn is_safe<R: Threads + Sync, W: Watch + Sync>(
+    fn search_safety<R: Threads + Sync, W: Watch + Sync>(
         &self,
         rt: &R,
         alloc: Global,
         checks: Checks,
         watch: &W,
-    ) -> Result<bool, NoMemory>
+    ) -> Result<Known, NoMemory>
         requires { IsLawful self.now.program.now.values self.now.setup.now }
-        ensures { IfOk result (AreKnownSafe self.now) }
+        ensures { IfOk result (IsKnown self.now) }
     {
         if !asks_several(checks) {
-            return Ok(false);
+            return Ok(Known::Nothing);
         }
         match self.explore(rt, alloc, Property::Safety, watch)? {
-            Answered::Holds | Answered::NotFound(_) => Ok(true),
-            Answered::Fails(_) => Ok(false),
+            Answered::Holds | Answered::NotFound(_) => Ok(Known::NoFailure),
+            Answered::HoldsInAllRounds => Ok(Known::HoldInAllRounds),
+            Answered::Fails(_) => Ok(Known::Nothing),
         }
     }
 
@@ -246,17 +268,16 @@ impl<'a> Search<'a> {
         rt: &R,
         alloc: Global,
         property: Property<'_>,
-        safe: bool,
+        known: Known,
         watch: &W,
     ) -> Result<Answered, NoMemory>
         requires lawful { IsLawful self.now.program.now.values self.now.setup.now }
-        requires safe { AreKnownSafe self.now safe }
+        requires known { IsKnown self.now known }
         ensures { IfOk result (IsAnswerOf self.now property.entry) }
     {
-        match property {
-            Property::Agreement | Property::Validity | Property::Final if safe => {
-                Ok(self.no_failure())
-            }
+        match known {
+            Known::NoFailure if is_of_safety(property) => Ok(self.no_failure()),
+            Known::HoldInAllRounds if is_of_safety(property) => Ok(Answered::HoldsInAllRounds),
             _ => self.explore(rt, alloc, property, watch),
         }
     }
@@ -268,17 +289,17 @@ impl<'a> Search<'a> {
         alloc: Global,
         asked: bool,
         property: Property<'_>,
-        safe: bool,
+        known: Known,
         told: &mut Vec<Told>,
         watch: &W,
     ) -> Result<(), NoMemory>
         requires lawful { IsLawful self.now.program.now.values self.now.setup.now }
-        requires safe { AreKnownSafe self.now safe }
+        requires known { IsKnown self.now known }
         ensures { OnOk result
             (Adds self.now asked property.entry told.old.items told.new.items) }
     {
         if asked {
-            self.add(rt, alloc, property, safe, told, watch)?;
+            self.add(rt, alloc, property, known, told, watch)?;
         }
         Ok(())
     }
@@ -297,7 +318,10 @@ impl<'a> Search<'a> {
             (AddsAlways self.now always.entry told.old.items told.new.items) }
     {
         match always {
-            Some(formula) => self.add(rt, alloc, Property::Always(formula), false, told, watch),
+            Some(formula) => {
+                let property = Property::Always(formula);
+                self.add(rt, alloc, property, Known::Nothing, told, watch)
+            }
             None => Ok(()),
         }
     }
@@ -308,16 +332,16 @@ impl<'a> Search<'a> {
         rt: &R,
         alloc: Global,
         property: Property<'_>,
-        safe: bool,
+        known: Known,
         told: &mut Vec<Told>,
         watch: &W,
     ) -> Result<(), NoMemory>
         requires lawful { IsLawful self.now.program.now.values self.now.setup.now }
-        requires safe { AreKnownSafe self.now safe }
+        requires known { IsKnown self.now known }
         ensures { OnOk result (Adds self.now true property.entry told.old.items told.new.items) }
     {
         let name = PropertyName::of(property);
-        let answer = self.answer(rt, alloc, property, safe, watch)?;
+        let answer = self.answer(rt, alloc, property, known, watch)?;
         told.push(Told { name, answer })?;
         Ok(())
     }

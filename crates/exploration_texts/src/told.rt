@@ -26,8 +26,10 @@ pub enum PropertyName {
 /// Whether a property holds of the runs that are asked about.
 #[derive(Drop)]
 pub enum Answered {
-    /// It holds of all of them.
+    /// It holds of all of them, in the rounds that are asked about.
     Holds,
+    /// It holds of all of them, in any number of rounds.
+    HoldsInAllRounds,
     /// It fails in this one.
     Fails(Counterexample),
     /// It fails in none of this many that were made at random.
@@ -51,6 +53,7 @@ impl From<Answer> for Answered {
     fn from(answer: Answer) -> Answered {
         match answer {
             Answer::Holds => Answered::Holds,
+            Answer::HoldsInAllRounds => Answered::HoldsInAllRounds,
             Answer::Fails(found) => Answered::Fails(found),
         }
     }
@@ -93,7 +96,8 @@ impl PropertyName {
     }
 }
 
-/// The property and `yes`, `no` and the round, or in how many runs no failure was found.
+/// The property and `yes`, `yes in all rounds`, `no` and the round, or in how many runs no failure
+/// was found.
 impl fmt::Display for Told {
     ghost use Rattle.std.specs.Prelude.{Some};
     ghost use Rattle.exploration_texts.specs.Lines.{told_text};
@@ -104,6 +108,7 @@ impl fmt::Display for Told {
         let name = self.name.as_str();
         match &self.answer {
             Answered::Holds => write!(f, "{name} yes"),
+            Answered::HoldsInAllRounds => write!(f, "{name} yes in all rounds"),
             Answered::Fails(found) => write!(f, "{name} no in round {}", found.round),
             Answered::NotFound(runs) => write!(f, "{name} none found in {runs}"),
         }
@@ -118,7 +123,9 @@ pub fn first_failure(told: &[Told]) -> Option<Failed<'_>>
     match told {
         [] => None,
         [first, rest @ ..] => match &first.answer {
-            Answered::Holds | Answered::NotFound(_) => first_failure(rest),
+            Answered::Holds | Answered::HoldsInAllRounds | Answered::NotFound(_) => {
+                first_failure(rest)
+            }
             Answered::Fails(found) => Some(Failed {
                 name: first.name,
                 found,
@@ -176,6 +183,12 @@ fn write_object<W: Write>(told: &Told, out: &mut W) -> io::Result<()>
             writeln!(
                 out,
                 "{{\"property\":\"{name}\",\"holds\":true,\"round\":null}}"
+            )
+        }
+        Answered::HoldsInAllRounds => {
+            writeln!(
+                out,
+                "{{\"property\":\"{name}\",\"holds\":true,\"round\":null,\"rounds\":\"all\"}}"
             )
         }
         Answered::NotFound(runs) => {

@@ -68,6 +68,7 @@ fn tell(out: &mut String, found: &Counterexample) -> Result<(), Fault> {
 fn tell_answer(out: &mut String, answer: &Answer) -> Result<(), Fault> {
     match answer {
         Answer::Holds => out.push_str(" yes\n")?,
+        Answer::HoldsInAllRounds => out.push_str(" yes in all rounds\n")?,
         Answer::Fails(found) => tell(out, found)?,
     }
     Ok(())

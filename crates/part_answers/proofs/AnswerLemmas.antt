@@ -1,28 +1,21 @@
 -- The parts of an answer's line.
-use Rattle.std.proofs.Common.{◌≡◌, ◌≢◌, ◌∙◌, ◌≤◌, ◌++◌, ◌∷◌, ℕ, List, None, Option, Some}
-use Rattle.std.proofs.Common.{ap, arith, refl}
+use Rattle.std.proofs.Common.{◌≡◌, ◌≢◌, ◌∙◌, ◌≤◌, ◌++◌, ◌∷◌, ℕ, List}
+use Rattle.std.proofs.Common.{ap, arith, get_or, length, refl}
 use Rattle.std.specs.Prelude.{codes}
 use Rattle.std.specs.Fmt.{decimal}
 use Rattle.std.proofs.lemmas.Fmt.{decimal_injective}
-use Rattle.part_answers.specs.Answers.{IsAnswered, IsFailed, IsRound, answered_text, outcome_text}
+use Rattle.part_answers.specs.Answers.{IsAnswered, IsOutcome, IsRound, answered_text, outcome_words}
 use Rattle.part_answers.specs.Cuts.{IsCut, Lacks}
 use Rattle.part_answers.specs.Properties.{name_text, rank}
 use Rattle.part_answers.specs.declared.answered.Answered.{Answered}
+use Rattle.part_answers.specs.declared.answered.Outcome.{Outcome}
+use Rattle.part_answers.specs.declared.answered.Outcome.TheVariants.{Fails, Holds}
+use Rattle.part_answers.specs.declared.answered.Outcome.TheVariants.{HoldsInAllRounds}
 use Rattle.part_answers.specs.declared.property.Property.{Property}
 use Rattle.part_answers.specs.declared.property.Property.TheVariants.{Agreement, Always, Final}
 use Rattle.part_answers.specs.declared.property.Property.TheVariants.{Termination, Validity}
 use Rattle.part_answers.proofs.CutLemmas.{cut_is, cut_somewhere, lacks_both, lacks_tested}
 use Rattle.part_answers.proofs.TextLemmas.{decimal_lacks}
-
--- what follows the space behind the property
-pub behind_name : Option ℕ → List ℕ
-behind_name None = codes "yes"
-behind_name (Some round) = codes "no in round " ++ decimal round
-
-begins_with_space : (failed : Option ℕ) → outcome_text failed ≡ 32 ∷ behind_name failed
-unfolding behind_name
-begins_with_space None = refl
-begins_with_space (Some round) = refl
 
 name_lacks_space : (p : Property) → Lacks 32 (name_text p)
 name_lacks_space Agreement = lacks_tested 32 (codes "agreement") refl
@@ -38,9 +31,10 @@ name_lacks_end Final = lacks_tested 10 (codes "final") refl
 name_lacks_end Termination = lacks_tested 10 (codes "termination") refl
 name_lacks_end Always = lacks_tested 10 (codes "always") refl
 
-outcome_lacks_end : (failed : Option ℕ) → IsFailed failed → Lacks 10 (outcome_text failed)
-outcome_lacks_end None is = lacks_tested 10 (codes " yes") refl
-outcome_lacks_end (Some round) is =
+outcome_lacks_end : (o : Outcome) → IsOutcome o → Lacks 10 (32 ∷ outcome_words o)
+outcome_lacks_end Holds is = lacks_tested 10 (codes " yes") refl
+outcome_lacks_end HoldsInAllRounds is = lacks_tested 10 (codes " yes in all rounds") refl
+outcome_lacks_end (Fails round) is =
     lacks_both 10 (codes " no in round ") (decimal round)
     (lacks_tested 10 (codes " no in round ") refl)
     (decimal_lacks 10 round (omega arith) (omega (arith, is.1)))
@@ -48,31 +42,27 @@ outcome_lacks_end (Some round) is =
 -- a line has no line end within it
 pub answered_lacks : (a : Answered) → IsAnswered a → Lacks 10 (answered_text a)
 answered_lacks a is =
-    lacks_both 10 (name_text a.property) (outcome_text a.failed) (name_lacks_end a.property)
-    (outcome_lacks_end a.failed is)
-
-at_space : (a : Answered)
-    → answered_text a ≡ name_text a.property ++ 32 ∷ behind_name a.failed
-at_space a = ap (λ t. name_text a.property ++ t) (begins_with_space a.failed)
+    lacks_both 10 (name_text a.property) (32 ∷ outcome_words a.outcome)
+    (name_lacks_end a.property) (outcome_lacks_end a.outcome is)
 
 -- the property, and what follows its space
 pub answered_parts : (line x y : List ℕ) (a : Answered) → IsCut 32 line x y
-    → line ≡ answered_text a → (x ≡ name_text a.property) × (y ≡ behind_name a.failed)
+    → line ≡ answered_text a → (x ≡ name_text a.property) × (y ≡ outcome_words a.outcome)
 answered_parts line x y a cut same =
-    cut_is 32 line x y (name_text a.property) (behind_name a.failed) cut
-    (name_lacks_space a.property) (same ∙ at_space a)
+    cut_is 32 line x y (name_text a.property) (outcome_words a.outcome) cut
+    (name_lacks_space a.property) same
 
 pub answered_has_space : (line : List ℕ) (a : Answered) → Lacks 32 line → line ≢ answered_text a
 answered_has_space line a lacks same =
-    cut_somewhere 32 line (name_text a.property) (behind_name a.failed) lacks (same ∙ at_space a)
+    cut_somewhere 32 line (name_text a.property) (outcome_words a.outcome) lacks same
 
--- what is neither `yes` nor the round of a `no` follows no property
-pub no_outcome : (outcome : List ℕ) → outcome ≢ codes "yes"
-    → ((r : ℕ) → IsRound r → outcome ≢ codes "no in round " ++ decimal r) → (failed : Option ℕ)
-    → IsFailed failed → outcome ≢ behind_name failed
-unfolding behind_name
-no_outcome outcome other none None is same = other same
-no_outcome outcome other none (Some r) is same = none r is same
+-- what is neither a `yes` nor the round of a `no` follows no property
+pub no_outcome : (words : List ℕ) → words ≢ codes "yes" → words ≢ codes "yes in all rounds"
+    → ((r : ℕ) → IsRound r → words ≢ codes "no in round " ++ decimal r) → (o : Outcome)
+    → IsOutcome o → words ≢ outcome_words o
+no_outcome words plain all none Holds is same = plain same
+no_outcome words plain all none HoldsInAllRounds is same = all same
+no_outcome words plain all none (Fails r) is same = none r is same
 
 -- no two properties have one name
 same_property : (p q : Property) → name_text p ≡ name_text q → p ≡ q
@@ -102,14 +92,23 @@ same_property Always Final same = absurd (cc same)
 same_property Always Termination same = absurd (cc same)
 same_property Always Always same = refl
 
-same_failed : (f g : Option ℕ) → IsFailed f → IsFailed g → behind_name f ≡ behind_name g → f ≡ g
-unfolding behind_name
-same_failed None None a b same = refl
-same_failed None (Some y) a b same = absurd (cc same)
-same_failed (Some x) None a b same = absurd (cc same)
-same_failed (Some x) (Some y) a b same =
+same_outcome : (f g : Outcome) → IsOutcome f → IsOutcome g → outcome_words f ≡ outcome_words g
+    → f ≡ g
+same_outcome Holds Holds a b same = refl
+same_outcome Holds HoldsInAllRounds a b same =
+    let longer : 3 ≡ 17 = ap length same in absurd (omega (arith, longer))
+same_outcome Holds (Fails y) a b same = absurd (cc same)
+same_outcome HoldsInAllRounds Holds a b same =
+    let longer : 17 ≡ 3 = ap length same in absurd (omega (arith, longer))
+same_outcome HoldsInAllRounds HoldsInAllRounds a b same = refl
+same_outcome HoldsInAllRounds (Fails y) a b same =
+    let first : 121 ≡ 110 = ap (λ (t : List ℕ). get_or t 0 0) same in absurd (omega (arith, first))
+same_outcome (Fails x) Holds a b same = absurd (cc same)
+same_outcome (Fails x) HoldsInAllRounds a b same =
+    let first : 110 ≡ 121 = ap (λ (t : List ℕ). get_or t 0 0) same in absurd (omega (arith, first))
+same_outcome (Fails x) (Fails y) a b same =
     let digits : decimal x ≡ decimal y = cc same in
-    ap (λ (n : ℕ). Some n)
+    ap (λ (n : ℕ). Fails n)
     (decimal_injective x y (omega (arith, a.1)) (omega (arith, b.1)) digits)
 
 pub rank_small : (p : Property) → rank p ≤ 4
@@ -123,10 +122,10 @@ rank_small Always = omega arith
 pub same_answered : (a b : Answered) → IsAnswered a → IsAnswered b
     → answered_text a ≡ answered_text b → a ≡ b
 same_answered a b first second same =
-    let parts = cut_is 32 (answered_text a) (name_text a.property) (behind_name a.failed)
-    (name_text b.property) (behind_name b.failed) (at_space a, name_lacks_space a.property)
-    (name_lacks_space b.property) (same ∙ at_space b) in
-    ap (λ (p : Property). record { property = p; failed = a.failed })
+    let parts = cut_is 32 (answered_text a) (name_text a.property) (outcome_words a.outcome)
+    (name_text b.property) (outcome_words b.outcome) (refl, name_lacks_space a.property)
+    (name_lacks_space b.property) same in
+    ap (λ (p : Property). record { property = p; outcome = a.outcome })
     (same_property a.property b.property parts.0)
-    ∙ ap (λ (f : Option ℕ). record { property = b.property; failed = f })
-    (same_failed a.failed b.failed first second parts.1)
+    ∙ ap (λ (o : Outcome). record { property = b.property; outcome = o })
+    (same_outcome a.outcome b.outcome first second parts.1)

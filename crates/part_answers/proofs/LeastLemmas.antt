@@ -7,6 +7,8 @@ use Rattle.std.proofs.lemmas.List.{get_or_default}
 use Rattle.part_answers.specs.Tables.{IsNo, earlier}
 use Rattle.part_answers.specs.Wholes.{IsFailureIn, IsLeast}
 use Rattle.part_answers.specs.declared.answered.Answered.{Answered}
+use Rattle.part_answers.specs.declared.answered.Outcome.{Outcome}
+use Rattle.part_answers.specs.declared.answered.Outcome.TheVariants.{Fails}
 use Rattle.part_answers.specs.declared.property.Property.{Property}
 
 -- the least of the numbers of either kind
@@ -73,11 +75,11 @@ least_of_all F xs i least all h =
     (λ n b. (b.0, b.1, b.3, b.4, b.5))
     (λ n a. (a.0, a.1, omega (arith, all, a.2), a.2, a.3, a.4))
 
-same_answered : (a : Answered) (property : Property) (failed : Option ℕ) → a.property ≡ property
-    → a.failed ≡ failed → a ≡ record { property = property; failed = failed }
-same_answered a property failed p f =
-    ap (λ (q : Property). record { property = q; failed = a.failed }) p
-    ∙ ap (λ (g : Option ℕ). record { property = property; failed = g }) f
+same_answered : (a : Answered) (property : Property) (outcome : Outcome) → a.property ≡ property
+    → a.outcome ≡ outcome → a ≡ record { property = property; outcome = outcome }
+same_answered a property outcome p o =
+    ap (λ (q : Property). record { property = q; outcome = a.outcome }) p
+    ∙ ap (λ (n : Outcome). record { property = property; outcome = n }) o
 
 -- an answer of that kind is the `no`
 pub least_no : (answers : List Answered) (property : Property) (least : Option ℕ)
@@ -89,17 +91,6 @@ least_no answers property least h =
       any.0,
       any.2,
       get_or_default answers any.0 _ any.1 any.2 ∙ any.3
-          ∙ same_answered any.1 property (Some n) any.4.0 any.4.1,
+          ∙ same_answered any.1 property (Fails n) any.4.0 any.4.1,
     ))
-    (λ n has. (has.0, record { property = property; failed = Some n }, has.1, has.2, (refl, refl)))
-
--- what one answers
-pub least_of_one : (property : Property) (a : Answered) (failed : Option ℕ)
-    → a.property ≡ property → a.failed ≡ failed → IsLeast (IsNo property a) failed
-least_of_one property a None is same = λ n no. let bad : None ≡ Some n = sym same ∙ no.1 in
-    absurd (cc bad)
-least_of_one property a (Some x) is same = (
-  (is, same),
-  λ n no. let both : Some x ≡ Some n = sym same ∙ no.1 in
-      let equal : x ≡ n = cc both in omega (arith, equal),
-)
+    (λ n has. (has.0, record { property = property; outcome = Fails n }, has.1, has.2, (refl, refl)))

@@ -3,6 +3,7 @@ use Rattle.std.specs.Prelude.{◌≡◌, ◌≤◌, ◌<◌, ◌-◌, ℕ, All, 
 use Rattle.std.specs.Prelude.{Some, cond, false, get_or, length, min, suc, take, true, ⊤}
 use Rattle.part_answers.specs.Wholes.{IsAlike, times}
 use Rattle.part_answers.specs.declared.answered.Answered.{Answered}
+use Rattle.part_answers.specs.declared.answered.Outcome.TheVariants as outcome
 use Rattle.part_answers.specs.declared.part.PartAnswers.{PartAnswers}
 use Rattle.part_answers.specs.declared.joining.PartsFault.{PartsFault}
 use Rattle.part_answers.specs.declared.joining.PartsFault.TheVariants as fault
@@ -48,4 +49,4 @@ earlier (Some a) (Some b) = Some (min a b)
 
 -- the answer is that the property fails in this round
 abbrev pub IsNo : Property → Answered → ℕ → Type 0
-IsNo property a round = (a.property ≡ property) × (a.failed ≡ Some round)
+IsNo property a round = (a.property ≡ property) × (a.outcome ≡ outcome.Fails round)

@@ -2,6 +2,8 @@
 use Rattle.std.specs.Prelude.{◌≡◌, ◌≤◌, ◌<◌, ◌==◌, ◌∷◌, [], ℕ, All, Any, Contains, HoldsAt, List}
 use Rattle.std.specs.Prelude.{None, Option, Some, count_by, length, map, take, ⊤}
 use Rattle.part_answers.specs.declared.answered.Answered.{Answered}
+use Rattle.part_answers.specs.declared.answered.Outcome.{Outcome}
+use Rattle.part_answers.specs.declared.answered.Outcome.TheVariants as outcome
 use Rattle.part_answers.specs.declared.joining.PartsFault.{PartsFault}
 use Rattle.part_answers.specs.declared.joining.PartsFault.TheVariants as fault
 use Rattle.part_answers.specs.declared.part.PartAnswers.{PartAnswers}
@@ -41,7 +43,7 @@ pub record AreAllParts (parts : List PartAnswers) : Type 0 where
 -- some answer is that the property fails in this round
 abbrev pub IsFailureIn : List Answered → Property → ℕ → Type 0
 IsFailureIn answers property round =
-    Contains answers (record { property = property; failed = Some round })
+    Contains answers (record { property = property; outcome = outcome.Fails round })
 
 -- some part answers so
 abbrev pub FailsIn : List PartAnswers → Property → ℕ → Type 0
@@ -52,9 +54,27 @@ abbrev pub IsLeast : (ℕ → Type 0) → Option ℕ → Type 0
 IsLeast P None = (n : ℕ) → ¬ (P n)
 IsLeast P (Some least) = P least × ((n : ℕ) → P n → least ≤ n)
 
--- the least round in which some part answers that the property fails
+-- the part answers that the property holds in any number of rounds
+abbrev pub HoldsInAllRounds : Property → PartAnswers → Type 0
+HoldsInAllRounds property p =
+    Contains p.answers.items (record { property = property; outcome = outcome.HoldsInAllRounds })
+
+-- no part answers that the property fails
+abbrev pub NeverFails : List PartAnswers → Property → Type 0
+NeverFails parts property = (n : ℕ) → ¬ (FailsIn parts property n)
+
+-- what the parts answer together of a property
+abbrev pub IsOutcomeOf : List PartAnswers → Property → Outcome → Type 0
+IsOutcomeOf parts property (outcome.Fails least) = IsLeast (FailsIn parts property) (Some least)
+IsOutcomeOf parts property outcome.HoldsInAllRounds =
+    NeverFails parts property × All (HoldsInAllRounds property) parts
+IsOutcomeOf parts property outcome.Holds =
+    NeverFails parts property × ¬ (All (HoldsInAllRounds property) parts)
+
+-- this is the least round in which the property fails in some part; or it's a yes, and one in all
+-- rounds exactly if each part answers so
 abbrev pub IsAnswerOf : List PartAnswers → Answered → Type 0
-IsAnswerOf parts a = IsLeast (FailsIn parts a.property) a.failed
+IsAnswerOf parts a = IsOutcomeOf parts a.property a.outcome
 
 -- the parts' properties, each answered for all parts
 abbrev pub IsWhole : List PartAnswers → List Answered → Type 0

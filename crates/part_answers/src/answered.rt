@@ -1,23 +1,35 @@
 //! What is answered of a property.
 ghost use Rattle.std.specs.Prelude.{◌≡◌, ◌≢◌, ◌++◌, ℕ, IfNone, IfSome, codes};
 ghost use Rattle.std.specs.Fmt.{decimal};
-ghost use Rattle.part_answers.specs.Answers.{IsAnswered, IsRound, answered_text};
+ghost use Rattle.part_answers.specs.Answers.{IsAnswered, IsOutcome, IsRound, answered_text};
+ghost use Rattle.part_answers.specs.Answers.{outcome_words};
 ghost use Rattle.part_answers.specs.declared.answered.Answered.{Answered as AnsweredValue};
+ghost use Rattle.part_answers.specs.declared.answered.Outcome.{Outcome as OutcomeValue};
 
 use crate::cutting::{after_words, cut_at};
 use crate::number::read_round;
 use crate::property::Property;
 use std::fmt;
 
-/// A property, and the round in which it fails, if it does.
+/// What is answered of a property.
+#[derive(Clone, Copy, Debug, PartialEq, Eq)]
+pub enum Outcome {
+    /// It holds in the rounds that are asked about.
+    Holds,
+    /// It holds in any number of rounds.
+    HoldsInAllRounds,
+    /// It fails in this round.
+    Fails(u32),
+}
+
+/// A property, and what is answered of it.
 #[derive(Clone, Copy, Debug, PartialEq, Eq)]
 pub struct Answered {
     pub property: Property,
-    /// The round of a `no`.
-    pub failed: Option<u32>,
+    pub outcome: Outcome,
 }
 
-/// The property and `yes`, or `no` and the round.
+/// The property, and `yes`, `yes in all rounds`, or `no` and the round.
 impl fmt::Display for Answered {
     ghost use Rattle.std.specs.Prelude.{Some};
     ghost use Rattle.part_answers.specs.Answers.{answered_text};
@@ -26,21 +38,39 @@ impl fmt::Display for Answered {
 
     fn fmt<W: fmt::Write>(&self, f: &mut fmt::Formatter<W>) -> fmt::Result {
         let name = self.property.as_str();
-        match self.failed {
-            None => write!(f, "{name} yes"),
-            Some(round) => write!(f, "{name} no in round {round}"),
+        match self.outcome {
+            Outcome::Holds => write!(f, "{name} yes"),
+            Outcome::HoldsInAllRounds => write!(f, "{name} yes in all rounds"),
+            Outcome::Fails(round) => write!(f, "{name} no in round {round}"),
         }
     }
 }
 
 /// The round of a `no`, from what follows the property.
-fn read_failure(outcome: &str) -> Option<u32>
+fn read_failure(words: &str) -> Option<u32>
     ensures some { IfSome result
-        (λ round. (outcome.now ≡ codes "no in round " ++ decimal round) × IsRound round) }
+        (λ round. (words.now ≡ codes "no in round " ++ decimal round) × IsRound round) }
     ensures none { IfNone result
-        ((r : ℕ) → IsRound r → outcome.now ≢ codes "no in round " ++ decimal r) }
+        ((r : ℕ) → IsRound r → words.now ≢ codes "no in round " ++ decimal r) }
 {
-    read_round(after_words(outcome, "no in round ")?)
+    read_round(after_words(words, "no in round ")?)
+}
+
+/// What the words behind the property and a space answer of it.
+fn read_outcome(words: &str) -> Option<Outcome>
+    ensures some { IfSome result
+        (λ outcome. (words.now ≡ outcome_words outcome) × IsOutcome outcome) }
+    ensures none { IfNone result
+        ((o : OutcomeValue) → IsOutcome o → words.now ≢ outcome_words o) }
+{
+    if words == "yes" {
+        return Some(Outcome::Holds);
+    }
+    if words == "yes in all rounds" {
+        return Some(Outcome::HoldsInAllRounds);
+    }
+    let round = read_failure(words)?;
+    Some(Outcome::Fails(round))
 }
 
 /// What a line without its end answers.
@@ -50,17 +80,8 @@ pub(crate) fn read_answered(line: &str) -> Option<Answered>
     ensures none { IfNone result
         ((a : AnsweredValue) → IsAnswered a → line.now ≢ answered_text a) }
 {
-    let (name, outcome) = cut_at(line, ' ')?;
+    let (name, words) = cut_at(line, ' ')?;
     let property = Property::named(name)?;
-    if outcome == "yes" {
-        return Some(Answered {
-            property,
-            failed: None,
-        });
-    }
-    let round = read_failure(outcome)?;
-    Some(Answered {
-        property,
-        failed: Some(round),
-    })
+    let outcome = read_outcome(words)?;
+    Some(Answered { property, outcome })
 }

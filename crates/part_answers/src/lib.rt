@@ -12,10 +12,10 @@ mod reading;
 mod whole;
 mod writing;
 
-pub use answered::Answered;
+pub use answered::{Answered, Outcome};
 pub use joining::{PartsFault, together};
 pub use part::{MAX_COUNT, Part, PartAnswers, PartHead};
 pub use property::Property;
 pub use question::Question;
 pub use reading::{PartFault, read_part};
-pub use writing::{whole_text, write_answers, write_head};
+pub use writing::{write_answers, write_head};

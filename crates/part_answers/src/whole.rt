@@ -1,10 +1,10 @@
 //! The whole answer.
-ghost use Rattle.std.specs.Prelude.{◌≡◌, All, IfOk};
+ghost use Rattle.std.specs.Prelude.{◌≡◌, ◌↔◌, All, IfOk, IsTrue};
 ghost use Rattle.part_answers.specs.Tables.{IsNo, earlier};
-ghost use Rattle.part_answers.specs.Wholes.{FailsIn, IsAnswerOf, IsFailureIn, IsLeast};
-ghost use Rattle.part_answers.specs.Wholes.{properties_of};
+ghost use Rattle.part_answers.specs.Wholes.{FailsIn, HoldsInAllRounds, IsAnswerOf, IsFailureIn};
+ghost use Rattle.part_answers.specs.Wholes.{IsLeast, IsOutcomeOf, properties_of};
 
-use crate::answered::Answered;
+use crate::answered::{Answered, Outcome};
 use crate::part::PartAnswers;
 use crate::property::Property;
 use std::alloc::{AllocError, Global};
@@ -22,10 +22,38 @@ pub fn whole_of(
     let mut whole = Vec::with_capacity(alloc, answers.len())?;
     for answered in answers {
         let property = answered.property;
-        let failed = least_failure(property, parts);
-        whole.push(Answered { property, failed })?;
+        let outcome = outcome_of(property, parts);
+        whole.push(Answered { property, outcome })?;
     }
     Ok(whole)
+}
+
+/// What all parts together answer of a property.
+fn outcome_of(property: Property, parts: &[PartAnswers]) -> Outcome
+    ensures { IsOutcomeOf parts.now property result }
+{
+    match least_failure(property, parts) {
+        Some(round) => Outcome::Fails(round),
+        None if hold_in_all_rounds(property, parts) => Outcome::HoldsInAllRounds,
+        None => Outcome::Holds,
+    }
+}
+
+/// Whether each part answers that the property holds in any number of rounds.
+fn hold_in_all_rounds(property: Property, parts: &[PartAnswers]) -> bool
+    ensures { IsTrue result ↔ All (HoldsInAllRounds property) parts.now }
+{
+    parts.iter().all(|part| holds_in_all_rounds(property, part))
+}
+
+/// Whether a part answers that the property holds in any number of rounds.
+fn holds_in_all_rounds(property: Property, part: &PartAnswers) -> bool
+    ensures { IsTrue result ↔ HoldsInAllRounds property part.now }
+{
+    part.answers.contains(&Answered {
+        property,
+        outcome: Outcome::HoldsInAllRounds,
+    })
 }
 
 /// The least round in which some part answers that the property fails.
@@ -54,10 +82,9 @@ fn failure_of(property: Property, answers: &[Answered]) -> Option<u32>
 fn failure_in(property: Property, answered: Answered) -> Option<u32>
     ensures { IsLeast (IsNo property answered) result }
 {
-    if answered.property == property {
-        answered.failed
-    } else {
-        None
+    match answered.outcome {
+        Outcome::Fails(round) if answered.property == property => Some(round),
+        _ => None,
     }
 }
 

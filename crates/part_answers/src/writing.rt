@@ -1,13 +1,11 @@
 //! Writing what is answered.
-ghost use Rattle.std.specs.Prelude.{◌≡◌, ◌++◌, IfOk, OnOk};
+ghost use Rattle.std.specs.Prelude.{OnOk};
 ghost use Rattle.std.specs.Io.KnownBytes.{Appends};
-ghost use Rattle.std.specs.String.{string_bytes};
 ghost use Rattle.part_answers.specs.Answers.{answered_line, answers_text};
 ghost use Rattle.part_answers.specs.Heads.{head_line};
 
 use crate::answered::Answered;
 use crate::part::PartHead;
-use std::alloc::{AllocError, Global};
 use std::io;
 use std::io::Write;
 
@@ -35,22 +33,4 @@ fn write_answered<W: Write>(answered: &Answered, out: &mut W) -> io::Result<()>
         (Appends (W.contents out.old) (W.contents out.new) (answered_line answered.now)) }
 {
     writeln!(out, "{answered}")
-}
-
-/// The lines of all answers.
-pub fn whole_text(alloc: Global, answers: &[Answered]) -> Result<String, AllocError>
-    ensures { IfOk result (λ text. string_bytes text ≡ answers_text answers.now) }
-{
-    let mut text = String::new(alloc);
-    for answered in answers {
-        push_line(answered, &mut text)?;
-    }
-    Ok(text)
-}
-
-fn push_line(answered: &Answered, text: &mut String) -> Result<(), AllocError>
-    ensures { OnOk result
-        (string_bytes text.new ≡ string_bytes text.old ++ answered_line answered.now) }
-{
-    writeln!(text, "{answered}")
 }

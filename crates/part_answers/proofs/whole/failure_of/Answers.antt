@@ -1,7 +1,8 @@
-use Rattle.std.proofs.Common.{None, get_or}
+use Rattle.std.proofs.Common.{get_or}
 use Rattle.std.proofs.lemmas.List.{get_or_default}
 use Rattle.part_answers.specs.Tables.{IsNo}
 use Rattle.part_answers.specs.declared.answered.Answered.{Answered}
+use Rattle.part_answers.specs.declared.answered.Outcome.TheVariants.{Holds}
 use Rattle.part_answers.specs.declared.property.Property.TheVariants.{Agreement}
 use Rattle.part_answers.proofs.LeastLemmas.{least_no, least_of_all, least_of_more, least_of_none}
 use Rattle.part_answers.proofs.whole.failure_of.Goals as goal
@@ -13,7 +14,7 @@ pub loop-answered-preserved : goal.loop-answered-preserved
 loop-answered-preserved c =
     let answers = c.args.answers.now in
     let i = c.loop-answered.answered-index in
-    let d : Answered = record { property = Agreement; failed = None } in
+    let d : Answered = record { property = Agreement; outcome = Holds } in
     let a = get_or answers i d in
     rw c.earlier-least.ensures
     (least_of_more (IsNo c.args.property) answers i a c.loop-answered.least c.failure_in.result

@@ -1,8 +1,17 @@
-use Rattle.exploration_texts.proofs.EachTold.{holds_if_safe}
+use Rattle.std.proofs.Common.{◌∙◌, subst, sym}
+use Rattle.exploration_texts.specs.Told.{IsKnown}
+use Rattle.exploration_texts.proofs.EachTold.{all_if_safe, none_if_safe}
 use Rattle.exploration_texts.proofs.answering.Search.answer.Goals as goal
 
-pub returns-in-Agreement : goal.returns-in-Agreement
-returns-in-Agreement g c =
+pub returns-in-NoFailure : goal.returns-in-NoFailure
+returns-in-NoFailure g c =
     rw c.no_failure.ensures
-    (holds_if_safe c.args.self.now c.args.property c.in-Agreement.is
-    (c.requires.safe c.if-safe.true))
+    (none_if_safe c.args.self.now c.args.property
+    (sym c.is_of_safety.ensures ∙ c.if-is_of_safety.true)
+    (subst (IsKnown c.args.self.now) c.in-NoFailure.is c.requires.known))
+
+pub returns-in-HoldInAllRounds : goal.returns-in-HoldInAllRounds
+returns-in-HoldInAllRounds g c =
+    all_if_safe c.args.self.now c.args.property
+    (sym c.if-is_of_safety-2.ensures)
+    (subst (IsKnown c.args.self.now) c.in-HoldInAllRounds.is c.requires.known)
