@@ -43,6 +43,11 @@ class Turns:
             self.decisions.append(0 if decision is None else 1 << decision)
         return self.numbers[key]
 
+    def parts(self, states, read):
+        """Returns what the states have of these variables."""
+        return tuple(exploring.frozen({it: self.states[state][it] for it in read})
+                     for state in states)
+
     def begins(self, inputs):
         """Returns the states of all nodes with these inputs before round 1."""
         algorithm = self.algorithm
@@ -136,17 +141,17 @@ def broken(turns, setup, pattern, number, runs):
 
 
 class Growth:
-    """What runs have come to that matters to a property, and whether a round added nothing to it."""
+    """What runs have come to that matters to a property, and whether a round added nothing."""
 
-    def __init__(self, name, start, period):
-        self.name, self.start, self.period = name, start, period
+    def __init__(self, name, read, start, period):
+        self.name, self.read, self.start, self.period = name, read, start, period
         self.seen, self.is_over = {}, False
 
-    def add(self, number, runs):
+    def add(self, number, runs, turns):
         """Adds what the runs come to after a round."""
         if self.is_over or number < self.start:
             return
-        now = {exploring.seen_of(self.name, it) for it in runs}
+        now = {exploring.seen_of(self.name, turns.parts(it.states, self.read), it) for it in runs}
         before = self.seen.setdefault(number % self.period, set())
         self.is_over = number > self.start and now <= before
         before |= now
@@ -167,7 +172,7 @@ def first_failures(turns, setup, asked, pattern, inputs, growths):
         for name in broken(turns, setup, pattern, number, runs):
             first.setdefault(name, number)
         for growth in growths:
-            growth.add(number, runs)
+            growth.add(number, runs, turns)
     return first
 
 
@@ -193,8 +198,9 @@ def answers(checked, setup, asked):
     safety = set(exploring.SAFETY)
     is_one_search = len(safety & set(asked.names)) > 1
     lasting = exploring.can_last(asked.question, asked.formula)
-    stationary = exploring.is_stationary(checked)
     lasting &= {*asked.names, "safety"} if is_one_search else set(asked.names)
+    read = {it: exploring.names_read(checked, it, asked.formula) for it in lasting}
+    lasting = {it for it in lasting if exploring.is_stationary(checked, read[it])}
     start = exploring.first_alike(asked.question)
     every = itertools.product(range(checked.values), repeat=setup.nodes)
     if asked.part:
@@ -202,7 +208,7 @@ def answers(checked, setup, asked):
         every = itertools.islice(every, number - 1, None, count)
     for inputs in every if asked.is_any else [setup.inputs]:
         for pattern in exploring.patterns(setup, asked.question):
-            growths = [Growth(it, start, checked.period) for it in lasting if stationary]
+            growths = [Growth(it, read[it], start, checked.period) for it in lasting]
             failures = first_failures(turns, setup, asked, pattern, inputs, growths)
             for name, number in failures.items():
                 first[name] = min(number, first.get(name, number))

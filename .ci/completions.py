@@ -1,8 +1,9 @@
 """Writes the completions of bash, zsh and fish, from what the program says of itself.
 
 What a value completes with is said by its name: `kinds` gives each name that is known its words,
-among which `files` and `commands` stand for those. A value of any other name, which has no choices
-of its own, completes with nothing.
+among which `files` and `commands` stand for those. Where a command has words of its own for a name,
+`kinds` has them under both. A value of any other name, which has no choices of its own, completes
+with nothing.
 """
 import dataclasses
 
@@ -22,6 +23,15 @@ def words_of(kind, choices, kinds):
     """Returns what a value of a name completes with, apart from files, and whether with files."""
     words = choices or kinds.get(kind, [])
     return [it for it in words if it not in ("files", "commands")], "files" in words
+
+
+def own_kinds(command, kinds):
+    """Returns the words of each name, as a command has them."""
+    if not command.path:
+        return kinds
+    own = {name.removeprefix(f"{command.name} "): words for name, words in kinds.items()
+           if name.startswith(f"{command.name} ")}
+    return {**kinds, **own}
 
 
 def takes_commands(argument, kinds):
@@ -146,7 +156,7 @@ def bash_cases(name, rows):
 
 def bash_deed(value, program, command, kinds):
     """Returns what sets a value's choices."""
-    words, has_files = words_of(value.value, value.choices, kinds)
+    words, has_files = words_of(value.value, value.choices, own_kinds(command, kinds))
     if takes_commands(value, kinds):
         words = [*words, *(it.name for it in siblings(program, command) if it is not command)]
     deeds = [f"choices={quoted(' '.join(words))}"] if words else []
@@ -221,6 +231,7 @@ def zsh_option(option, kinds):
 
 
 def zsh_arguments(program, command, kinds):
+    kinds = own_kinds(command, kinds)
     specs = [it for option in command.options for it in zsh_option(option, kinds)]
     for at, argument in enumerate(command.arguments):
         place = "*" if argument.is_many and not takes_commands(argument, kinds) else str(at + 1)
@@ -310,7 +321,7 @@ def fish_quoted(text):
 
 def fish_value(value, program, command, kinds):
     """Returns the words of `complete` that say what a value completes with."""
-    words, has_files = words_of(value.value, value.choices, kinds)
+    words, has_files = words_of(value.value, value.choices, own_kinds(command, kinds))
     if takes_commands(value, kinds):
         words = [*words, *(it.name for it in siblings(program, command) if it is not command)]
     found = ["-F"] if has_files else ["-x"]

@@ -72,9 +72,32 @@ def says_round(tree):
     return tree.form in ("round", "phase") or any(map(says_round, tree.parts))
 
 
-def is_stationary(checked):
-    """Returns whether no expression of a program's blocks says which round it is."""
-    return not any(says_round(it) for it, *_ in checked.places())
+def names_in(tree):
+    """Yields the names that an expression says."""
+    yield tree.name
+    for part in tree.parts:
+        yield from names_in(part)
+
+
+def names_read(checked, name, formula):
+    """Returns the variables on which decisions, messages or the formula of a property depend."""
+    read = set(checked.decided) | set(names_in(formula) if name == "always" and formula else ())
+    for block in checked.blocks:
+        for tree in (block.when, *block.sent):
+            read |= set(names_in(tree))
+    while True:
+        more = {it for block in checked.blocks for target, tree in block.message + block.end
+                if target in read for it in names_in(tree)}
+        if more <= read:
+            return read & set(checked.types)
+        read |= more
+
+
+def is_stationary(checked, read):
+    """Returns whether no expression that matters to these variables says which round it is."""
+    said = (it for block in checked.blocks for it in (block.when, *block.sent, *(
+        tree for target, tree in block.message + block.end if target in read)))
+    return not any(map(says_round, said))
 
 
 def can_last(question, formula):
@@ -89,15 +112,18 @@ def first_alike(question):
     return 1 if question.clear is None else max(1, question.clear - 1)
 
 
-def seen_of(name, run):
-    """Returns what matters to a property of a run: its states, and what of the rest does."""
-    return run[0], *(run[it] for it in SEEN[name])
+def seen_of(name, states, run):
+    """Returns what matters to a property of a run: these states, and what of the rest does."""
+    return states, *(run[it] for it in SEEN[name])
 
 
-def lasts(name, levels, first, period):
+def lasts(name, read, levels, first, period):
     """Returns whether a round adds nothing to what runs came to after earlier ones of its place,
     from the first on; the levels are those before round 1 and after each round."""
-    seen = [{seen_of(name, it) for it in level} for level in levels]
+    def part(run):
+        return tuple(tuple(it for it in state if it[0] in read) for state in run[0])
+
+    seen = [{seen_of(name, part(it), it) for it in level} for level in levels]
     for number in range(first + 1, len(seen)):
         before = (seen[it] for it in range(first, number) if (number - it) % period == 0)
         if seen[number] <= set().union(*before):
@@ -221,7 +247,8 @@ def explore(checked, setup, question, names, is_any, by=by_levels, formula=None,
     every = itertools.islice(every, part[0] - 1, None, part[1])
     first, start = {}, first_alike(question)
     lasting = can_last(question, formula) & set(names)
-    stationary = is_stationary(checked)
+    read = {it: names_read(checked, it, formula) for it in lasting}
+    lasting = {it for it in lasting if is_stationary(checked, read[it])}
     for inputs in every if is_any else [setup.inputs]:
         algorithm = reading.Algorithm(checked, setup._replace(inputs=list(inputs)))
         for pattern in patterns(setup, question):
@@ -230,7 +257,7 @@ def explore(checked, setup, question, names, is_any, by=by_levels, formula=None,
                 if name not in first or number < first[name][0]:
                     first[name] = number, inputs, pattern
             lasting = {it for it in lasting
-                       if stationary and lasts(it, levels, start, checked.period)}
+                       if lasts(it, read[it], levels, start, checked.period)}
     return {**dict.fromkeys(lasting, ALL), **first}
 
 

@@ -30,10 +30,10 @@ class Argument:
 
 @dataclasses.dataclass
 class Option:
-    """An option with its names, the short one first; `value` is '' if it takes none."""
+    """An option with its names, the short one first, and the names of its values."""
 
     names: list
-    value: str
+    values: list
     help: str
     choices: list
     is_required: bool
@@ -41,6 +41,11 @@ class Option:
     @property
     def long(self):
         return self.names[-1]
+
+    @property
+    def value(self):
+        """The name of the first value, or '' if it takes none."""
+        return self.values[0] if self.values else ""
 
 
 @dataclasses.dataclass
@@ -106,12 +111,12 @@ def argument_of(term, told, usage):
 
 def option_of(term, told, usage):
     found = VALUE.search(term)
-    value = found["value"] if found else ""
+    values = [found["value"], *re.findall(r"<([^<>]+)>", term[found.end():])] if found else []
     names = re.findall(r"(?<!\S)--?\w[\w-]*", term)
-    choices, told = choices_of(value, told)
+    choices, told = choices_of(values[0] if values else "", told)
     # (a required option stands in the usage by itself, another in the place of [OPTIONS])
     is_required = any(re.search(rf"(?<![\[\w-]){re.escape(it)}(?![\w-])", usage) for it in names)
-    return Option(names, value, told, choices, is_required)
+    return Option(names, values, told, choices, is_required)
 
 
 class Program:
@@ -141,5 +146,16 @@ class Program:
             else self.command([*path, name])
             for name, told in entries(lists.pop("Commands", []))
         ]
+        if not path and "why" not in [it.name for it in commands]:
+            commands += self.why()
         options = [option_of(*it, usage) for them in lists.values() for it in entries(them)]
         return Command(path, about, arguments, options, commands)
+
+    def why(self):
+        """Returns the command that takes the words of any other and that `help` doesn't list, if
+        the program has it."""
+        try:
+            about = self.said(["why", "--help"]).splitlines()[0]
+        except BadHelp:
+            return []
+        return [Command(["why"], about, [Argument("COMMAND", "", [], True, True)], [], [])]

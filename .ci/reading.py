@@ -597,11 +597,26 @@ def library_program(source, setup):
     return Checked(Parser(LIBRARY[name].replace("K", digits, 1).encode()).program())
 
 
+def made_header(name):
+    """Returns the text of a header whose name is `@`, its nodes, faults and rounds; else None."""
+    numbers = re.fullmatch("@([0-9]+):([0-9]+):([0-9]+)", name)
+    if not numbers or any(int(it) > LARGEST for it in numbers.groups()):
+        return None
+    nodes, faults, rounds = map(int, numbers.groups())
+    inputs = " 0" * max(1, min(nodes, NODES + 1))  # (too many nodes have enough inputs)
+    lines = f"nodes {nodes}", f"faults {faults}", f"inputs{inputs}", f"rounds {rounds}"
+    return "".join(f"{it}\n" for it in (*lines, "plan known 1")).encode()
+
+
 def opened(options, files):
     """Returns what the text says that a command reads beside its source: the setup, and what
     follows the header."""
-    name, read = next((options[it], READERS[it]) for it in READERS if it in options)
-    setup, behind = read(text_of(files.get(name), SCHEDULE_LIMIT, "schedule 3"))
+    kind = next(it for it in READERS if it in options)
+    name, read = options[kind], READERS[kind]
+    text = files.get(name)
+    if text is None and kind == "header":
+        text = made_header(name)
+    setup, behind = read(text_of(text, SCHEDULE_LIMIT, "schedule 3"))
     if "omissions" in options:
         is_read = options["omissions"] == name == "-"  # (standard input is read to its end)
         text = b"" if is_read else files.get(options["omissions"])

@@ -3,12 +3,13 @@
 # What a value completes with: that of an option, or of the argument at a place.
 _roundc_choices() {
     case $1 in
-        ' 1') choices='check show run draw threads judge lockstep realise rounds explore together help' ;;
+        ' 1') choices='check show run draw threads judge lockstep realise rounds explore together help why' ;;
         'check --format' | \
-        'run --format' | \
         'judge --format' | \
-        'rounds --format' | \
-        'explore --format') choices='text json table summary' ;;
+        'explore --format' | \
+        'why check --format' | \
+        'why judge --format' | \
+        'why explore --format') choices='text json' ;;
         'check 1' | \
         'show 1' | \
         'run 1' | \
@@ -18,7 +19,17 @@ _roundc_choices() {
         'lockstep 1' | \
         'realise 1' | \
         'rounds 1' | \
-        'explore 1') choices='@gather: @count_votes: @dls1:' files=yes ;;
+        'explore 1' | \
+        'why check 1' | \
+        'why show 1' | \
+        'why run 1' | \
+        'why draw 1' | \
+        'why threads 1' | \
+        'why judge 1' | \
+        'why lockstep 1' | \
+        'why realise 1' | \
+        'why rounds 1' | \
+        'why explore 1') choices='@gather: @count_votes: @dls1:' files=yes ;;
         'run --schedule' | \
         'draw --schedule' | \
         'threads --setup' | \
@@ -32,12 +43,37 @@ _roundc_choices() {
         'rounds --omissions' | \
         'explore --header' | \
         'explore --trace' | \
-        'together 1') files=yes ;;
+        'together 1' | \
+        'why run --schedule' | \
+        'why draw --schedule' | \
+        'why threads --setup' | \
+        'why threads --trace' | \
+        'why judge --schedule' | \
+        'why lockstep --header' | \
+        'why lockstep --omissions' | \
+        'why realise --header' | \
+        'why realise --omissions' | \
+        'why rounds --header' | \
+        'why rounds --omissions' | \
+        'why explore --header' | \
+        'why explore --trace' | \
+        'why together 1') files=yes ;;
+        'run --format' | \
+        'rounds --format' | \
+        'why run --format' | \
+        'why rounds --format') choices='text json table summary' ;;
         'run --by' | \
-        'rounds --by') choices='round node' ;;
-        'explore --inputs') choices='header any' ;;
-        'explore --faults') choices='none omission crash' ;;
-        'help 1') choices='check show run draw threads judge lockstep realise rounds explore together' ;;
+        'rounds --by' | \
+        'why run --by' | \
+        'why rounds --by') choices='round node' ;;
+        'explore --inputs' | \
+        'why explore --inputs') choices='header any' ;;
+        'explore --faults' | \
+        'why explore --faults') choices='none omission crash' ;;
+        'explore --check' | \
+        'why explore --check') choices='agreement validity final termination' ;;
+        'help 1') choices='check show run draw threads judge lockstep realise rounds explore together why' ;;
+        'why 1') choices='check show run draw threads judge lockstep realise rounds explore together' ;;
         *) return 1 ;;
     esac
 }
@@ -46,17 +82,29 @@ _roundc_options() {
     case $1 in
         '' | \
         'show' | \
-        'together') options='-h --help -V --version' ;;
-        'check') options='--format -h --help -V --version' ;;
-        'run') options='--schedule --decided --format --by --vars --changed -h --help -V --version' ;;
-        'draw') options='--schedule --rounds --nodes --html -h --help -V --version' ;;
-        'threads') options='--setup --trace --decided -h --help -V --version' ;;
-        'judge') options='--schedule --correct --delta --gst --format -h --help -V --version' ;;
-        'lockstep') options='--header --correct --delta --gst --delays --orders --ticks --stop --omissions --delay -h --help -V --version' ;;
-        'realise') options='--header --omissions -h --help -V --version' ;;
-        'rounds') options='--header --omissions --decided --format --by --vars --changed -h --help -V --version' ;;
-        'explore') options='--header --inputs --faults --clear --hears --part --jobs --sample --seed --check --always --trace --format -h --help -V --version' ;;
-        'help') options='' ;;
+        'together' | \
+        'why show' | \
+        'why together') options='-h --help -V --version' ;;
+        'check' | \
+        'why check') options='--format -h --help -V --version' ;;
+        'run' | \
+        'why run') options='--schedule --decided --format --by --vars --changed -h --help -V --version' ;;
+        'draw' | \
+        'why draw') options='--schedule --rounds --nodes --html -h --help -V --version' ;;
+        'threads' | \
+        'why threads') options='--setup --trace --decided -h --help -V --version' ;;
+        'judge' | \
+        'why judge') options='--schedule --correct --delta --gst --format -h --help -V --version' ;;
+        'lockstep' | \
+        'why lockstep') options='--header --correct --delta --gst --delays --orders --ticks --stop --omissions --delay -h --help -V --version' ;;
+        'realise' | \
+        'why realise') options='--header --omissions -h --help -V --version' ;;
+        'rounds' | \
+        'why rounds') options='--header --omissions --decided --format --by --vars --changed -h --help -V --version' ;;
+        'explore' | \
+        'why explore') options='--header --inputs --faults --clear --hears --part --jobs --sample --seed --check --always --trace --format -h --help -V --version' ;;
+        'help' | \
+        'why') options='' ;;
         *) return 1 ;;
     esac
 }
@@ -107,7 +155,52 @@ _roundc_takes_value() {
         'explore --check' | \
         'explore --always' | \
         'explore --trace' | \
-        'explore --format') return 0 ;;
+        'explore --format' | \
+        'why check --format' | \
+        'why run --schedule' | \
+        'why run --format' | \
+        'why run --by' | \
+        'why run --vars' | \
+        'why draw --schedule' | \
+        'why draw --rounds' | \
+        'why draw --nodes' | \
+        'why threads --setup' | \
+        'why threads --trace' | \
+        'why judge --schedule' | \
+        'why judge --correct' | \
+        'why judge --delta' | \
+        'why judge --gst' | \
+        'why judge --format' | \
+        'why lockstep --header' | \
+        'why lockstep --correct' | \
+        'why lockstep --delta' | \
+        'why lockstep --gst' | \
+        'why lockstep --delays' | \
+        'why lockstep --orders' | \
+        'why lockstep --ticks' | \
+        'why lockstep --stop' | \
+        'why lockstep --omissions' | \
+        'why lockstep --delay' | \
+        'why realise --header' | \
+        'why realise --omissions' | \
+        'why rounds --header' | \
+        'why rounds --omissions' | \
+        'why rounds --format' | \
+        'why rounds --by' | \
+        'why rounds --vars' | \
+        'why explore --header' | \
+        'why explore --inputs' | \
+        'why explore --faults' | \
+        'why explore --clear' | \
+        'why explore --hears' | \
+        'why explore --part' | \
+        'why explore --jobs' | \
+        'why explore --sample' | \
+        'why explore --seed' | \
+        'why explore --check' | \
+        'why explore --always' | \
+        'why explore --trace' | \
+        'why explore --format') return 0 ;;
         *) return 1 ;;
     esac
 }
@@ -125,7 +218,19 @@ _roundc_is_command() {
         'rounds' | \
         'explore' | \
         'together' | \
-        'help') return 0 ;;
+        'help' | \
+        'why' | \
+        'why check' | \
+        'why show' | \
+        'why run' | \
+        'why draw' | \
+        'why threads' | \
+        'why judge' | \
+        'why lockstep' | \
+        'why realise' | \
+        'why rounds' | \
+        'why explore' | \
+        'why together') return 0 ;;
         *) return 1 ;;
     esac
 }

@@ -5,11 +5,13 @@ use crate::before_threads::refused_before_threads;
 use crate::columns::{has_unknown_column, tell_columns};
 use crate::condition::tell_condition;
 use crate::files::{CommandFiles, FileKind, TellingDesk, source_of};
+use crate::found_runs::tell_answers;
 use crate::held_desk::HeldDesk;
 use crate::library::LibrarySource;
 use crate::located::unwritten;
 use crate::options::tell_option;
 use crate::parts::tell_together;
+use crate::program::program_for;
 use crate::refusals::unless_refused;
 use crate::run_causes::{tell_correct_crash, tell_unknown};
 use crate::run_reasons::{RunQuestion, tell_run};
@@ -17,8 +19,9 @@ use crate::source::{tell_check, tell_source};
 use crate::trace_faults::tell_unwritable;
 use adversary::RunFault;
 use algorithm_library::LibraryFault;
-use command_runs::{Refusal, Terms, serve};
+use command_runs::{Refusal, Terms, Unwatched, serve};
 use command_words::{Source, Words};
+use exploration_texts::answer_all;
 use round_lang::parse;
 use std::alloc::Global;
 use std::io::Write;
@@ -53,7 +56,7 @@ impl<'w, 'a> AskedCommand<'w, 'a> {
                 Err(refusal) => self.tell_refusal(&refusal, out),
             };
         }
-        if self.tell_reasons(out)? {
+        if self.tell_reasons(out)? || self.tell_found(rt, desk, out)? {
             return Ok(());
         }
         let mut held = HeldDesk::new(self.alloc, self.files);
@@ -119,6 +122,54 @@ impl<'w, 'a> AskedCommand<'w, 'a> {
             _ => return Ok(false),
         };
         tell_run(self.alloc, source, self.files, question, out)
+    }
+
+    /// Tells what is found in all runs, and of a property that fails in which run it does, if that
+    /// is asked and the question isn't refused.
+    fn tell_found<R: Threads + Sync, D: TellingDesk, O: Write>(
+        &self,
+        rt: &R,
+        desk: &mut D,
+        out: &mut O,
+    ) -> Result<bool, Refusal>
+        ensures written { D.written desk.new ≡ D.written desk.old }
+    {
+        let Words::Explore {
+            source,
+            exploring,
+            ..
+        } = self.command
+        else {
+            return Ok(false);
+        };
+        let Some(header) = self.files.header(self.alloc)? else {
+            return Ok(false);
+        };
+        let setup = &header.setup;
+        let program = program_for(self.alloc, *source, self.files, setup.nodes, setup.faults);
+        let Some(program) = unless_refused(program)? else {
+            return Ok(false);
+        };
+        if !setup.is_lawful(&program) || exploring.hears > setup.nodes || exploring.part.is_some() {
+            return Ok(false);
+        }
+        let told = answer_all(rt, self.alloc, &program, setup, exploring, &Unwatched);
+        let Some(told) = unless_refused(told)? else {
+            return Ok(false);
+        };
+        let mut text = Vec::new(self.alloc);
+        let plan = header.plan;
+        match tell_answers(self.alloc, &program, setup, plan, &told, &mut text) {
+            Ok(true) => {}
+            Ok(false) => return Ok(false),
+            // What is written to memory fails only for want of it.
+            Err(_) => return Err(Refusal::NoMemory),
+        }
+        if tell_unwritable(self.command, self.files, desk, out)? {
+            return Ok(true);
+        }
+        out.write_all(text.as_slice()).map_err(unwritten)?;
+        Ok(true)
     }
 
     /// Tells why the command is refused, or the line of its refusal if no more is known.

@@ -23,7 +23,7 @@ pub(crate) fn tell_decided<O: Write>(
 }
 
 /// Writes the first two rows whose decisions differ.
-fn tell_split<O: Write>(rows: &[ReportRow], out: &mut O) -> Result<(), Refusal> {
+pub(crate) fn tell_split<O: Write>(rows: &[ReportRow], out: &mut O) -> Result<(), Refusal> {
     let Some(split) = first_split(rows) else {
         return Ok(());
     };
@@ -42,7 +42,11 @@ fn tell_split<O: Write>(rows: &[ReportRow], out: &mut O) -> Result<(), Refusal> 
 }
 
 /// Writes a line for each node that took a decision back.
-fn tell_taken_back<O: Write>(rows: &[ReportRow], nodes: u32, out: &mut O) -> Result<(), Refusal> {
+pub(crate) fn tell_taken_back<O: Write>(
+    rows: &[ReportRow],
+    nodes: u32,
+    out: &mut O,
+) -> Result<(), Refusal> {
     for node in 0..nodes {
         let Some(found) = first_taken_back(rows, node) else {
             continue;

@@ -9,6 +9,7 @@ mod condition;
 mod decision_lines;
 mod explain;
 mod files;
+mod found_runs;
 mod header;
 mod held_desk;
 mod help;

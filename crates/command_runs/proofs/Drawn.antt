@@ -10,7 +10,8 @@ use Rattle.adversary.specs.declared.fault.RunFault.TheVariants as run
 use Rattle.command_runs.proofs.Refusing.{bad_schedule, read_as}
 use Rattle.command_runs.proofs.Telling.{last_nodes, last_write, not_in_turn}
 use Rattle.command_runs.specs.Refused.{IsDrawable, IsMissing, IsNotDrawn, IsNotOffered}
-use Rattle.command_runs.specs.Refused.{IsOpened as IsSourceOpened, IsPlan, IsRefusedCommand}
+use Rattle.command_runs.specs.Refused.{IsOpened as IsSourceOpened, IsRefusedCommand}
+use Rattle.command_runs.specs.Within.{IsPlan}
 use Rattle.command_runs.specs.Refused.{IsUndrawn, of_read}
 use Rattle.command_runs.specs.Served.{DrawsRun, IsProgramOf, IsShownOf, start_of}
 use Rattle.command_runs.specs.Stages.{IsDrawnAs, IsNotDrawnAs, StopsSchedule}
@@ -122,10 +123,21 @@ no_growing_picture p s d none is = none (is.setup.sized.some_node, is.setup.size
 pub draws_run : (source : Source) (files : Files) (p : ProgramTree) (s : Setup) (k : PlanKind)
     (r : Reading) (d : Drawing) (file : Option (List ℕ))
     → IsProgramOf source files s.nodes s.faults p → IfSome file (λ held. IsOpened held s k r)
-    → IsDrawnAs (start_of k s.nodes) p s r d → DrawsRun source files file d
-draws_run source files p s k r d None is begun said = tt
-draws_run source files p s k r d (Some held) is begun said =
-    (s, k, said.0, p, said.1, read_as (Some held) s k r said.0 begun said.2, is, said.3, said.4)
+    → IsPlan k → IsDrawnAs (start_of k s.nodes) p s r d → DrawsRun source files file d
+draws_run source files p s k r d None is begun plan said = tt
+draws_run source files p s k r d (Some held) is begun plan said = (
+  s,
+  k,
+  said.0,
+  p,
+  said.1,
+  read_as (Some held) s k r said.0 begun said.2,
+  is,
+  said.3,
+  plan,
+  said.4,
+  said.5,
+)
 
 -- under a plan that is told in another way
 pub drawn_as : (start starts : ℕ → ℕ) (p : ProgramTree) (s : Setup) (r : Reading) (d : Drawing)

@@ -16,6 +16,7 @@ use Rattle.command_runs.specs.Refused.{IsRefusedCommand}
 use Rattle.command_runs.specs.Refused.{IsUnexplored}
 use Rattle.command_runs.specs.Served.{FindsIn, HasTrace, IsHeader, IsProgramOf, TellsOfAll}
 use Rattle.command_runs.specs.Served.{receives_of, start_of}
+use Rattle.command_runs.specs.Within.{IsExplored}
 use Rattle.command_runs.specs.Stages.{HoldsText, WritesText}
 use Rattle.command_runs.specs.Texts.{Files}
 use Rattle.command_runs.specs.declared.exploring.Explored.{Explored}
@@ -54,20 +55,20 @@ use Rattle.step_machine.specs.declared.event.Event.{Event}
 
 module _ (receives start : ℕ → ℕ) (s : Setup) (c : Counterexample) (nodes : ℕ) (stops : List ℕ)
     (sized : nodes ≡ s.nodes)
-    (stop : stops ≡ map (steps_of nodes start s.rounds c.failures.items)
+    (stop : stops ≡ map (steps_of nodes start c.round c.failures.items)
     (range_with_len 0 s.nodes)) where
   stops_so : (i : ℕ) → i < s.nodes
-      → slice_index stops i ≡ steps_of s.nodes start s.rounds c.failures.items i
+      → slice_index stops i ≡ steps_of s.nodes start c.round c.failures.items i
   stops_so i l =
       ap (λ xs. slice_index xs i) stop
-      ∙ get_or-map-range_with_len (steps_of nodes start s.rounds c.failures.items) 0 s.nodes i i 0 l
-      (omega arith) ∙ ap (λ n. steps_of n start s.rounds c.failures.items i) sized
+      ∙ get_or-map-range_with_len (steps_of nodes start c.round c.failures.items) 0 s.nodes i i 0 l
+      (omega arith) ∙ ap (λ n. steps_of n start c.round c.failures.items i) sized
 
   pub shown_so : schedule_with_stops s.nodes receives start (slice_index stops)
-      (is_omitted c.omissions) s.rounds ≡ shown_by receives start s c
+      (is_omitted c.omissions) c.round ≡ shown_by receives start s c
   shown_so =
-      schedule_same s.nodes s.rounds start (slice_index stops)
-      (steps_of s.nodes start s.rounds c.failures.items) (is_omitted c.omissions)
+      schedule_same s.nodes c.round start (slice_index stops)
+      (steps_of s.nodes start c.round c.failures.items) (is_omitted c.omissions)
       (is_omitted c.omissions) stops_so (λ i r j a b low high. refl) receives
 
 drops : (line : List ℕ) (ls : List (List ℕ)) → counts line ≡ false
@@ -117,11 +118,11 @@ module _ (source : Source) (files : Files) (p : ProgramTree) (s : Setup) (k : Pl
     (e : Exploring) (x : Explored) where
   -- what is found under a header that was read is found in its file
   pub finds_in : (file : Option (List ℕ)) → IsProgramOf source files s.nodes s.faults p
-      → IfSome file (λ text. IsHeader text s k)
+      → IfSome file (λ text. IsHeader text s k) → IsExplored p s k e
       → IsFound (receives_of k) (start_of k s.nodes) p s k e x.found
       → IsHeadOf source files s e x.head → FindsIn source files file e x
-  finds_in None is read h head = tt
-  finds_in (Some text) is read h head = (s, k, p, read, is, h, head)
+  finds_in None is read within h head = tt
+  finds_in (Some text) is read within h head = (s, k, p, read, is, within, h, head)
 
 -- a trace that was written is in its file
 has_trace : (s : Setup) (k : PlanKind) (name : Option (Bor (List ℕ))) (after : Files)
@@ -143,12 +144,13 @@ module _ (source : Source) (files : Files) (e : Exploring) (x : Explored) where
       → HoldsText after e.trace (trace_of x.found) → FindsIn source files file e x
       → TellsOfAll source files after file e x.head x.found.told.items
   tells_of_all None after holds h = tt
-  tells_of_all (Some text) after holds (s, k, p, read, is, h, head) = (
+  tells_of_all (Some text) after holds (s, k, p, read, is, within, h, head) = (
     s,
     k,
     p,
     read,
     is,
+    within,
     h.answers,
     has_trace s k e.trace after x.found.told.items (trace_of x.found) holds h.trace,
     head,

@@ -11,7 +11,8 @@ use Rattle.adversary.specs.declared.fault.RunFault.TheVariants as run
 use Rattle.command_runs.specs.Refused.{Fault, HasNoText, IsBadText, IsMissing, IsNoProgram}
 use Rattle.command_runs.specs.Refused.{IsNoSource}
 use Rattle.command_runs.specs.Refused.{IsNotOffered, IsOpened as IsSourceOpened, IsUnanswered}
-use Rattle.command_runs.specs.Refused.{IsNotRun, IsPlan, IsRunnable, of_check, of_read, of_schedule}
+use Rattle.command_runs.specs.Refused.{IsNotRun, IsRunnable, of_check, of_read, of_schedule}
+use Rattle.command_runs.specs.Within.{IsPlan}
 use Rattle.command_runs.specs.Refused.{of_source, of_text}
 use Rattle.command_runs.specs.Served.{IsCheckedSource, IsOfKind, IsProgramOf, IsSchedule}
 use Rattle.command_runs.specs.Stages.{IsBadSchedule, IsNoProgramIn, IsNoProgramOf}

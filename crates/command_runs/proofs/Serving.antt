@@ -12,6 +12,7 @@ use Rattle.slot_plans.specs.declared.kind.PlanKind.{PlanKind}
 use Rattle.command_runs.specs.Library.{Offers}
 use Rattle.command_runs.specs.Served.{AnswersRun, HoldsProgram, IsCheckedSource, IsProgramOf}
 use Rattle.command_runs.specs.Served.{Opens, file_name, receives_of, start_of}
+use Rattle.command_runs.specs.Within.{IsPlan}
 use Rattle.command_runs.specs.Stages.{IsAnswered}
 use Rattle.command_runs.specs.Texts.{Files}
 use Rattle.command_runs.specs.declared.asking.Answer.{Answer}
@@ -38,22 +39,26 @@ program_of (source.Library name values) files (opened.File q) n t p opens holds 
 pub answers_run : (source : Source) (files : Files) (p : ProgramTree) (s : Setup) (k : PlanKind)
     (r : Reading) (q : Question) (file : Option (List ℕ)) (a : Answer)
     → IsProgramOf source files s.nodes s.faults p → IfSome file (λ held. IsOpened held s k r)
-    → IsAnswered (start_of k s.nodes) (receives_of k) p s r q a
+    → IsPlan k → IsAnswered (start_of k s.nodes) (receives_of k) p s r q a
     → AnswersRun source files file q a
 answers_run source files p s k r (question.Report told) None (answer.Report report shown) is begun
-    said = (said.2.0, tt)
+    plan said = (said.2.0, tt)
 answers_run source files p s k r (question.Report told) (Some held) (answer.Report report shown) is
-    begun said =
-    (said.2.0, (s, k, said.0, p, read_as (Some held) s k r said.0 begun said.1, is, said.2.1))
+    begun plan said = (
+      said.2.0,
+      (s, k, said.0, p, read_as (Some held) s k r said.0 begun said.1, is, plan, said.2.1, said.2.2),
+    )
 answers_run source files p s k r (question.Verdict t f) None (answer.Verdict v shown) is begun
-    said = (said.2.0, tt)
+    plan said = (said.2.0, tt)
 answers_run source files p s k r (question.Verdict t f) (Some held) (answer.Verdict v shown) is
-    begun said =
-    (said.2.0, (s, k, said.0, p, read_as (Some held) s k r said.0 begun said.1, is, said.2.1))
+    begun plan said = (
+      said.2.0,
+      (s, k, said.0, p, read_as (Some held) s k r said.0 begun said.1, is, plan, said.2.1, said.2.2),
+    )
 answers_run source files p s k r (question.Report told) file (answer.Verdict v shown) is begun
-    said = absurd said.2
+    plan said = absurd said.2
 answers_run source files p s k r (question.Verdict t f) file (answer.Report report shown) is begun
-    said = absurd said.2
+    plan said = absurd said.2
 
 -- what was written and then kept was written
 appends_kept : (a b c : Option (List ℕ)) (text : List ℕ) → Appends a b text → Keeps b c
@@ -89,6 +94,12 @@ answered_as start receives starts waits p s r q a same also h =
 pub said_as : {T E P Q : Type 0} (r : Result T E) → OnOk r P → (P → Q) → OnOk r Q
 said_as (Ok x) p f = f p
 said_as (Err e) p f = tt
+
+-- what follows from an answer and from what holds if there is one
+pub ok_then : {T E Q : Type 0} (r : Result T E) (P R : T → Type 0) → (Q → (x : T) → P x → R x)
+    → OnOk r Q → IfOk r P → IfOk r R
+ok_then (Ok x) P R f q h = f q x h
+ok_then (Err e) P R f q h = tt
 
 -- what is served, with how it ended
 pub ended_as : {T E P Q : Type 0} (r : Result T E) (done : T) → IfOk r (λ o. o ≡ done) → OnOk r P

@@ -163,7 +163,8 @@ unrealised_memory (source.Library name values) files header omissions = inr (inl
 pub untold_report : (source : Source) (files : Files) (file : Option (List ℕ)) (told shown : Form)
     (report : Report)
     → AnswersRun source files file (question.Report told) (answer.Report report shown)
-    → (r : Refusal) → IsUntoldReport shown r → IsRefusedAnswer source files file (question.Report told) r
+    → (r : Refusal) → IsUntoldReport shown r
+    → IsRefusedAnswer source files file (question.Report told) r
 untold_report source files file told shown report h refusal.Write is =
     (answer.Report report shown, h)
 untold_report source files file told shown report h refusal.NoMemory is =
@@ -185,7 +186,8 @@ untold source files file (question.Verdict t f) (answer.Report report shown) h r
 
 -- the report of a run in rounds that isn't written
 pub untold_rounds : (source : Source) (files : Files) (header omissions : Bor (List ℕ))
-    (form : Form) (report : Report) → ReportsRounds source files (files header.now) (files omissions.now) report
+    (form : Form) (report : Report)
+    → ReportsRounds source files (files header.now) (files omissions.now) report
     → (r : Refusal) → IsUntoldReport form r
     → IsRefusedCommand (words.Rounds source header omissions form) files r
 untold_rounds source files header omissions form report h refusal.Write is =

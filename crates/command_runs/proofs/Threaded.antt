@@ -4,6 +4,8 @@ use Rattle.std.specs.Prelude.{IfSome, IsTrue, string_bytes}
 use Rattle.command_runs.specs.ByThreads.{IsRunOf}
 use Rattle.command_runs.specs.InLockstep.{IsWritten}
 use Rattle.command_runs.specs.Served.{IsProgramOf, IsThreadSetup, ReportsThreads, start_of}
+use Rattle.command_runs.specs.Within.{IsPlan}
+use Rattle.node_threads.specs.Ends.{IsFitForThreads}
 use Rattle.command_runs.specs.Texts.{Files}
 use Rattle.command_runs.specs.declared.threads.ThreadRun.{ThreadRun}
 use Rattle.command_words.specs.declared.values.Source.{Source}
@@ -19,12 +21,13 @@ pub reports_threads : (source : Source) (files : Files) (p : ProgramTree) (t : T
     (run : ThreadRun) (file : Option (List ℕ))
     → IsProgramOf source files t.setup.nodes t.setup.faults p
     → IfSome file (λ text. IsThreadSetup text t.setup t.plan t.pace t.stops.items)
+    → IsPlan t.plan → IsFitForThreads p.values t.setup t.stops.items
     → IsRunOf (start_of t.plan t.setup.nodes) p t run
     → IsTrue run.whole → ReportsThreads source files file (Some (string_bytes run.trace)) run.report
-reports_threads source files p t run None is read said whole = tt
-reports_threads source files p t run (Some text) is read said whole =
-    let made =
-    said whole in (t.setup, t.plan, t.pace, t.stops.items, made.0, p, read, is, made.1, made.2)
+reports_threads source files p t run None is read plan fit said whole = tt
+reports_threads source files p t run (Some text) is read plan fit said whole =
+    let made = said whole in
+    (t.setup, t.plan, t.pace, t.stops.items, made.0, p, read, is, plan, fit, made.1, made.2)
 
 -- a trace that was written is in its file
 traced : (s : Setup) (k : PlanKind) (events : List Event) (made : List ℕ) (after : Option (List ℕ))
@@ -39,5 +42,17 @@ pub reports_traced : (source : Source) (files : Files) (file after : Option (Lis
     → ReportsThreads source files file after report
 reports_traced source files None after made report is same = tt
 reports_traced source files (Some text) after made report
-    (s, k, pace, stops, events, p, read, of, ran, written) same =
-    (s, k, pace, stops, events, p, read, of, ran, traced s k events made after written same)
+    (s, k, pace, stops, events, p, read, of, plan, fit, ran, written) same = (
+      s,
+      k,
+      pace,
+      stops,
+      events,
+      p,
+      read,
+      of,
+      plan,
+      fit,
+      ran,
+      traced s k events made after written same,
+    )

@@ -1,6 +1,7 @@
 -- From what is read of files with the answers of parts to what they make together.
 use Rattle.std.proofs.Common.{◌≡◌, ◌≢◌, ◌∙◌, ◌+◌, ◌<◌, ◌≤◌, ◌++◌, ◌∷◌, [], ℕ, List, None, Option}
-use Rattle.std.proofs.Common.{Some, arith, get_or, inl, inr, length, refl, subst, suc, sym, take, zero}
+use Rattle.std.proofs.Common.{Some, arith, inl, inr, length, refl, subst, suc, sym, take}
+use Rattle.std.proofs.Common.{zero}
 use Rattle.std.specs.Borrow.{Bor}
 use Rattle.std.specs.Global.{Vec}
 use Rattle.std.specs.List.{AllZip}

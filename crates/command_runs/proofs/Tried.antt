@@ -108,7 +108,16 @@ module _ (source : Source) (files : Files) (file : Option (List ℕ)) where
       → StartsThreads source files file
   ready_starts p t ready = (
     ready.opened,
-    (t.setup, t.plan, t.pace, t.stops.items, p, ready.read, ready.program, ready.fit),
+    (
+      t.setup,
+      t.plan,
+      t.pace,
+      t.stops.items,
+      p,
+      ready.read,
+      ready.program,
+      (λ bad. bad (ready.fit, ready.plan)),
+    ),
   )
 
   -- no file, or no memory

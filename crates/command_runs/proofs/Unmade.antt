@@ -6,7 +6,8 @@ use Rattle.adversary.specs.declared.fault.RunFault.{RunFault}
 use Rattle.adversary.specs.declared.fault.RunFault.TheVariants as run
 use Rattle.command_runs.specs.InChanges.{AreFitChanges, Terms}
 use Rattle.command_runs.specs.InLockstep.{AreTerms, LockstepCause}
-use Rattle.command_runs.specs.Refused.{HasNoLines, HasNoOmissions, IsNotMade, IsPlan}
+use Rattle.command_runs.specs.Refused.{HasNoLines, HasNoOmissions, IsNotMade}
+use Rattle.command_runs.specs.Within.{IsPlan}
 use Rattle.command_runs.specs.Refused.{IsRefusedCommand, IsUnmade, fault_in, of_run}
 use Rattle.command_runs.specs.Refused.{omission_fault}
 use Rattle.command_runs.specs.Served.{IsOmissionText, MakesLockstep, SaysLines, file_name}

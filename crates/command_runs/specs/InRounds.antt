@@ -12,7 +12,7 @@ use Rattle.exploration_texts.specs.Told.{AreAnswers, IsFirstNo, all_hold}
 use Rattle.exploration_texts.specs.declared.told.PropertyName.{PropertyName}
 use Rattle.exploration_texts.specs.declared.told.Told.{Told}
 use Rattle.omission_schedules.specs.Schedules.{schedule_with_stops}
-use Rattle.round_explorer.specs.Answers.{with_inputs}
+use Rattle.round_explorer.specs.Answers.{in_rounds, with_inputs}
 use Rattle.round_explorer.specs.declared.answer.Counterexample.{Counterexample}
 use Rattle.round_lang.specs.Syntax.{ProgramTree}
 use Rattle.round_meaning.specs.Omissions.{is_omitted}
@@ -22,21 +22,25 @@ use Rattle.schedule_text.specs.Writing.{text_of}
 use Rattle.slot_plans.specs.declared.kind.PlanKind.{PlanKind}
 use Rattle.step_machine.specs.declared.event.Event.{Event}
 
--- the schedule that goes round by round, omits what this run does, and in which nodes that crash
--- stop
+-- the setup of the run in which a property fails, up to the round in which it does
+abbrev pub shown_setup : Setup → Counterexample → Setup
+shown_setup s c = in_rounds (with_inputs s c.inputs) c.round
+
+-- the schedule that goes round by round up to that one, omits what this run does, and in which
+-- nodes that crash stop
 abbrev pub shown_by : (receives start : ℕ → ℕ) → Setup → Counterexample → List Event
 shown_by receives start s c =
     schedule_with_stops s.nodes receives start
-    (steps_of s.nodes start s.rounds c.failures.items) (is_omitted c.omissions) s.rounds
+    (steps_of s.nodes start c.round c.failures.items) (is_omitted c.omissions) c.round
 
 -- the text is that of this schedule, behind a comment that says which property fails in which
 -- round, and is read as the schedule where it isn't too long
 pub record IsShown (receives start : ℕ → ℕ) (s : Setup) (k : PlanKind) (name : PropertyName)
     (c : Counterexample) (text : List ℕ) : Type 0 where
   pub spelled : text ≡ comment_text name c.round
-      ++ 10 ∷ text_of (with_inputs s c.inputs) k (shown_by receives start s c)
+      ++ 10 ∷ text_of (shown_setup s c) k (shown_by receives start s c)
   pub read_back : length text ≤ max_text
-      → Says text (with_inputs s c.inputs) k (shown_by receives start s c)
+      → Says text (shown_setup s c) k (shown_by receives start s c)
 
 -- the text shows the first property that fails
 abbrev pub ShowsFailure :

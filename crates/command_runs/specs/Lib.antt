@@ -6,6 +6,7 @@ pub mod InOmissions
 pub mod InRounds
 pub mod InParts
 pub mod Sources
+pub mod Within
 pub mod Apart
 pub mod ByThreads
 pub mod Library

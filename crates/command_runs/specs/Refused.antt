@@ -21,6 +21,7 @@ use Rattle.command_runs.specs.Served.{IsPaced, IsShownOf, NamesColumns, ReportsR
 use Rattle.command_runs.specs.Served.{SaysLines, file_name, start_of, terms_by}
 use Rattle.command_runs.specs.Texts.{Files}
 use Rattle.command_runs.specs.Unshown.{IsUnshown}
+use Rattle.command_runs.specs.Within.{IsExplorable, IsExplored, IsPlan}
 use Rattle.schedule_text.specs.Bytes.{IsLongText, IsNoText, IsText}
 use Rattle.schedule_text.specs.declared.source.TextFault.{TextFault}
 use Rattle.schedule_text.specs.declared.source.TextFault.TheVariants as text
@@ -38,7 +39,7 @@ use Rattle.command_words.specs.declared.words.Words.TheVariants.{Lockstep, Reali
 use Rattle.command_words.specs.declared.words.Words.TheVariants.{Show, Threads, Together}
 use Rattle.command_words.specs.declared.exploring.Exploring.{Exploring}
 use Rattle.command_words.specs.declared.forms.Form.{Form}
-use Rattle.exploration_texts.specs.Conditions.{IsConditionFor, IsFaultFor}
+use Rattle.exploration_texts.specs.Conditions.{IsFaultFor}
 use Rattle.exploration_texts.specs.declared.condition.ConditionFault.{ConditionFault}
 use Rattle.exploration_texts.specs.declared.condition.ConditionFault.TheVariants as condition
 use Rattle.node_threads.specs.Ends.{IsFitForThreads}
@@ -50,7 +51,6 @@ use Rattle.round_check.specs.declared.fault.CheckFault.TheVariants as check
 use Rattle.round_lang.specs.Limits.{max_text}
 use Rattle.round_lang.specs.Source.{IsSource}
 use Rattle.round_lang.specs.Syntax.{ProgramTree}
-use Rattle.round_lang.specs.Tree.{Tree}
 use Rattle.round_lang.specs.declared.fault.LangFault.{LangFault}
 use Rattle.round_lang.specs.declared.fault.LangFault.TheVariants as lang
 use Rattle.round_meaning.specs.Setups.{IsLawful}
@@ -68,9 +68,7 @@ use Rattle.schedule_text.specs.declared.pace.Pace.{Pace}
 use Rattle.schedule_text.specs.declared.pace.Stop.{Stop}
 use Rattle.schedule_text.specs.declared.fault.ScheduleFault.{ScheduleFault}
 use Rattle.schedule_text.specs.declared.fault.ScheduleFault.TheVariants as schedule
-use Rattle.slot_plans.specs.Plan.{IsDelta}
 use Rattle.slot_plans.specs.declared.kind.PlanKind.{PlanKind}
-use Rattle.slot_plans.specs.declared.kind.PlanKind.TheVariants.{Growing, Known}
 use Rattle.step_machine.specs.declared.event.Event.{Event}
 
 -- the fault of a layer below as a refusal; out of memory is one of its own
@@ -81,6 +79,11 @@ of_words fault = refusal.Words fault
 abbrev pub of_desk : DeskFault → Refusal
 of_desk desk.Failed = refusal.File
 of_desk desk.NoMemory = refusal.NoMemory
+
+-- that of a file that isn't written
+abbrev pub of_unwritten : DeskFault → Refusal
+of_unwritten desk.Failed = refusal.Write
+of_unwritten desk.NoMemory = refusal.NoMemory
 
 abbrev pub of_source : LangFault → Refusal
 of_source lang.NoMemory = refusal.NoMemory
@@ -194,11 +197,6 @@ abbrev pub IsNotOffered : Source → (nodes faults : ℕ) → Refusal → Type 0
 IsNotOffered (File name) n t r = ⊥
 IsNotOffered (Library name values) n t r = IsNoOffer name.now values n t r
 
--- a known bound is within its limits
-abbrev pub IsPlan : PlanKind → Type 0
-IsPlan (Known delta) = IsDelta delta
-IsPlan Growing = ⊤
-
 -- the numbers of a run are within their limits, and so are the nodes of LIST
 pub record IsRunnable (p : ProgramTree) (s : Setup) (k : PlanKind) (correct : List ℕ) : Type 0 where
   pub setup : IsLawful p.values s
@@ -269,10 +267,6 @@ IsNotRealised p s k ls (refusal.Run (run.UnknownMessage n)) =
 IsNotRealised p s k ls refusal.NoMemory = ⊤
 IsNotRealised p s k ls _ = ⊥
 
--- the numbers of a search are within their limits; no node hears more nodes than there are
-abbrev pub IsExplorable : ProgramTree → Setup → Exploring → Type 0
-IsExplorable p s e = IsLawful p.values s × (e.hears ≤ s.nodes)
-
 -- why not all runs are gone through: a number is past its limits, or else EXPR is no condition
 abbrev pub IsNotExplored : ProgramTree → Setup → PlanKind → Exploring → Refusal → Type 0
 IsNotExplored p s k e (refusal.Run run.BadSetup) = ¬ (IsExplorable p s e × IsPlan k)
@@ -281,13 +275,6 @@ IsNotExplored p s k e (refusal.Condition fault) =
     IsExplorable p s e × IsPlan k × IsFaultFor p e.always fault
 IsNotExplored p s k e refusal.NoMemory = ⊤
 IsNotExplored p s k e _ = ⊥
-
--- all runs are gone through: the numbers are within their limits, and EXPR is a condition
-pub record IsExplored (p : ProgramTree) (s : Setup) (k : PlanKind) (e : Exploring) : Type 0 where
-  pub explorable : IsExplorable p s e
-  pub plan : IsPlan k
-  pub condition : Option Tree
-  pub is_condition : IsConditionFor p e.always condition
 
 -- why a program isn't run under a text of a kind
 abbrev pub Later : Kind → Type 1

@@ -6,6 +6,7 @@ use Rattle.std.specs.Global.{Vec}
 use Rattle.std.specs.Prelude.{if◌then◌else◌}
 use Rattle.std.specs.Fmt.{decimal}
 use Rattle.std.specs.Io.KnownBytes.{Appends}
+use Rattle.node_threads.specs.Ends.{IsFitForThreads}
 use Rattle.omission_texts.specs.Texts.{Says as SaysOmissions}
 use Rattle.omission_texts.specs.declared.line.OmissionLine.{OmissionLine}
 use Rattle.schedule_text.specs.Texts.{SaysOf, Tail, max_text as max_schedule}
@@ -32,6 +33,7 @@ use Rattle.command_runs.specs.InRounds.{IsFound, ShowsFailure, outcome_of}
 use Rattle.command_runs.specs.Library.{Offers}
 pub use Rattle.command_runs.specs.Sources.{ShowsSource, file_name}
 use Rattle.command_runs.specs.Texts.{Files}
+use Rattle.command_runs.specs.Within.{IsExplored, IsFitOmitting, IsFitRun, IsPlan}
 use Rattle.schedule_text.specs.Bytes.{IsText}
 use Rattle.clap.specs.Words.{IsAmong, fault_of}
 use Rattle.clap.specs.declared.error.ErrorKind.TheVariants as kind
@@ -174,7 +176,7 @@ abbrev pub ReportsRun : Source → Files → Option (List ℕ) → Report → Ty
 ReportsRun source files file report =
     IfSome file (λ text. (s : Setup) × (k : PlanKind) × (events : List Event) × (p : ProgramTree)
     × IsSchedule text s k events × IsProgramOf source files s.nodes s.faults p
-    × IsReportOf (start_of k s.nodes) p s events report)
+    × IsPlan k × IsFitRun p s [] events × IsReportOf (start_of k s.nodes) p s events report)
 
 -- a picture's nodes are the run's, and its rounds begin in the run
 pub record IsShownOf (s : Setup) (d : Drawing) : Type 0 where
@@ -186,14 +188,15 @@ abbrev pub DrawsRun : Source → Files → Option (List ℕ) → Drawing → Typ
 DrawsRun source files file d =
     IfSome file (λ text. (s : Setup) × (k : PlanKind) × (events : List Event) × (p : ProgramTree)
     × (report : Report) × IsSchedule text s k events
-    × IsProgramOf source files s.nodes s.faults p × IsShownOf s d
-    × IsReportOf (start_of k s.nodes) p s events report)
+    × IsProgramOf source files s.nodes s.faults p × IsShownOf s d × IsPlan k
+    × IsFitRun p s [] events × IsReportOf (start_of k s.nodes) p s events report)
 
 -- the verdict on the source's run under the schedule in a file
 abbrev pub JudgesRun : Source → Files → Option (List ℕ) → List ℕ → ℕ → ℕ → Verdict → Type 0
 JudgesRun source files file correct delta gst verdict =
     IfSome file (λ text. (s : Setup) × (k : PlanKind) × (events : List Event) × (p : ProgramTree)
     × IsSchedule text s k events × IsProgramOf source files s.nodes s.faults p
+    × IsPlan k × IsFitRun p s correct events
     × IsVerdictOf (start_of k s.nodes) (receives_of k) p s events correct delta gst verdict)
 
 -- the lines of the file of this name; without a name there are none
@@ -215,8 +218,8 @@ abbrev pub MakesLockstep : Source → Files → (header : Option (List ℕ))
     → (omissions : Option (Bor (List ℕ))) → Terms → List ℕ → Type 0
 MakesLockstep source files header omissions t made =
     (s : Setup) × (k : PlanKind) × (ls : List OmissionLine) × (p : ProgramTree)
-    × IsPaced source files header omissions p s k ls
-    × IsLockstepText (start_of k s.nodes) p s k ls t made
+    × IsPaced source files header omissions p s k ls × IsPlan k × IsFitOmitting p s ls
+    × All (λ n. n < s.nodes) t.correct × IsLockstepText (start_of k s.nodes) p s k ls t made
 
 -- the source's program, the header in one file, and the omissions in another
 pub record IsAsked (source : Source) (files : Files) (header_file omission_file : Option (List ℕ))
@@ -230,7 +233,7 @@ abbrev pub RealisesOmissions : Source → Files → (header omissions : Option (
     → Type 0
 RealisesOmissions source files header omissions made =
     (s : Setup) × (k : PlanKind) × (ls : List OmissionLine) × (p : ProgramTree)
-    × IsAsked source files header omissions p s k ls
+    × IsAsked source files header omissions p s k ls × IsPlan k × IsFitOmitting p s ls
     × IsWritten s k (realised_by (receives_of k) (start_of k s.nodes) s ls) made
 
 -- the report of the run in rounds that omits what the lines of a file say, under the header in
@@ -238,7 +241,7 @@ RealisesOmissions source files header omissions made =
 abbrev pub ReportsRounds : Source → Files → (header omissions : Option (List ℕ)) → Report → Type 0
 ReportsRounds source files header omissions report =
     (s : Setup) × (k : PlanKind) × (ls : List OmissionLine) × (p : ProgramTree)
-    × IsAsked source files header omissions p s k ls
+    × IsAsked source files header omissions p s k ls × IsPlan k × IsFitOmitting p s ls
     × ShowsOmitting (start_of k s.nodes) p s ls report
 
 -- the report of the source's run by threads under the setup in a file, and the other file is the
@@ -247,7 +250,7 @@ abbrev pub ReportsThreads : Source → Files → (file after : Option (List ℕ)
 ReportsThreads source files file after report =
     IfSome file (λ text. (s : Setup) × (k : PlanKind) × (pace : Pace) × (stops : List Stop)
     × (events : List Event) × (p : ProgramTree) × IsThreadSetup text s k pace stops
-    × IsProgramOf source files s.nodes s.faults p
+    × IsProgramOf source files s.nodes s.faults p × IsPlan k × IsFitForThreads p.values s stops
     × IsThreadRun (start_of k s.nodes) p s stops events report
     × IfSome after (λ held. IsWritten s k events held))
 
@@ -255,7 +258,7 @@ ReportsThreads source files file after report =
 abbrev pub FindsIn : Source → Files → Option (List ℕ) → Exploring → Explored → Type 0
 FindsIn source files file e x =
     IfSome file (λ text. (s : Setup) × (k : PlanKind) × (p : ProgramTree) × IsHeader text s k
-    × IsProgramOf source files s.nodes s.faults p
+    × IsProgramOf source files s.nodes s.faults p × IsExplored p s k e
     × IsFound (receives_of k) (start_of k s.nodes) p s k e x.found
     × IsHeadOf source files s e x.head)
 
@@ -271,7 +274,7 @@ abbrev pub TellsOfAll : Source → (files after : Files) → Option (List ℕ) �
     → Option PartHead → List Told → Type 0
 TellsOfAll source files after file e head told =
     IfSome file (λ text. (s : Setup) × (k : PlanKind) × (p : ProgramTree) × IsHeader text s k
-    × IsProgramOf source files s.nodes s.faults p
+    × IsProgramOf source files s.nodes s.faults p × IsExplored p s k e
     × AreAnswers p s e told × HasTrace s k e.trace after told
     × IsHeadOf source files s e head)
 
@@ -287,9 +290,9 @@ AnswersRun source files file _ _ = ⊥
 abbrev pub Answered : (start receives : ℕ → ℕ) → ProgramTree → Setup → List Event → Question
     → Answer → Type 0
 Answered start receives p s events (question.Report told) (answer.Report report shown) =
-    (shown ≡ told) × IsReportOf start p s events report
+    (shown ≡ told) × IsFitRun p s [] events × IsReportOf start p s events report
 Answered start receives p s events (question.Verdict terms f) (answer.Verdict verdict shown) =
-    (shown ≡ f)
+    (shown ≡ f) × IsFitRun p s terms.correct.now events
     × IsVerdictOf start receives p s events terms.correct.now terms.delta terms.gst verdict
 Answered start receives p s events _ _ = ⊥
 

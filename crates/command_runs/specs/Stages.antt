@@ -11,7 +11,7 @@ use Rattle.adversary.specs.declared.fault.RunFault.TheVariants as run
 use Rattle.command_runs.specs.InChanges.{Terms}
 use Rattle.command_runs.specs.InLockstep.{LockstepCause}
 use Rattle.command_runs.specs.InOmissions.{OmissionCause}
-use Rattle.command_runs.specs.Refused.{Fault, IsBadForThreads, IsExplorable, IsExplored, IsNoOffer}
+use Rattle.command_runs.specs.Refused.{Fault, IsNoOffer}
 use Rattle.command_runs.specs.Refused.{IsOpened as IsOpenedSource, IsUnanswered, IsUnexplored}
 use Rattle.command_runs.specs.Refused.{IsUnmade, IsUnthreaded, IsUntraced}
 use Rattle.command_runs.specs.Refused.{StartsThreads, fault_in, of_text, omission_fault}
@@ -21,6 +21,7 @@ use Rattle.command_runs.specs.Served.{IsThreadSetup, MakesLockstep, NamesColumns
 use Rattle.command_runs.specs.Served.{SaysAnswer}
 use Rattle.command_runs.specs.Served.{told_text}
 use Rattle.command_runs.specs.Texts.{Files}
+use Rattle.command_runs.specs.Within.{IsExplorable, IsExplored, IsFitRun, IsPlan}
 use Rattle.schedule_text.specs.Bytes.{BeginsUtf8, IsLongText, IsNoText}
 use Rattle.command_runs.specs.declared.asking.Answer.{Answer as RunAnswer}
 use Rattle.command_runs.specs.declared.asking.Answer.TheVariants as answer
@@ -188,7 +189,7 @@ IsAnswered start receives p s r q a =
 abbrev pub IsDrawnAs : (start : ℕ → ℕ) → ProgramTree → Setup → Reading → Drawing → Type 0
 IsDrawnAs start p s r d =
     (events : List Event) × (report : Report) × IsReadAs s r events × IsShownOf s d
-    × IsReportOf start p s events report
+    × IsFitRun p s [] events × IsReportOf start p s events report
 
 -- `out` gained the answer to a question on a run
 abbrev pub TellsAnswer : Source → Files → Option (List ℕ) → Question
@@ -273,7 +274,8 @@ pub record AreReady (source : Source) (files : Files) (file : Option (List ℕ))
   pub opened : IsOpenedSource source files
   pub read : IfSome file (λ text. IsThreadSetup text t.setup t.plan t.pace t.stops.items)
   pub program : IsProgramOf source files t.setup.nodes t.setup.faults p
-  pub fit : ¬ (IsBadForThreads p t.setup t.plan t.stops.items)
+  pub fit : IsFitForThreads p.values t.setup t.stops.items
+  pub plan : IsPlan t.plan
 
 -- the refusals of a run whose threads were to start
 abbrev pub IsAfterStart : Refusal → Type 0

@@ -1,9 +1,10 @@
 //! What is asked of the run of a schedule.
-ghost use Rattle.std.specs.Prelude.{◌≡◌, IfErr, IfOk, IfSome};
+ghost use Rattle.std.specs.Prelude.{◌≡◌, IfErr, IfOk, IfSome, OnOk};
 ghost use Rattle.command_runs.specs.Refused.{IsMissing, IsNotRun, IsUnanswered};
 ghost use Rattle.command_runs.specs.Served.{AnswersRun, receives_of, start_of};
 ghost use Rattle.command_runs.specs.Stages.{IsAnswered, IsNotRunAs, IsToldAfter, StopsSchedule};
 ghost use Rattle.command_runs.specs.Stages.{listed_by};
+ghost use Rattle.command_runs.specs.Within.{IsPlan};
 ghost use Rattle.command_runs.specs.declared.refusal.Refusal.TheVariants as refusal;
 ghost use Rattle.schedule_text.specs.Readers.{IsOpened};
 ghost use Rattle.schedule_text.specs.declared.kind.Kind.TheVariants as kinds;
@@ -133,6 +134,7 @@ fn answer_by<'q, S: TextSource + Drop>(
     ensures answered { let plan = schedule.plan in let s = schedule.setup in
         IfOk result (IsAnswered (start_of plan s.nodes) (receives_of plan) program.now s
         schedule.reader question.entry) }
+    ensures plan { OnOk result (IsPlan schedule.plan) }
     ensures refused { let plan = schedule.plan in let s = schedule.setup in
         IfErr result (StopsSchedule (λ events r. IsNotRun program.now s plan events
         (listed_by question.entry) r) s schedule.reader) }

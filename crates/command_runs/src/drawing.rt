@@ -6,6 +6,7 @@ ghost use Rattle.command_runs.specs.Refused.{IsUndrawn};
 ghost use Rattle.command_runs.specs.Served.{DrawsRun, IsShownOf, Serves, start_of};
 ghost use Rattle.command_runs.specs.Stages.{IsDrawnAs, IsNotDrawnAs, StopsSchedule};
 ghost use Rattle.command_runs.specs.Texts.{HoldsWhole};
+ghost use Rattle.command_runs.specs.Within.{IsPlan};
 ghost use Rattle.round_meaning.specs.Setups.{IsLawful};
 ghost use Rattle.schedule_text.specs.Readers.{IsOpened};
 ghost use Rattle.schedule_text.specs.Texts.{max_text};
@@ -135,6 +136,7 @@ fn draw_by<S: TextSource + Drop>(
     ensures drawn { let plan = schedule.plan in let s = schedule.setup in
         IfOk result (λ _picture. IsDrawnAs (start_of plan s.nodes) program.now s
         schedule.reader sheet.entry.drawing.now) }
+    ensures plan { OnOk result (IsPlan schedule.plan) }
     ensures refused { let plan = schedule.plan in let s = schedule.setup in
         IfErr result (StopsSchedule (λ events r. IsNotDrawn program.now s plan events
         sheet.entry.drawing.now r) s schedule.reader) }

@@ -1,5 +1,5 @@
 //! From a checked program and any schedule to what is said of its run.
-ghost use Rattle.std.specs.Prelude.{◌≡◌, ◌<◌, All, IfErr, IfNone, IfOk, IfSome};
+ghost use Rattle.std.specs.Prelude.{◌≡◌, ◌<◌, All, IfErr, IfNone, IfOk, IfSome, OnOk};
 ghost use Rattle.adversary.specs.Driving.{IsKnown};
 ghost use Rattle.adversary.specs.Reading.{IsNotRead, IsReadAs};
 ghost use Rattle.command_runs.specs.Explained.{AreListed, IsReportOf, IsVerdictOf};
@@ -75,6 +75,7 @@ pub fn judged_run<P: Plan, S: TextSource + Drop>(
     ensures lawful { IfOk result (λ _answer. IsLawful program.now.values setup.now) }
     ensures cause { IfErr result (IsNotRead (IsLawful program.now.values setup.now
         × All (λ n. n < setup.now.nodes) terms.entry.correct.now) setup.now reader) }
+    ensures listed { OnOk result (All (λ n. n < setup.now.nodes) terms.entry.correct.now) }
     ensures known { IfOk result (λ answer. All (IsKnown setup.now) answer.1.log.trace) }
     ensures read { IfOk result (λ answer. IsReadAs setup.now reader answer.1.log.trace) }
     ensures judged { IfOk result (λ answer. IsVerdictOf (P.start plan) (P.receives plan) program.now

@@ -5,7 +5,8 @@ ghost use Rattle.command_runs.specs.Apart.{IsApartIfNamed};
 ghost use Rattle.command_runs.specs.InParts.{IsHeadOf};
 ghost use Rattle.command_runs.specs.InRounds.{IsFound, IsMade, IsShown, IsTrace, ShowsFirst};
 ghost use Rattle.command_runs.specs.InRounds.{trace_of};
-ghost use Rattle.command_runs.specs.Refused.{IsExplorable, IsExplored, IsNotExplored, IsUnexplored};
+ghost use Rattle.command_runs.specs.Refused.{IsNotExplored, IsUnexplored};
+ghost use Rattle.command_runs.specs.Within.{IsExplorable, IsExplored};
 ghost use Rattle.command_runs.specs.Served.{FindsIn, receives_of, start_of};
 ghost use Rattle.command_runs.specs.Stages.{AreSearchable, IsNotExploredAs, IsRefusedSearch};
 ghost use Rattle.command_runs.specs.Unshown.{IsUnshown};
@@ -256,8 +257,8 @@ fn trace_of<P: Plan>(
     }
 }
 
-/// The schedule that shows a property failing: it goes round by round, omits what the run does in
-/// which it fails, and in it nodes that crash stop.
+/// The schedule that shows a property failing: it goes round by round up to the one in which it
+/// fails, omits what the run does in which it fails, and in it nodes that crash stop.
 fn shown<P: Plan>(
     alloc: Global,
     setup: &Setup,
@@ -276,7 +277,7 @@ fn shown<P: Plan>(
         nodes: setup.nodes,
         faults: setup.faults,
         inputs: found.inputs.copy()?,
-        rounds: setup.rounds,
+        rounds: found.round,
     };
     let stops = stops_of(alloc, &setup, &found.failures, plan)?;
     let events = schedule_with_stops(alloc, &setup, plan, &found.omissions, &stops)?;

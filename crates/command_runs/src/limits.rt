@@ -1,7 +1,7 @@
 //! The limits of the crates below.
 ghost use Rattle.std.specs.Prelude.{◌↔◌, IsTrue};
 ghost use Rattle.command_runs.specs.Limits.{LimitsAgree, LimitsAreDefined};
-ghost use Rattle.command_runs.specs.Refused.{IsPlan};
+ghost use Rattle.command_runs.specs.Within.{IsPlan};
 
 use slot_plans::{MAX_DELTA, PlanKind};
 

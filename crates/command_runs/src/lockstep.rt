@@ -1,13 +1,14 @@
 //! The schedule of a run in lockstep.
-ghost use Rattle.std.specs.Prelude.{◌≡◌, ◌≤◌, ℕ, All, IfErr, IfOk, IfSome, List};
+ghost use Rattle.std.specs.Prelude.{◌≡◌, ◌<◌, ◌≤◌, ℕ, All, IfErr, IfOk, IfSome, List, OnOk};
 ghost use Rattle.command_runs.specs.IdleTexts.{IsReady, schedule_text};
 ghost use Rattle.command_runs.specs.InChanges.{AreFitChanges, terms_of};
 ghost use Rattle.command_runs.specs.InLockstep.{AreTerms, IsLockstepText, LockstepCause, ticks_of};
 ghost use Rattle.command_runs.specs.Refused.{IsMissing, IsNotMade, IsUnasked, IsUnmade};
 ghost use Rattle.command_runs.specs.Served.{IsHeader, IsPaced, MakesLockstep, start_of};
 ghost use Rattle.command_runs.specs.Stages.{IsHeaderIn, IsNoReadIn, IsNotMadeAs};
+ghost use Rattle.command_runs.specs.Within.{IsFitOmitting, IsPlan};
 ghost use Rattle.omission_texts.specs.Meaning.{IsKnown};
-ghost use Rattle.round_meaning.specs.Setups.{max_rounds};
+ghost use Rattle.round_meaning.specs.Setups.{IsLawful, max_rounds};
 ghost use Rattle.schedule_text.specs.declared.kind.Kind.TheVariants as kinds;
 
 use crate::changes::changes_of;
@@ -134,6 +135,10 @@ fn schedule_by<'p>(
     ensures made { let s = asked.now.setup in let k = asked.now.plan in
         IfOk result (λ made. IsLockstepText (start_of k s.nodes) asked.now.program s k
         asked.now.omissions (terms_of pacing.entry) (schedule_text made)) }
+    ensures plan { OnOk result (IsPlan asked.now.plan) }
+    ensures fit { OnOk result
+        (IsFitOmitting asked.now.program asked.now.setup asked.now.omissions) }
+    ensures listed { OnOk result (All (λ n. n < asked.now.setup.nodes) pacing.entry.correct.now) }
     ensures ready { IfOk result (λ made. IsReady made.idle) }
     ensures refused { IfErr result (IsNotMade asked.now.program asked.now.setup asked.now.plan
         asked.now.omissions (terms_of pacing.entry)) }
@@ -160,6 +165,9 @@ fn schedule_under<'p, P: Plan>(
     ensures made { IfOk result (λ made. IsLockstepText (P.start plan) asked.now.program
         asked.now.setup asked.now.plan asked.now.omissions (terms_of pacing.entry)
         (schedule_text made)) }
+    ensures fit { OnOk result
+        (IsFitOmitting asked.now.program asked.now.setup asked.now.omissions) }
+    ensures listed { OnOk result (All (λ n. n < asked.now.setup.nodes) pacing.entry.correct.now) }
     ensures ready { IfOk result (λ made. IsReady made.idle) }
     ensures refused { IfErr result (IsNotMadeAs (P.start plan) asked.now.program
         asked.now.setup asked.now.omissions (terms_of pacing.entry)) }
@@ -195,6 +203,8 @@ pub fn lockstep_schedule<'p, P: Plan>(
     requires { P.nodes plan ≡ setup.now.nodes }
     ensures fit { IfOk result (λ _made. ¬ ¬ (AreTerms program.now setup.now (terms_of pacing.entry)
         × AreFitChanges (P.start plan) setup.now omissions.now (terms_of pacing.entry))) }
+    ensures lawful { OnOk result (IsLawful program.now.values setup.now) }
+    ensures listed { OnOk result (All (λ n. n < setup.now.nodes) pacing.entry.correct.now) }
     ensures known { IfOk result (λ _made. All (IsKnown setup.now) omissions.now) }
     ensures cause { IfErr result (LockstepCause (P.start plan) program.now setup.now
         omissions.now (terms_of pacing.entry)) }

@@ -1,5 +1,6 @@
 //! What is made of the messages that a file has a run omit.
-ghost use Rattle.std.specs.Prelude.{◌≡◌, ℕ, List, All, IfErr, IfOk, IfSome, map, string_bytes};
+ghost use Rattle.std.specs.Prelude.{◌≡◌, ℕ, List, All, IfErr, IfOk, IfSome, OnOk, map};
+ghost use Rattle.std.specs.Prelude.{string_bytes};
 ghost use Rattle.std.specs.List.{range_with_len};
 ghost use Rattle.command_runs.specs.InLockstep.{IsWritten};
 ghost use Rattle.command_runs.specs.InOmissions.{OmissionCause, ShowsOmitting, realised_by};
@@ -8,6 +9,7 @@ ghost use Rattle.command_runs.specs.Refused.{IsUnrealised};
 ghost use Rattle.command_runs.specs.Served.{IsAsked, IsOmissionText, RealisesOmissions};
 ghost use Rattle.command_runs.specs.Served.{ReportsRounds, SaysLines, receives_of, start_of};
 ghost use Rattle.command_runs.specs.Stages.{AreOmissionsIn, HasNoOmissionsIn, IsNotRealisedAs};
+ghost use Rattle.command_runs.specs.Within.{IsFitOmitting, IsPlan};
 ghost use Rattle.omission_texts.specs.Meaning.{IsKnown, IsTableOf};
 ghost use Rattle.omission_texts.specs.Stops.{steps_of};
 ghost use Rattle.round_meaning.specs.Setups.{IsLawful};
@@ -144,6 +146,9 @@ fn schedule_by(alloc: Global, asked: &Asked) -> Result<String, Refusal>
         IfOk result (λ text. IsWritten s k
         (realised_by (receives_of k) (start_of k s.nodes) s asked.now.omissions)
         (string_bytes text)) }
+    ensures plan { OnOk result (IsPlan asked.now.plan) }
+    ensures fit { OnOk result
+        (IsFitOmitting asked.now.program asked.now.setup asked.now.omissions) }
     ensures refused { IfErr result (IsNotRealised asked.now.program asked.now.setup asked.now.plan
         asked.now.omissions) }
 {
@@ -164,6 +169,8 @@ fn schedule_under<P: Plan>(alloc: Global, asked: &Asked, plan: P) -> Result<Stri
     ensures made { IfOk result (λ text. IsWritten asked.now.setup asked.now.plan
         (realised_by (P.receives plan) (P.start plan) asked.now.setup asked.now.omissions)
         (string_bytes text)) }
+    ensures fit { OnOk result
+        (IsFitOmitting asked.now.program asked.now.setup asked.now.omissions) }
     ensures refused { IfErr result (IsNotRealisedAs asked.now.program asked.now.setup
         asked.now.omissions) }
 {
@@ -180,6 +187,9 @@ fn schedule_under<P: Plan>(alloc: Global, asked: &Asked, plan: P) -> Result<Stri
 fn report_by(alloc: Global, asked: &Asked) -> Result<Report, Refusal>
     ensures made { let s = asked.now.setup in let k = asked.now.plan in
         IfOk result (ShowsOmitting (start_of k s.nodes) asked.now.program s asked.now.omissions) }
+    ensures plan { OnOk result (IsPlan asked.now.plan) }
+    ensures fit { OnOk result
+        (IsFitOmitting asked.now.program asked.now.setup asked.now.omissions) }
     ensures refused { IfErr result (IsNotRealised asked.now.program asked.now.setup asked.now.plan
         asked.now.omissions) }
 {
@@ -199,6 +209,8 @@ fn report_under<P: Plan>(alloc: Global, asked: &Asked, plan: P) -> Result<Report
     requires { P.nodes plan ≡ asked.now.setup.nodes }
     ensures made { IfOk result (ShowsOmitting (P.start plan) asked.now.program asked.now.setup
         asked.now.omissions) }
+    ensures fit { OnOk result
+        (IsFitOmitting asked.now.program asked.now.setup asked.now.omissions) }
     ensures refused { IfErr result (IsNotRealisedAs asked.now.program asked.now.setup
         asked.now.omissions) }
 {

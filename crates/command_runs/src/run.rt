@@ -29,6 +29,8 @@ use crate::sources::Opened;
 use crate::threads::{ThreadRun, Threaded};
 use crate::traces::{write_shown, write_trace};
 use command_words::{AnswerFormat, Form, Source, Words, WordsFault, read_words};
+use exploration_texts::Told;
+use part_answers::PartHead;
 use policies::{Bounded, Table};
 use round_check::Checked;
 use std::alloc::Global;
@@ -408,7 +410,8 @@ fn run_rounds<'a, D: Desk, O: Write>(
     tell_report(alloc, &report, form, out)
 }
 
-/// Tells what is found in all runs, and first writes the schedule that shows a property failing.
+/// Tells what is found in all runs, and first writes the schedule that shows a property failing. If
+/// that can't be written, what is found is told all the same.
 #[tactic(auto, using(crate::proofs::Telling::silent_same))]
 fn explore<'a, R: Threads + Sync, D: Desk, O: Write>(
     rt: &R,
@@ -434,9 +437,33 @@ fn explore<'a, R: Threads + Sync, D: Desk, O: Write>(
 {
     let Explored { head, found } = exploration.find(rt, alloc, desk)?;
     let Found { told, trace } = found;
-    write_shown(exploration.exploring.trace, &trace, desk)?;
-    written(write_explored(&head, &told, format, out), out)?;
-    Ok(Outcome::of(&told))
+    match write_shown(exploration.exploring.trace, &trace, desk) {
+        Ok(()) => {
+            written(write_explored(&head, &told, format, out), out)?;
+            Ok(Outcome::of(&told))
+        }
+        Err(refusal) => Err(told_all_the_same(&head, &told, format, refusal, out)),
+    }
+}
+
+/// Tells what is found if its trace can't be written, and gives that refusal; without memory
+/// nothing is told.
+fn told_all_the_same<O: Write>(
+    head: &Option<PartHead>,
+    told: &[Told],
+    format: AnswerFormat,
+    refusal: Refusal,
+    out: &mut O,
+) -> Refusal
+    requires { (refusal ≡ Refusal.Write) ⊎ (refusal ≡ Refusal.NoMemory) }
+    ensures same { result ≡ refusal }
+    ensures silent { IsSilent (O.contents out.old) (O.contents out.new) result }
+{
+    if let Refusal::Write = refusal {
+        // Where `out` fails too, that is refused as well.
+        let _ = written(write_explored(head, told, format, out), out);
+    }
+    refusal
 }
 
 /// Writes an answer, and all that the writer still holds.

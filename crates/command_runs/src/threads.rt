@@ -3,11 +3,12 @@ ghost use Rattle.std.specs.Prelude.{◌≡◌, ◌≢◌, ◌⊎◌, ◌↔◌, 
 ghost use Rattle.std.specs.Prelude.{OnOk, Some, string_bytes};
 ghost use Rattle.command_runs.specs.ByThreads.{IsRunOf};
 ghost use Rattle.command_runs.specs.Apart.{IsApart};
-ghost use Rattle.command_runs.specs.Refused.{IsBadForThreads, IsMissing, IsNotThreaded, IsPlan};
+ghost use Rattle.command_runs.specs.Refused.{IsBadForThreads, IsMissing, IsNotThreaded};
 ghost use Rattle.command_runs.specs.Refused.{IsUnfit, IsUnfitForThreads, StartsThreads};
 ghost use Rattle.command_runs.specs.Served.{IsThreadSetup, ReportsThreads, start_of};
 ghost use Rattle.command_runs.specs.Stages.{AreReady, IsNoReadIn, IsNotThreadedAs, IsAfterStart};
 ghost use Rattle.command_runs.specs.Stages.{IsRefusedThreads, IsThreadSetupIn};
+ghost use Rattle.command_runs.specs.Within.{IsPlan};
 ghost use Rattle.node_threads.specs.Ends.{IsFitForThreads};
 ghost use Rattle.node_threads.specs.Stops.{AreStops};
 ghost use Rattle.node_threads.specs.Faults.{IsOfThreads};

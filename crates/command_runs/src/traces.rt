@@ -3,6 +3,7 @@ ghost use Rattle.std.specs.Prelude.{◌≡◌, ◌⊎◌, ◌++◌, ◌∷◌, [
 ghost use Rattle.std.specs.Prelude.{false, option_map, string_bytes};
 ghost use Rattle.command_runs.specs.Apart.{IsApart, IsApartIfNamed, SparesSource};
 ghost use Rattle.command_runs.specs.Desks.{MayWriteTrace, WroteAtMost};
+ghost use Rattle.command_runs.specs.Refused.{of_unwritten};
 ghost use Rattle.command_runs.specs.Stages.{HoldsText, WritesText};
 
 use crate::desk::{Desk, DeskFault};
@@ -96,7 +97,8 @@ pub(crate) fn write_shown<D: Desk>(
 
 /// That a file can't be written, or that there is no memory.
 fn unwritten(fault: DeskFault) -> Refusal
-    ensures { (result ≡ Refusal.Write) ⊎ (result ≡ Refusal.NoMemory) }
+    ensures refusal { result ≡ of_unwritten fault }
+    ensures two { (result ≡ Refusal.Write) ⊎ (result ≡ Refusal.NoMemory) }
 {
     match fault {
         DeskFault::Failed => Refusal::Write,

@@ -4,6 +4,7 @@ use Rattle.std.specs.Prelude.{codes, false, option_map, true}
 use Rattle.std.specs.List.{list_all, slice_split}
 use Rattle.std.specs.Str.{bytes_eq}
 use Rattle.clap.specs.Words.{Row, Text, first_of}
+use Rattle.command_words.specs.Headers.{GivesInputs}
 use Rattle.command_words.specs.Searching.{FailsBySearching, GivesJobs, GivesPart, GivesSample}
 use Rattle.command_words.specs.Values.{NumberText, is_comma}
 use Rattle.command_words.specs.declared.exploring.Checks.{Checks}
@@ -83,7 +84,7 @@ GivesClear rows (Some n) =
 
 -- what the options say
 pub record GivesExploring (rows : List Row) (e : Exploring) : Type 0 where
-  pub inputs : GivesOr inputs.Header (codes "inputs") InputsText rows e.inputs
+  pub inputs : GivesInputs rows e.inputs
   pub faults : GivesOr faults.Nobody (codes "faults") FaultsText rows e.faults
   pub clear : GivesClear rows e.clear
   pub hears : GivesOr 0 (codes "hears") NumberText rows e.hears

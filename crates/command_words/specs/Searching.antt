@@ -2,6 +2,7 @@
 use Rattle.std.specs.Prelude.{◌≡◌, ◌==◌, ◌⊎◌, ◌++◌, ◌∷◌, ◌≤◌, ℕ, Bool, List, None, Option, Some}
 use Rattle.std.specs.Prelude.{codes}
 use Rattle.clap.specs.Words.{Row, Text, first_of}
+use Rattle.command_words.specs.Headers.{AsksAll}
 use Rattle.command_words.specs.Values.{NumberText}
 use Rattle.command_words.specs.declared.searching.PartChoice.{PartChoice}
 use Rattle.command_words.specs.declared.searching.SampleChoice.{SampleChoice}
@@ -39,8 +40,7 @@ CountText text n = NumberText text n × (1 ≤ n)
 
 -- all lists of inputs are asked about, and no sample
 abbrev pub GoesWithParts : List Row → Type 0
-GoesWithParts rows =
-    (first_of (codes "inputs") rows ≡ Some (codes "any")) × (first_of (codes "sample") rows ≡ None)
+GoesWithParts rows = AsksAll rows × (first_of (codes "sample") rows ≡ None)
 
 -- `--part` has this part, where one may be asked about, or isn't there
 abbrev pub GivesPart : List Row → Option PartChoice → Type 0

@@ -170,7 +170,7 @@ fn header_arg<'a>(alloc: Global) -> Arg<'a>
         alloc,
         "header",
         "FILE",
-        "The file of the five header lines, or - for standard input",
+        "The file of the five header lines, - for standard input, or @NODES:FAULTS:ROUNDS",
     )
 }
 
@@ -391,7 +391,7 @@ fn explore_some_runs<'a>(alloc: Global) -> Result<Command<'a>, AllocError>
             alloc,
             "inputs",
             "INPUTS",
-            "header, whose inputs are asked about by default, or any",
+            "header, the default for a file, or any, the default for @NODES:FAULTS:ROUNDS",
         ))?
         .arg(optional_arg(
             alloc,
@@ -498,7 +498,7 @@ fn bare_command<'a>(alloc: Global) -> Result<Command<'a>, AllocError>
     Ok(
         Command::new(alloc, "roundc")
             .bin_name("roundc")?
-            .version("0.3.0, proved with rattle-kit-13b")
+            .version("0.3.0, proved with rattle-kit-13f")
             .propagate_version(true)
             .about(
                 "Runs algorithms written in rounds, step by step. roundc why COMMAND .. says why \

@@ -4,12 +4,13 @@ ghost use Rattle.std.specs.Prelude.{true};
 ghost use Rattle.std.specs.List.{list_all, slice_split};
 ghost use Rattle.clap.specs.Words.{first_of, found_of, rows_of};
 ghost use Rattle.command_words.specs.Exploring.{ChecksText, FailsByExploring, FaultsText};
-ghost use Rattle.command_words.specs.Exploring.{GivesClear, GivesExploring, GivesOr, InputsText};
-ghost use Rattle.command_words.specs.Exploring.{is_property, marked, no_checks, usual_checks};
+ghost use Rattle.command_words.specs.Exploring.{GivesClear, GivesExploring, GivesOr, is_property};
+ghost use Rattle.command_words.specs.Exploring.{marked, no_checks, usual_checks};
+ghost use Rattle.command_words.specs.Headers.{GivesInputs};
 ghost use Rattle.command_words.specs.Values.{NumberText, is_comma};
 ghost use Rattle.command_words.specs.declared.exploring.FaultChoice.TheVariants as faults;
-ghost use Rattle.command_words.specs.declared.exploring.InputChoice.TheVariants as inputs;
 
+use crate::headers::has_header_numbers;
 use crate::searching::{PartChoice, SampleChoice, jobs_of, part_of, sample_of};
 use crate::values::read_number;
 use crate::words::{WordsFault, optional_text};
@@ -130,11 +131,11 @@ fn read_checks(text: &str) -> Option<Checks>
 
 /// Whose inputs are asked about.
 fn inputs_of(matches: &ArgMatches<'_>) -> Result<InputChoice, WordsFault>
-    ensures ok { IfOk result (GivesOr inputs.Header (codes "inputs") InputsText
-        (rows_of (found_of matches.now))) }
+    ensures ok { IfOk result (GivesInputs (rows_of (found_of matches.now))) }
     ensures err { IfErr result (FailsByExploring (rows_of (found_of matches.now))) }
 {
     match optional_text(matches, "inputs") {
+        None if has_header_numbers(matches) => Ok(InputChoice::Any),
         None => Ok(InputChoice::Header),
         Some("header") => Ok(InputChoice::Header),
         Some("any") => Ok(InputChoice::Any),

@@ -7,6 +7,7 @@ ghost use Rattle.command_words.specs.Searching.{CountText, FailsBySearching, Giv
 ghost use Rattle.command_words.specs.Searching.{GivesSample, GivesSeed, GoesWithParts, JobsText};
 ghost use Rattle.command_words.specs.Searching.{PartText, is_slash, slash};
 
+use crate::headers::has_header_numbers;
 use crate::values::read_number;
 use crate::words::{WordsFault, optional_text};
 use clap::ArgMatches;
@@ -65,7 +66,8 @@ fn goes_with_parts(matches: &ArgMatches<'_>) -> bool
         optional_text(matches, "sample"),
     ) {
         (Some(inputs), None) => inputs == "any",
-        _ => false,
+        (None, None) => has_header_numbers(matches),
+        (_, Some(_)) => false,
     }
 }
 

@@ -106,7 +106,7 @@ pub(crate) fn read_list(alloc: Global, text: &str) -> Result<Vec<u32>, WordsFaul
 }
 
 /// What follows `@`.
-fn after_at(text: &str) -> Option<&str>
+pub(crate) fn after_at(text: &str) -> Option<&str>
     ensures { MatchOption result ((rest : List ℕ) → text.now ≢ at_sign ∷ rest)
         (λ r. text.now ≡ at_sign ∷ r.now) }
 {
@@ -114,7 +114,7 @@ fn after_at(text: &str) -> Option<&str>
 }
 
 /// The parts before and after the first colon.
-fn cut_at_colon(text: &str) -> Option<(&str, &str)>
+pub(crate) fn cut_at_colon(text: &str) -> Option<(&str, &str)>
     ensures none { IfNone result (after_first is_colon text.now ≡ []) }
     ensures before { IfSome result (λ p. p.0.now ≡ before_first is_colon text.now) }
     ensures after { IfSome result (λ p. p.1.now ≡ after_first is_colon text.now) }

@@ -1,12 +1,10 @@
 -- That a schedule can show each run that is told of.
 use Rattle.std.proofs.Common.{◌≡◌, ◌∙◌, ◌≤◌, ◌∷◌, [], ℕ, All, List, None, Option, Some, ap, arith}
-use Rattle.std.proofs.Common.{false, get_or, inl, inr, length, refl, subst, suc, sym}
-use Rattle.std.proofs.lemmas.Bool.{cases_lt}
-use Rattle.std.proofs.lemmas.List.{get_or_past}
+use Rattle.std.proofs.Common.{false, get_or, inl, inr, length, refl, subst, suc}
 use Rattle.command_words.specs.declared.exploring.Exploring.{Exploring}
 use Rattle.command_words.specs.declared.searching.SampleChoice.{SampleChoice}
 use Rattle.exploration_texts.specs.Asking.{inputs_of, question_of}
-use Rattle.exploration_texts.specs.Stops.{AreWithin, CanBeShown, IsShowable, IsToldToShow}
+use Rattle.exploration_texts.specs.Stops.{CanBeShown, IsShowable, IsToldToShow}
 use Rattle.exploration_texts.specs.Told.{AreAnswers, IsAnswer, IsFirstNo, IsRightOf, all_hold}
 use Rattle.exploration_texts.specs.declared.told.Answered.{Answered}
 use Rattle.exploration_texts.specs.declared.told.Answered.TheVariants.{Fails, Holds}
@@ -14,41 +12,17 @@ use Rattle.exploration_texts.specs.declared.told.Answered.TheVariants.{HoldsInAl
 use Rattle.exploration_texts.specs.declared.told.PropertyName.{PropertyName}
 use Rattle.exploration_texts.specs.declared.told.Told.{Told}
 use Rattle.round_explorer.specs.Answers.{IsAsked}
-use Rattle.round_explorer.specs.Questions.{AreAsked, IsOfKind, failure_of}
+use Rattle.round_explorer.specs.Questions.{AreAsked}
 use Rattle.round_explorer.specs.declared.answer.Counterexample.{Counterexample}
 use Rattle.round_explorer.specs.declared.property.Property.{Property}
 use Rattle.round_explorer.specs.declared.question.AskedInputs.{AskedInputs}
 use Rattle.round_explorer.specs.declared.question.AskedInputs.TheVariants.{Any, Header, Part}
-use Rattle.round_explorer.specs.declared.question.Failure.{Failure}
-use Rattle.round_explorer.specs.declared.question.Failure.TheVariants.{Crashes, Never}
-use Rattle.round_explorer.specs.declared.question.FaultKind.{FaultKind}
-use Rattle.round_explorer.specs.declared.question.FaultKind.TheVariants.{Crash, Nobody, Omission}
 use Rattle.round_explorer.specs.declared.question.Question.{Question}
 use Rattle.round_lang.specs.Syntax.{ProgramTree}
 use Rattle.round_lang.specs.Tree.{Tree}
 use Rattle.round_meaning.specs.Omissions.{is_omitted}
 use Rattle.round_meaning.specs.Setups.{IsSetup}
 use Rattle.round_meaning.specs.declared.setup.Setup.{Setup}
-
-crash_within : (kind : FaultKind) (rounds c : ℕ) → IsOfKind kind rounds (Crashes c)
-    → (1 ≤ c) × (c ≤ rounds)
-crash_within Nobody rounds c h = absurd h
-crash_within Omission rounds c h = absurd h
-crash_within Crash rounds c h = h
-
-within_one : (kind : FaultKind) (rounds : ℕ) (f : Failure) (c : ℕ) → IsOfKind kind rounds f
-    → f ≡ Crashes c → (1 ≤ c) × (c ≤ rounds)
-within_one kind rounds f c h same = crash_within kind rounds c (subst (IsOfKind kind rounds) same h)
-
-never_crashes : {A : Type 0} {c : ℕ} → Never ≡ Crashes c → A
-never_crashes same = absurd (cc same)
-
-pub all_within : (kind : FaultKind) (rounds : ℕ) (pattern : List Failure)
-    → All (IsOfKind kind rounds) pattern → AreWithin rounds pattern
-all_within kind rounds pattern all i c same = elim (cases_lt i (length pattern)) [
-  | inl lt ↦ within_one kind rounds (failure_of pattern i) c (all i Never lt) same
-  | inr past ↦ never_crashes (sym (get_or_past pattern i Never past) ∙ same)
-]
 
 inputs_many : (values : ℕ) (s : Setup) (asked : AskedInputs) (inputs : List ℕ) → IsSetup s
     → AreAsked values s asked inputs → length inputs ≡ s.nodes
@@ -63,7 +37,6 @@ module _ (p : ProgramTree) (s : Setup) (sized : IsSetup s) (question : Question)
   asked_shown c h past = record {
     inputs = inputs_many p.values s asked c.inputs sized h.are_asked;
     past = past;
-    within = all_within question.faults s.rounds c.failures.items h.is_pattern.kinds;
   }
 
   right_shown : (sample : Option SampleChoice) (x : Property) (a : Answered)

@@ -13,7 +13,7 @@ use round_check::Checked;
 use round_explorer::{AskedInputs, Property, Question, Watch, explore_by_jobs};
 use round_lang::{Formula, NoMemory};
 use round_meaning::Setup;
-use run_samples::{Sampling, sample as sample_runs};
+use run_samples::{Sampling, sample as sample_runs, shrink};
 use std::alloc::Global;
 use std::thread::Threads;
 
@@ -155,8 +155,8 @@ fn is_of_safety(property: Property<'_>) -> bool
 }
 
 impl<'a> Search<'a> {
-    /// What one search for agreement, validity and finality tells of each of them. It's made only if
-    /// more than one of them is asked, since it takes as long as the search for one.
+    /// What one search for agreement, validity and finality tells of each of them. It's made only
+    /// if more than one of them is asked, since it takes as long as the search for one.
     fn search_safety<R: Threads + Sync, W: Watch + Sync>(
         &self,
         rt: &R,
@@ -278,7 +278,34 @@ impl<'a> Search<'a> {
         match known {
             Known::NoFailure if is_of_safety(property) => Ok(self.no_failure()),
             Known::HoldInAllRounds if is_of_safety(property) => Ok(Answered::HoldsInAllRounds),
-            _ => self.explore(rt, alloc, property, watch),
+            _ => {
+                let answer = self.explore(rt, alloc, property, watch)?;
+                self.shrunk(alloc, property, answer)
+            }
+        }
+    }
+
+    /// The same answer; if it's a failure, without omissions that it doesn't need.
+    fn shrunk(
+        &self,
+        alloc: Global,
+        property: Property<'_>,
+        answer: Answered,
+    ) -> Result<Answered, NoMemory>
+        requires lawful { IsLawful self.now.program.now.values self.now.setup.now }
+        requires answer { IsAnswerOf self.now property answer }
+        ensures { IfOk result (IsAnswerOf self.now property.entry) }
+    {
+        match answer {
+            Answered::Fails(found) => Ok(Answered::Fails(shrink(
+                alloc,
+                self.program,
+                self.setup,
+                self.question,
+                property,
+                found,
+            )?)),
+            other => Ok(other),
         }
     }
 

@@ -1,5 +1,5 @@
 //! How many steps each node takes in a run with failures.
-ghost use Rattle.std.specs.Prelude.{◌≡◌, ◌+◌, ◌≤◌, ℕ, IfOk, map};
+ghost use Rattle.std.specs.Prelude.{◌≡◌, ◌≤◌, IfOk, map};
 ghost use Rattle.std.specs.List.{range_with_len};
 ghost use Rattle.exploration_texts.specs.Stops as spec;
 ghost use Rattle.round_explorer.specs.Questions.{failure_of};
@@ -11,16 +11,15 @@ use round_meaning::Setup;
 use slot_plans::Plan;
 use std::alloc::Global;
 
-/// How many steps each node takes if nodes fail so: one that crashes stops after its sends of the
-/// round in which it crashes, and the others take all steps of the run.
+/// How many steps each node takes if nodes fail so: one that crashes in one of the rounds stops
+/// after its sends of that round, and the others take all steps of the run.
 pub fn stops_of<P: Plan>(
     alloc: Global,
     setup: &Setup,
     pattern: &[Failure],
     plan: P,
 ) -> Result<Vec<u32>, NoMemory>
-    requires rounds { setup.now.rounds ≤ max_rounds }
-    requires within { spec.AreWithin setup.now.rounds pattern.now }
+    requires { setup.now.rounds ≤ max_rounds }
     ensures { IfOk result (λ stops. stops.items ≡ map (spec.steps_of (P.nodes plan) (P.start plan)
         setup.now.rounds pattern.now) (range_with_len 0 setup.now.nodes)) }
 {
@@ -42,12 +41,13 @@ fn failure_of(pattern: &[Failure], node: u32) -> Failure
 }
 
 fn steps_with<P: Plan>(rounds: u32, failure: Failure, plan: &P) -> u32
-    requires rounds { rounds ≤ max_rounds }
-    requires within { (c : ℕ) → failure ≡ Failure.Crashes c → (1 ≤ c) × (c ≤ rounds) }
+    requires { rounds ≤ max_rounds }
     ensures { result ≡ spec.steps_with (P.nodes plan.now) (P.start plan.now) rounds failure }
 {
     match failure {
-        Failure::Never | Failure::Omits => plan.start(rounds + 1),
-        Failure::Crashes(round) => plan.start(round) + plan.nodes(),
+        Failure::Crashes(round) if 1 <= round && round <= rounds => {
+            plan.start(round) + plan.nodes()
+        }
+        _ => plan.start(rounds + 1),
     }
 }

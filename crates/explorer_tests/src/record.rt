@@ -7,6 +7,8 @@ use std::sync::atomic::{AtomicBool, AtomicU32, AtomicU64, Ordering};
 #[derive(Drop)]
 pub struct Record {
     notes: AtomicU32,
+    case: AtomicU64,
+    cases: AtomicU64,
     round: AtomicU32,
     states: AtomicU64,
     transitions: AtomicU64,
@@ -17,6 +19,8 @@ impl Record {
     pub fn new() -> Record {
         Record {
             notes: AtomicU32::new(0),
+            case: AtomicU64::new(0),
+            cases: AtomicU64::new(0),
             round: AtomicU32::new(1),
             states: AtomicU64::new(0),
             transitions: AtomicU64::new(0),
@@ -26,6 +30,8 @@ impl Record {
 
     fn last(&self) -> Progress {
         Progress {
+            case: self.case.load(Ordering::SeqCst),
+            cases: self.cases.load(Ordering::SeqCst),
             round: self.round.load(Ordering::SeqCst),
             states: self.states.load(Ordering::SeqCst),
             transitions: self.transitions.load(Ordering::SeqCst),
@@ -38,6 +44,8 @@ impl Watch for Record {
         if !follows(self.last(), progress) {
             self.is_ordered.store(false, Ordering::SeqCst);
         }
+        self.case.store(progress.case, Ordering::SeqCst);
+        self.cases.store(progress.cases, Ordering::SeqCst);
         self.round.store(progress.round, Ordering::SeqCst);
         self.states.store(progress.states, Ordering::SeqCst);
         self.transitions
@@ -46,10 +54,13 @@ impl Watch for Record {
     }
 }
 
-/// Whether no count falls, and no round but to the first one of other inputs or another pattern.
+/// Whether no count falls, and no round but to the first one of another case.
 fn follows(before: Progress, progress: Progress) -> bool {
-    let is_later = progress.round == 1 || before.round <= progress.round;
-    is_later && before.states <= progress.states && before.transitions <= progress.transitions
+    let is_next = progress.round == 1 && before.case < progress.case;
+    let is_later = before.case == progress.case && before.round <= progress.round;
+    (is_next || is_later)
+        && before.states <= progress.states
+        && before.transitions <= progress.transitions
 }
 
 impl fmt::Display for Record {
@@ -62,8 +73,10 @@ impl fmt::Display for Record {
         };
         write!(
             f,
-            "{} notes {order} to round {}",
+            "{} notes {order} to {} of {} round {}",
             self.notes.load(Ordering::SeqCst),
+            last.case,
+            last.cases,
             last.round
         )?;
         write!(

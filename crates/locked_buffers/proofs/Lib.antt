@@ -4,3 +4,4 @@ pub mod Noted
 pub mod Alike
 pub mod NetworkEvents
 pub mod Copied
+pub mod Read

@@ -167,3 +167,8 @@ abbrev pub CopyFails : {P : Type 0} → (P → ℕ → ℕ) → Run P → Buffer
     → RelayFault → Type 0
 CopyFails start r s b n relay.Stranger = ¬ AgreesTwice start r s b n
 CopyFails start r s b n relay.NoMemory = AgreesTwice start r s b n
+
+-- why a record isn't read
+abbrev pub IsUnreadable : {P : Type 0} → Run P → Recorded P → RelayFault → Type 0
+IsUnreadable r b relay.Stranger = ¬ IsBookOfRun r b
+IsUnreadable r b relay.NoMemory = IsBookOfRun r b

@@ -4,8 +4,10 @@ use Rattle.round_lang.specs.Syntax.{ProgramTree}
 use Rattle.round_meaning.specs.Rounds.{Algorithm, algorithm_of}
 use Rattle.round_meaning.specs.Setups.{IsLawful}
 use Rattle.round_meaning.specs.declared.setup.Setup.{Setup}
+use Rattle.step_book.specs.Agreed.{JournalAgrees}
 use Rattle.step_book.specs.Flight.{IsFlight}
-use Rattle.step_book.specs.Log.{HasNoCopy, IsLeastCopy, Recorded, history, world_of}
+use Rattle.step_book.specs.Log.{HasNoCopy, IsLeastCopy, Recorded, history, mark_in, waiting_in}
+use Rattle.step_book.specs.Log.{world_of}
 use Rattle.step_book.specs.Serials.{AreSent}
 use Rattle.step_machine.specs.declared.event.InFlight.{InFlight}
 use Rattle.step_machine.specs.declared.event.Name.{Name}
@@ -31,22 +33,42 @@ pub record IsBookOfRun {P : Type 0} (r : Run P) (b : Recorded P) : Type 0 where
   pub program : b.log.program ≡ r.program
   pub setup : b.log.setup ≡ r.setup
 
--- the copies that are in flight after the events of some record, and how many events it has
-pub record IsFlightOfOne {P : Type 0} (start : P → ℕ → ℕ) (flight : List InFlight) (count : ℕ)
+-- the record is of the run, and what is recorded agrees with the run in rounds
+pub record IsRecordOfRun {P : Type 0} (start : P → ℕ → ℕ) (r : Run P) (b : Recorded P)
     : Type 0 where
-  pub one : Recorded P
-  pub flies : IsFlight (start one.plan) one.log flight
-  pub counted : count ≡ length one.log.trace
+  pub of_run : IsBookOfRun r b
+  pub agrees : JournalAgrees (start b.plan) b.log (mark_in (start b.plan) b.log)
+      (waiting_in (start b.plan) b.log)
 
--- these are the messages that were sent by the events of some record, but for this many that were
--- sent first, after those that were there before; and how many events it has
-pub record AddsSent {P : Type 0} (start : P → ℕ → ℕ) (known : ℕ) (old new : List Name) (count : ℕ)
-    : Type 0 where
-  pub one : Recorded P
+-- the copies that are in flight after the events of a record, and how many events it has
+pub record IsFlightAfter {P : Type 0} (start : P → ℕ → ℕ) (b : Recorded P) (flight : List InFlight)
+    (count : ℕ) : Type 0 where
+  pub flies : IsFlight (start b.plan) b.log flight
+  pub counted : count ≡ length b.log.trace
+
+-- the copies that are in flight after the events of some record of the run, which agrees with the
+-- run in rounds, and how many events it has
+abbrev pub IsFlightInRun : {P : Type 0} → (P → ℕ → ℕ) → Run P → List InFlight → (count : ℕ)
+    → Type 0
+IsFlightInRun {P} start r flight count =
+    (one : Recorded P) × IsRecordOfRun start r one × IsFlightAfter start one flight count
+
+-- these are the messages that were sent by the events of a record, but for this many that were sent
+-- first, after those that were there before; and how many events it has
+pub record AddsSentAfter {P : Type 0} (start : P → ℕ → ℕ) (b : Recorded P) (known : ℕ)
+    (old new : List Name) (count : ℕ) : Type 0 where
   pub messages : List Name
-  pub are : AreSent (world_of (start one.plan) one.log) (history one.log) messages
+  pub are : AreSent (world_of (start b.plan) b.log) (history b.log) messages
   pub adds : new ≡ old ++ drop known messages
-  pub counted : count ≡ length one.log.trace
+  pub counted : count ≡ length b.log.trace
+
+-- these are the messages that were sent by the events of some record of the run, which agrees with
+-- the run in rounds; but for so many that were sent first, after those that were there before; and
+-- how many events it has
+abbrev pub AddsSentInRun : {P : Type 0} → (P → ℕ → ℕ) → Run P → (known : ℕ) → (old new : List Name)
+    → (count : ℕ) → Type 0
+AddsSentInRun {P} start r known old new count =
+    (one : Recorded P) × IsRecordOfRun start r one × AddsSentAfter start one known old new count
 
 -- the copy is the least of the message that can be made after a record, or there is none
 abbrev pub IsNextCopy : {P : Type 0} → (P → ℕ → ℕ) → Recorded P → Name → Option Name → Type 0
@@ -54,7 +76,8 @@ IsNextCopy start one n (Some m) =
     (m ≡ record n { copy = m.copy }) × IsLeastCopy (start one.plan) one.log n m.copy
 IsNextCopy start one n None = HasNoCopy (start one.plan) one.log n
 
--- after the events of some record, this is the least copy of the message that can be made, or there
--- is none
-abbrev pub IsNextCopyInOne : {P : Type 0} → (P → ℕ → ℕ) → Name → Option Name → Type 0
-IsNextCopyInOne {P} start n o = (one : Recorded P) × IsNextCopy start one n o
+-- after the events of some record of the run, which agrees with the run in rounds, this is the
+-- least copy of the message that can be made, or there is none
+abbrev pub IsNextCopyInRun : {P : Type 0} → (P → ℕ → ℕ) → Run P → Name → Option Name → Type 0
+IsNextCopyInRun {P} start r n o =
+    (one : Recorded P) × IsRecordOfRun start r one × IsNextCopy start one n o

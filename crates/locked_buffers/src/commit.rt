@@ -21,11 +21,12 @@ ghost use Rattle.locked_buffers.specs.Runs.{algorithm_by};
 use crate::account::are_same_names;
 use crate::fault::PostFault;
 use crate::network::agree;
+use crate::node_buffer::NodeBuffer;
 use crate::run::Run;
 use crate::seat::Seat;
 use slot_plans::Plan;
 use std::sync::Arc;
-use step_book::{Book, Buffer, CloseFault, Mailbox, ReceiveFault, Refused, SendFault, room};
+use step_book::{Book, CloseFault, Mailbox, ReceiveFault, Refused, SendFault, room};
 use step_journal::Took;
 use step_machine::{Finished, Prepared, StoredState};
 
@@ -33,19 +34,21 @@ use step_machine::{Finished, Prepared, StoredState};
 pub(crate) fn commit_send<P: Plan>(
     run: &Run<P>,
     seat: &mut Seat,
-    buffer: &mut Buffer,
+    buffer: &mut NodeBuffer,
     book: &mut Book<P>,
     prepared: Prepared,
     has_frame: bool,
 ) -> Result<(), Refused>
+    requires own { buffer.old.node ≡ prepared.name.to }
     requires name { IsName run.now.setup prepared.name }
     requires work { IsPrepared (algorithm_by run.now) prepared }
     requires small { seat.old.steps < 2 ^ 33 }
-    requires of_run { IsOfRun run.now.program run.now.setup buffer.old }
-    requires place { HasPlace buffer.old.flying prepared.name.round
+    requires of_run { IsOfRun run.now.program run.now.setup buffer.old.frames }
+    requires place { HasPlace buffer.old.frames.flying prepared.name.round
         (place_among run.now.setup.nodes prepared.name) }
-    requires frame { HasFrame (flying_at buffer.old prepared.name.round
+    requires frame { HasFrame (flying_at buffer.old.frames prepared.name.round
         (place_among run.now.setup.nodes prepared.name)) has_frame }
+    ensures own { buffer.new.node ≡ buffer.old.node }
     ensures recorded { OnOk result (book.new ≡ record book.old {
       log = happened book.old.log
           (event.Step prepared.name.from);
@@ -54,15 +57,16 @@ pub(crate) fn commit_send<P: Plan>(
     ensures seat { OnOk result (seat.new ≡ record seat.old { steps = seat.old.steps + 1 }) }
     ensures unseated { OnErr result (seat.new ≡ seat.old) }
     ensures frame { OnOk result (PutsFrame prepared.name.round
-        (place_among run.now.setup.nodes prepared.name) (frame_of prepared) buffer.old buffer.new) }
+        (place_among run.now.setup.nodes prepared.name) (frame_of prepared) buffer.old.frames
+        buffer.new.frames) }
     ensures unchanged { OnErr result (buffer.new ≡ buffer.old) }
-    ensures taken { OnOk result (TakesSend P.start run.now buffer.old book.old prepared) }
-    ensures cause { IfErr result (λ refused. SendFails P.start run.now buffer.old book.old prepared
-        refused.fault) }
+    ensures taken { OnOk result (TakesSend P.start run.now buffer.old.frames book.old prepared) }
+    ensures cause { IfErr result (λ refused. SendFails P.start run.now buffer.old.frames book.old
+        prepared refused.fault) }
     ensures back { IfErr result (λ refused. refused.prepared ≡ prepared) }
 {
     let name = prepared.name();
-    if !agree(run, buffer, book, name, has_frame) {
+    if !agree(run, &buffer.frames, book, name, has_frame) {
         return Err(Refused {
             fault: SendFault::Stranger,
             prepared,
@@ -85,7 +89,7 @@ pub(crate) fn commit_send<P: Plan>(
     }
     seat.steps += 1;
     if let Some(frame) = prepared.into_sealed() {
-        buffer.put(name.round, place, frame);
+        buffer.frames.put(name.round, place, frame);
     }
     Ok(())
 }
@@ -96,13 +100,15 @@ pub(crate) fn commit_receive<P: Plan>(
     run: &Run<P>,
     node: u32,
     mail: &mut Mailbox,
-    buffer: &mut Buffer,
+    buffer: &mut NodeBuffer,
     book: &mut Book<P>,
 ) -> Result<Took, PostFault>
+    requires own { buffer.old.node ≡ node }
     requires node { node < run.now.setup.nodes }
-    requires of_run { IsOfRun run.now.program run.now.setup buffer.old }
-    requires names { mail.old.waiting ≡ names_in buffer.old.waiting }
+    requires of_run { IsOfRun run.now.program run.now.setup buffer.old.frames }
+    requires names { mail.old.waiting ≡ names_in buffer.old.frames.waiting }
     requires known { All (IsName run.now.setup) mail.old.waiting }
+    ensures own { buffer.new.node ≡ buffer.old.node }
     ensures recorded { OnOk result (book.new ≡ record book.old {
       log = happened book.old.log
           (event.Step node);
@@ -111,11 +117,11 @@ pub(crate) fn commit_receive<P: Plan>(
     ensures noted { IfOk result (λ took. mail.new.handed
         ≡ mail.old.handed ++ names_in took.frames.items ∷ []) }
     ensures unnoted { OnErr result (mail.new.handed ≡ mail.old.handed) }
-    ensures frames { IfOk result (λ took. took.frames.items ≡ buffer.old.waiting) }
-    ensures left { OnOk result (TakesAll buffer.old buffer.new) }
+    ensures frames { IfOk result (λ took. took.frames.items ≡ buffer.old.frames.waiting) }
+    ensures left { OnOk result (TakesAll buffer.old.frames buffer.new.frames) }
     ensures unchanged { OnErr result (buffer.new ≡ buffer.old) }
-    ensures taken { OnOk result (TakesReceive P.start run.now buffer.old book.old node) }
-    ensures cause { IfErr result (ReceiveFails P.start run.now buffer.old book.old node) }
+    ensures taken { OnOk result (TakesReceive P.start run.now buffer.old.frames book.old node) }
+    ensures cause { IfErr result (ReceiveFails P.start run.now buffer.old.frames book.old node) }
     ensures mail { IfOk result (λ took. All (IsMail (algorithm_by run.now) run.now.setup.nodes
         node) took.frames.items) }
 {
@@ -123,7 +129,7 @@ pub(crate) fn commit_receive<P: Plan>(
         return Err(PostFault::Stranger);
     }
     book.agrees();
-    buffer.honest();
+    buffer.frames.honest();
     mail.hand_out()?;
     match book.receive(node) {
         Ok(()) => {}
@@ -132,7 +138,7 @@ pub(crate) fn commit_receive<P: Plan>(
             return Err(fault_of_receive(fault));
         }
     }
-    let frames = buffer.take();
+    let frames = buffer.frames.take();
     Ok(Took { frames })
 }
 

@@ -1,5 +1,8 @@
 //! How the locks of a post are taken.
+ghost use Rattle.std.specs.Prelude.{◌≡◌, ◌<◌, IfSome, length};
+ghost use Rattle.std.specs.Sync.Mutex.{mutex_guard_value};
 
+use crate::node_buffer::NodeBuffer;
 use std::hint::spin_loop;
 use std::sync::atomic::AtomicU64;
 use std::sync::{Mutex, MutexGuard, Wait};
@@ -29,11 +32,28 @@ fn tried<T>(lock: &Mutex<T>, times: u32) -> Option<MutexGuard<'_, T>> {
 
 /// Takes a buffer's lock, which is held for less time than it takes to sleep and be woken, so it's
 /// tried for a while first.
-pub(crate) fn take_buffer<'a, T, R: Wait>(rt: &R, lock: &'a Mutex<T>) -> MutexGuard<'a, T> {
+fn take_one<'a, T, R: Wait>(rt: &R, lock: &'a Mutex<T>) -> MutexGuard<'a, T> {
     match tried(lock, BUFFER_TRIES) {
         Some(guard) => guard,
         None => lock.lock(rt),
     }
+}
+
+/// Takes the lock of a node's buffer. `None`: another node's buffer stands under it, which no
+/// contract of a lock can rule out.
+pub(crate) fn take_buffer<'a, R: Wait>(
+    rt: &R,
+    locks: &'a [Mutex<NodeBuffer>],
+    node: u32,
+) -> Option<MutexGuard<'a, NodeBuffer>>
+    requires { node < length locks.now }
+    ensures { IfSome result (λ buffer. (mutex_guard_value buffer).node ≡ node) }
+{
+    let buffer = take_one(rt, &locks[node as usize]);
+    if buffer.node != node {
+        return None;
+    }
+    Some(buffer)
 }
 
 /// The book's lock, if it can be had at once. Whoever holds a buffer's lock lets go of it before

@@ -12,6 +12,7 @@ ghost use Rattle.locked_buffers.specs.Commits.{AddsCopy, Agrees, AgreesTwice, Co
 ghost use Rattle.locked_buffers.specs.Commits.{HasFrame, LetsGo, PutsFrame, RelayFails, told_with};
 
 use crate::fault::RelayFault;
+use crate::node_buffer::NodeBuffer;
 use crate::ready::has_frame;
 use crate::run::Run;
 use crate::seat::Relay;
@@ -43,16 +44,18 @@ pub(crate) fn agree<P: Plan>(
 pub(crate) fn commit_release<P: Plan>(
     run: &Run<P>,
     relay: &mut Relay,
-    buffer: &mut Buffer,
+    buffer: &mut NodeBuffer,
     book: &mut Book<P>,
     name: Name,
     has_frame: bool,
 ) -> Result<bool, RelayFault>
+    requires own { buffer.old.node ≡ name.to }
     requires name { IsName run.now.setup name }
-    requires of_run { IsOfRun run.now.program run.now.setup buffer.old }
-    requires room { 0 < buffer.old.spare }
+    requires of_run { IsOfRun run.now.program run.now.setup buffer.old.frames }
+    requires room { 0 < buffer.old.frames.spare }
     requires frame { HasFrame
-        (flying_at buffer.old name.round (place_among run.now.setup.nodes name)) has_frame }
+        (flying_at buffer.old.frames name.round (place_among run.now.setup.nodes name)) has_frame }
+    ensures own { buffer.new.node ≡ buffer.old.node }
     ensures recorded { OnOk result (book.new ≡ record book.old {
       log = happened book.old.log
           (event.Release name);
@@ -63,13 +66,13 @@ pub(crate) fn commit_release<P: Plan>(
     ensures told { IfOk result (λ moved. relay.new ≡ told_with relay.old (event.Release name)
         moved) }
     ensures untold { OnErr result (relay.new ≡ relay.old) }
-    ensures frame { OnOk result (LetsGo name.round (place_among run.now.setup.nodes name) buffer.old
-        buffer.new) }
+    ensures frame { OnOk result (LetsGo name.round (place_among run.now.setup.nodes name)
+        buffer.old.frames buffer.new.frames) }
     ensures unchanged { OnErr result (buffer.new ≡ buffer.old) }
-    ensures taken { OnOk result (Agrees P.start run.now buffer.old book.old name) }
-    ensures cause { IfErr result (RelayFails P.start run.now buffer.old book.old name) }
+    ensures taken { OnOk result (Agrees P.start run.now buffer.old.frames book.old name) }
+    ensures cause { IfErr result (RelayFails P.start run.now buffer.old.frames book.old name) }
 {
-    if !agree(run, buffer, book, name, has_frame) {
+    if !agree(run, &buffer.frames, book, name, has_frame) {
         return Err(RelayFault::Stranger);
     }
     run.sound();
@@ -77,7 +80,7 @@ pub(crate) fn commit_release<P: Plan>(
     room(&mut relay.answers)?;
     let moved = book.release(name)?;
     if moved {
-        buffer.let_go(name.round, run.place(name));
+        buffer.frames.let_go(name.round, run.place(name));
     }
     relay
         .events
@@ -90,15 +93,17 @@ pub(crate) fn commit_release<P: Plan>(
 pub(crate) fn commit_drop<P: Plan>(
     run: &Run<P>,
     relay: &mut Relay,
-    buffer: &mut Buffer,
+    buffer: &mut NodeBuffer,
     book: &mut Book<P>,
     name: Name,
     has_frame: bool,
 ) -> Result<bool, RelayFault>
+    requires own { buffer.old.node ≡ name.to }
     requires name { IsName run.now.setup name }
-    requires of_run { IsOfRun run.now.program run.now.setup buffer.old }
+    requires of_run { IsOfRun run.now.program run.now.setup buffer.old.frames }
     requires frame { HasFrame
-        (flying_at buffer.old name.round (place_among run.now.setup.nodes name)) has_frame }
+        (flying_at buffer.old.frames name.round (place_among run.now.setup.nodes name)) has_frame }
+    ensures own { buffer.new.node ≡ buffer.old.node }
     ensures recorded { OnOk result (book.new ≡ record book.old {
       log = happened book.old.log
           (event.Drop name);
@@ -109,12 +114,12 @@ pub(crate) fn commit_drop<P: Plan>(
     ensures told { IfOk result (λ lost. relay.new ≡ told_with relay.old (event.Drop name) lost) }
     ensures untold { OnErr result (relay.new ≡ relay.old) }
     ensures frame { OnOk result (PutsFrame name.round (place_among run.now.setup.nodes name) None
-        buffer.old buffer.new) }
+        buffer.old.frames buffer.new.frames) }
     ensures unchanged { OnErr result (buffer.new ≡ buffer.old) }
-    ensures taken { OnOk result (Agrees P.start run.now buffer.old book.old name) }
-    ensures cause { IfErr result (RelayFails P.start run.now buffer.old book.old name) }
+    ensures taken { OnOk result (Agrees P.start run.now buffer.old.frames book.old name) }
+    ensures cause { IfErr result (RelayFails P.start run.now buffer.old.frames book.old name) }
 {
-    if !agree(run, buffer, book, name, has_frame) {
+    if !agree(run, &buffer.frames, book, name, has_frame) {
         return Err(RelayFault::Stranger);
     }
     run.sound();
@@ -123,7 +128,7 @@ pub(crate) fn commit_drop<P: Plan>(
     let place = run.place(name);
     let lost = book.drop_copy(name)?;
     if lost {
-        buffer.remove(name.round, place);
+        buffer.frames.remove(name.round, place);
     }
     relay
         .events
@@ -137,19 +142,21 @@ pub(crate) fn commit_drop<P: Plan>(
 pub(crate) fn commit_copy<P: Plan>(
     run: &Run<P>,
     relay: &mut Relay,
-    buffer: &mut Buffer,
+    buffer: &mut NodeBuffer,
     book: &mut Book<P>,
     name: Name,
     frame: Option<Sealed>,
 ) -> Result<bool, RelayFault>
+    requires own { buffer.old.node ≡ name.to }
     requires name { IsName run.now.setup name }
     requires other { 0 < name.copy }
-    requires of_run { IsOfRun run.now.program run.now.setup buffer.old }
-    requires place { HasPlace buffer.old.flying name.round
+    requires of_run { IsOfRun run.now.program run.now.setup buffer.old.frames }
+    requires place { HasPlace buffer.old.frames.flying name.round
         (place_among run.now.setup.nodes name) }
     requires copied { frame ≡ option_map (copied_as name.copy)
-        (flying_at buffer.old name.round
+        (flying_at buffer.old.frames name.round
         (place_among run.now.setup.nodes (original name))) }
+    ensures own { buffer.new.node ≡ buffer.old.node }
     ensures recorded { OnOk result (book.new ≡ record book.old {
       log = happened book.old.log
           (event.Copy name);
@@ -159,27 +166,27 @@ pub(crate) fn commit_copy<P: Plan>(
         name) }
     ensures told { IfOk result (λ made. relay.new ≡ told_with relay.old (event.Copy name) made) }
     ensures untold { OnErr result (relay.new ≡ relay.old) }
-    ensures frame { IfOk result (λ made. AddsCopy run.now.setup.nodes name buffer.old buffer.new
-        made) }
+    ensures frame { IfOk result (λ made. AddsCopy run.now.setup.nodes name buffer.old.frames
+        buffer.new.frames made) }
     ensures unchanged { OnErr result (buffer.new ≡ buffer.old) }
-    ensures taken { OnOk result (AgreesTwice P.start run.now buffer.old book.old name) }
-    ensures cause { IfErr result (CopyFails P.start run.now buffer.old book.old name) }
+    ensures taken { OnOk result (AgreesTwice P.start run.now buffer.old.frames book.old name) }
+    ensures cause { IfErr result (CopyFails P.start run.now buffer.old.frames book.old name) }
 {
-    let has_copy = has_frame(run, buffer, name);
-    let has_original = has_frame(run, buffer, name.original());
-    if !agree(run, buffer, book, name, has_copy)
-        || !agree(run, buffer, book, name.original(), has_original)
+    let has_copy = has_frame(run, &buffer.frames, name);
+    let has_original = has_frame(run, &buffer.frames, name.original());
+    if !agree(run, &buffer.frames, book, name, has_copy)
+        || !agree(run, &buffer.frames, book, name.original(), has_original)
     {
         return Err(RelayFault::Stranger);
     }
     run.sound();
     room(&mut relay.events)?;
     room(&mut relay.answers)?;
-    buffer.honest();
+    buffer.frames.honest();
     let made = book.make_copy(name)?;
     if made {
         if let Some(frame) = frame {
-            buffer.put(name.round, run.place(name), frame);
+            buffer.frames.put(name.round, run.place(name), frame);
         }
     }
     relay

@@ -10,8 +10,8 @@ ghost use Rattle.step_machine.specs.Sealed.{IsPrepared};
 ghost use Rattle.step_machine.specs.declared.event.Event.TheVariants as event;
 ghost use Rattle.locked_buffers.specs.Accounts.{AccountsAgree};
 ghost use Rattle.locked_buffers.specs.Commits.{told_with};
-ghost use Rattle.locked_buffers.specs.Runs.{AddsSent, IsBookOfRun, IsFlightOfOne, IsNextCopyInOne};
-ghost use Rattle.locked_buffers.specs.Runs.{algorithm_by};
+ghost use Rattle.locked_buffers.specs.Runs.{AddsSentInRun, IsBookOfRun, IsFlightInRun};
+ghost use Rattle.locked_buffers.specs.Runs.{IsNextCopyInRun, algorithm_by};
 ghost use Rattle.locked_buffers.specs.Seats.{Account, CloseBlame, MayClose, MayReceive, MaySend};
 ghost use Rattle.locked_buffers.specs.Seats.{ReceiveBlame, SendBlame, opening};
 
@@ -21,6 +21,8 @@ use crate::fault::{PostFault, RelayFault, Unmatched};
 use crate::gate::{Gate, Point};
 use crate::locking::{Turn, take_book, take_buffer, try_book};
 use crate::network::{commit_copy, commit_drop, commit_release};
+use crate::node_buffer::NodeBuffer;
+use crate::reading::{read_copy, read_flight, read_sent};
 use crate::ready::{copy_of, has_frame, make_place, make_room, note_names};
 use crate::refusals::{may_close, refuses_receive, refuses_send};
 use crate::run::Run;
@@ -32,7 +34,7 @@ use slot_plans::Plan;
 use std::alloc::Global;
 use std::marker::Model;
 use std::sync::{Mutex, Wait};
-use step_book::{Book, Buffer, CloseFault, Refused, SendFault, add_names};
+use step_book::{Book, Buffer, CloseFault, Refused, SendFault};
 use step_journal::{Journal, Took};
 use step_machine::{Finished, InFlight, Name, Prepared};
 
@@ -44,7 +46,7 @@ pub struct Post<P: Plan> {
     run: Run<P>,
     /// By itself, so that reading the run shares no cache line with what is written under the lock.
     book: Box<Mutex<Book<P>>>,
-    buffers: Vec<Mutex<Buffer>>,
+    buffers: Vec<Mutex<NodeBuffer>>,
     returned: Vec<Buffer>,
 }
 
@@ -83,12 +85,13 @@ fn opening_buffers(
     alloc: Global,
     program: &Checked,
     setup: &Setup,
-) -> Result<Vec<Mutex<Buffer>>, NoMemory>
+) -> Result<Vec<Mutex<NodeBuffer>>, NoMemory>
     ensures { IfOk result (λ buffers. vec_len buffers ≡ setup.now.nodes) }
 {
     let mut buffers = Vec::new(alloc);
-    for _node in 0..setup.nodes {
-        buffers.push(Mutex::new(Buffer::new(alloc, program, setup)?))?;
+    for node in 0..setup.nodes {
+        let buffer = NodeBuffer::new(alloc, program, setup, node)?;
+        buffers.push(Mutex::new(buffer))?;
     }
     Ok(buffers)
 }
@@ -153,7 +156,12 @@ impl<P: Plan> Post<P> {
         }
         let mut turn = Turn::new();
         for _ in rt.forever() {
-            let mut buffer = take_buffer(rt, &self.buffers[name.to as usize]);
+            let Some(mut buffer) = take_buffer(rt, &self.buffers, name.to) else {
+                return Err(Refused {
+                    fault: SendFault::Stranger,
+                    prepared,
+                });
+            };
             if !turn.gave_way() {
                 gate.pass(Point::Send(name));
             }
@@ -197,8 +205,10 @@ impl<P: Plan> Post<P> {
         let node = seat.node();
         let mut turn = Turn::new();
         for _ in rt.forever() {
-            let mut buffer = take_buffer(rt, &self.buffers[node as usize]);
-            note_names(&self.run, &buffer, &mut seat.handed)?;
+            let Some(mut buffer) = take_buffer(rt, &self.buffers, node) else {
+                return Err(PostFault::Stranger);
+            };
+            note_names(&self.run, &buffer.frames, &mut seat.handed)?;
             if let Some(mut book) = try_book(&self.book) {
                 let took = commit_receive(
                     &self.run,
@@ -259,7 +269,9 @@ impl<P: Plan> Post<P> {
     {
         let mut turn = Turn::new();
         for _ in rt.forever() {
-            let mut buffer = take_buffer(rt, &self.buffers[name.to as usize]);
+            let Some(mut buffer) = take_buffer(rt, &self.buffers, name.to) else {
+                return Err(RelayFault::Stranger);
+            };
             let has_frame = make_room(&self.run, &mut buffer, name)?;
             if let Some(mut book) = try_book(&self.book) {
                 return commit_release(&self.run, relay, &mut buffer, &mut book, name, has_frame);
@@ -283,11 +295,13 @@ impl<P: Plan> Post<P> {
     {
         let mut turn = Turn::new();
         for _ in rt.forever() {
-            let mut buffer = take_buffer(rt, &self.buffers[name.to as usize]);
-            if !self.run.has_buffer(&buffer) {
+            let Some(mut buffer) = take_buffer(rt, &self.buffers, name.to) else {
+                return Err(RelayFault::Stranger);
+            };
+            if !self.run.has_buffer(&buffer.frames) {
                 return Err(RelayFault::Stranger);
             }
-            let is_there = has_frame(&self.run, &buffer, name);
+            let is_there = has_frame(&self.run, &buffer.frames, name);
             if let Some(mut book) = try_book(&self.book) {
                 return commit_drop(&self.run, relay, &mut buffer, &mut book, name, is_there);
             }
@@ -312,9 +326,11 @@ impl<P: Plan> Post<P> {
     {
         let mut turn = Turn::new();
         for _ in rt.forever() {
-            let mut buffer = take_buffer(rt, &self.buffers[name.to as usize]);
+            let Some(mut buffer) = take_buffer(rt, &self.buffers, name.to) else {
+                return Err(RelayFault::Stranger);
+            };
             let _is_there = make_place(&self.run, &mut buffer, name)?;
-            let frame = copy_of(&self.run, &buffer, name)?;
+            let frame = copy_of(&self.run, &buffer.frames, name)?;
             if let Some(mut book) = try_book(&self.book) {
                 return commit_copy(&self.run, relay, &mut buffer, &mut book, name, frame);
             }
@@ -326,47 +342,42 @@ impl<P: Plan> Post<P> {
 
     /// The copies in flight, in the order of their messages' serials and then of the copy numbers,
     /// and how many events are recorded: both of one moment, since they are read under one lock.
-    pub fn flight<R: Wait>(&self, rt: &R) -> Result<(Vec<InFlight>, usize), NoMemory>
-        ensures { IfOk result (λ o. IsFlightOfOne P.start o.0.items o.1) }
+    /// Refused as [`RelayFault::Stranger`] if the book is of another run.
+    pub fn flight<R: Wait>(&self, rt: &R) -> Result<(Vec<InFlight>, usize), RelayFault>
+        ensures { IfOk result (λ o. IsFlightInRun P.start self.now o.0.items o.1) }
     {
         let book = take_book(rt, &self.book);
-        let flight = book.flight(self.alloc)?;
-        Ok((flight, book.trace().len()))
+        read_flight(&self.run, self.alloc, &book)
     }
 
     /// Adds to `sent` the names of all messages that were sent after the first `known`, in the
     /// order of their serials, and answers how many events are recorded: both of one moment, since
-    /// they are read under one lock.
+    /// they are read under one lock. Refused as [`RelayFault::Stranger`] if the book is of another
+    /// run.
     pub fn sent_since<R: Wait>(
         &self,
         rt: &R,
         known: usize,
         sent: &mut Vec<Name>,
-    ) -> Result<usize, NoMemory>
-        ensures ok { IfOk result (λ count. AddsSent P.start known sent.old.items sent.new.items
-            count) }
+    ) -> Result<usize, RelayFault>
+        ensures ok { IfOk result (AddsSentInRun P.start self.now known sent.old.items
+            sent.new.items) }
         ensures err { OnErr result (sent.new.items ≡ sent.old.items) }
     {
         let book = take_book(rt, &self.book);
-        if let Some(rest) = book.messages().get(known..) {
-            add_names(sent, rest)?;
-        }
-        Ok(book.trace().len())
+        read_sent(&self.run, &book, known, sent)
     }
 
     /// The least copy of a message that the network can make. `None`: the name is that of a copy
     /// itself, copy 0 isn't in flight, or all copies were made. Refused as [`RelayFault::Stranger`]
-    /// if the book is of another setup.
+    /// if the book is of another run.
     pub fn next_copy<R: Wait>(&self, rt: &R, name: Name) -> Result<Option<Name>, RelayFault>
         requires { IsName self.now.setup name }
-        ensures ok { IfOk result (IsNextCopyInOne P.start name) }
+        ensures ok { IfOk result (IsNextCopyInRun P.start self.now name) }
         ensures known { IfOk result (λ copied. IfSome copied (IsName self.now.setup)) }
     {
         let book = take_book(rt, &self.book);
-        if !self.run.setup.same(book.setup()) {
-            return Err(RelayFault::Stranger);
-        }
-        Ok(book.next_copy(name))
+        read_copy(&self.run, &book, name)
     }
 
     /// The journal of the run, if the seats and the relay were told what is recorded of it, and
@@ -386,7 +397,7 @@ impl<P: Plan> Post<P> {
             mut returned,
         } = self;
         for buffer in buffers {
-            returned.push_reserved(buffer.into_inner());
+            returned.push_reserved(buffer.into_inner().frames);
         }
         let book = Box::into_inner(book).into_inner();
         joined(&run, book, returned, &seats, &relay)

@@ -11,6 +11,7 @@ ghost use Rattle.locked_buffers.specs.Commits.{HasFrame, IsUnread, IsUnready, Sa
 
 use crate::fault::{PostFault, RelayFault};
 use crate::names::add_names_of;
+use crate::node_buffer::NodeBuffer;
 use crate::run::Run;
 use round_lang::NoMemory;
 use slot_plans::Plan;
@@ -22,23 +23,25 @@ use step_machine::{Name, Sealed};
 /// is one at its place already.
 pub(crate) fn make_place<P: Plan>(
     run: &Run<P>,
-    buffer: &mut Buffer,
+    buffer: &mut NodeBuffer,
     name: Name,
 ) -> Result<bool, RelayFault>
-    requires { IsName run.now.setup name }
-    ensures of_run { OnOk result (IsOfRun run.now.program run.now.setup buffer.new) }
+    requires own { buffer.old.node ≡ name.to }
+    requires name { IsName run.now.setup name }
+    ensures own { buffer.new.node ≡ buffer.old.node }
+    ensures of_run { OnOk result (IsOfRun run.now.program run.now.setup buffer.new.frames) }
     ensures frame { IfOk result (HasFrame
-        (flying_at buffer.new name.round (place_among run.now.setup.nodes name))) }
+        (flying_at buffer.new.frames name.round (place_among run.now.setup.nodes name))) }
     ensures place { OnOk result
-        (HasPlace buffer.new.flying name.round (place_among run.now.setup.nodes name)) }
-    ensures same { SameBuffer buffer.old buffer.new }
-    ensures cause { IfErr result (IsUnready run.now buffer.old) }
+        (HasPlace buffer.new.frames.flying name.round (place_among run.now.setup.nodes name)) }
+    ensures same { SameBuffer buffer.old.frames buffer.new.frames }
+    ensures cause { IfErr result (IsUnready run.now buffer.old.frames) }
 {
-    if !run.has_buffer(buffer) {
+    if !run.has_buffer(&buffer.frames) {
         return Err(RelayFault::Stranger);
     }
-    let is_there = has_frame(run, buffer, name);
-    buffer.reserve_flying(name.round, run.place(name))?;
+    let is_there = has_frame(run, &buffer.frames, name);
+    buffer.frames.reserve_flying(name.round, run.place(name))?;
     Ok(is_there)
 }
 
@@ -46,22 +49,24 @@ pub(crate) fn make_place<P: Plan>(
 /// flight at the place of a message.
 pub(crate) fn make_room<P: Plan>(
     run: &Run<P>,
-    buffer: &mut Buffer,
+    buffer: &mut NodeBuffer,
     name: Name,
 ) -> Result<bool, RelayFault>
-    requires { IsName run.now.setup name }
-    ensures of_run { OnOk result (IsOfRun run.now.program run.now.setup buffer.new) }
+    requires own { buffer.old.node ≡ name.to }
+    requires name { IsName run.now.setup name }
+    ensures own { buffer.new.node ≡ buffer.old.node }
+    ensures of_run { OnOk result (IsOfRun run.now.program run.now.setup buffer.new.frames) }
     ensures frame { IfOk result (HasFrame
-        (flying_at buffer.new name.round (place_among run.now.setup.nodes name))) }
-    ensures room { OnOk result (0 < buffer.new.spare) }
-    ensures same { SameBuffer buffer.old buffer.new }
-    ensures cause { IfErr result (IsUnready run.now buffer.old) }
+        (flying_at buffer.new.frames name.round (place_among run.now.setup.nodes name))) }
+    ensures room { OnOk result (0 < buffer.new.frames.spare) }
+    ensures same { SameBuffer buffer.old.frames buffer.new.frames }
+    ensures cause { IfErr result (IsUnready run.now buffer.old.frames) }
 {
-    if !run.has_buffer(buffer) {
+    if !run.has_buffer(&buffer.frames) {
         return Err(RelayFault::Stranger);
     }
-    let is_there = has_frame(run, buffer, name);
-    buffer.reserve_waiting()?;
+    let is_there = has_frame(run, &buffer.frames, name);
+    buffer.frames.reserve_waiting()?;
     Ok(is_there)
 }
 

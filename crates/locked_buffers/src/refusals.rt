@@ -36,8 +36,8 @@ fn is_due<P: Plan>(run: &Run<P>, seat: &Seat) -> bool
     start(run, round + 1) <= seat.steps()
 }
 
-/// Why the node doesn't send this message now.
-pub(crate) fn refuses_send<P: Plan>(run: &Run<P>, seat: &Seat, name: Name) -> Option<SendFault>
+/// Why the node of a seat doesn't send this message now, by its own counts.
+pub fn refuses_send<P: Plan>(run: &Run<P>, seat: &Seat, name: Name) -> Option<SendFault>
     requires { IsName run.now.setup name }
     ensures cause { MatchOption result
         (MaySend (P.start run.now.plan) run.now.setup.rounds seat.now name)
@@ -53,8 +53,8 @@ pub(crate) fn refuses_send<P: Plan>(run: &Run<P>, seat: &Seat, name: Name) -> Op
     None
 }
 
-/// Why the node doesn't receive now.
-pub(crate) fn refuses_receive<P: Plan>(run: &Run<P>, seat: &Seat) -> Option<PostFault>
+/// Why the node of a seat doesn't receive now, by its own counts.
+pub fn refuses_receive<P: Plan>(run: &Run<P>, seat: &Seat) -> Option<PostFault>
     ensures cause { MatchOption result
         (MayReceive (P.start run.now.plan) run.now.setup.nodes run.now.setup.rounds seat.now)
         (ReceiveBlame (P.start run.now.plan) run.now.setup.nodes run.now.setup.rounds seat.now) }
@@ -73,8 +73,8 @@ pub(crate) fn refuses_receive<P: Plan>(run: &Run<P>, seat: &Seat) -> Option<Post
     None
 }
 
-/// Whether the node may close this round now.
-pub(crate) fn may_close<P: Plan>(run: &Run<P>, seat: &Seat, round: u32) -> bool
+/// Whether the node of a seat may close this round now, by its own counts.
+pub fn may_close<P: Plan>(run: &Run<P>, seat: &Seat, round: u32) -> bool
     ensures { IsTrue result ↔ MayClose (P.start run.now.plan) run.now.setup.rounds seat.now round }
 {
     is_due(run, seat) && seat.round() == round as usize

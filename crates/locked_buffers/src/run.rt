@@ -16,7 +16,7 @@ use step_machine::Name;
 
 /// The program, setup and plan of a run.
 #[derive(Drop)]
-pub(crate) struct Run<P: Plan> {
+pub struct Run<P: Plan> {
     pub(crate) program: Checked,
     pub(crate) setup: Setup,
     pub(crate) plan: P,
@@ -42,7 +42,8 @@ impl<P: Plan> Model for Run<P> {
 }
 
 impl<P: Plan> Run<P> {
-    pub(crate) fn new(program: &Checked, setup: &Setup, plan: P) -> Result<Run<P>, NoMemory>
+    /// The run of a program under a setup and a plan.
+    pub fn new(program: &Checked, setup: &Setup, plan: P) -> Result<Run<P>, NoMemory>
         requires lawful { IsLawful program.now.values setup.now }
         requires nodes { P.nodes plan ≡ setup.now.nodes }
         ensures { IfOk result (λ run. run ≡ record {
@@ -68,7 +69,7 @@ impl<P: Plan> Run<P> {
 
     /// Whether a book is of the run.
     #[inline(always)]
-    pub(crate) fn has_book(&self, book: &Book<P>) -> bool
+    pub fn has_book(&self, book: &Book<P>) -> bool
         ensures { IsTrue result ↔ IsBookOfRun self.now book.now }
     {
         self.plan == book.plan()

@@ -1,16 +1,24 @@
 //! What one node, and what the network, was told.
-ghost use Rattle.std.specs.Prelude.{◌≡◌, ◌<◌, ◌∷◌, [], IfOk};
+ghost use Rattle.std.specs.Prelude.{◌≡◌, ◌+◌, ◌-◌, ◌^◌, ◌<◌, ◌∷◌, ◌++◌, []};
+ghost use Rattle.std.specs.Prelude.{IfErr, IfOk, OnErr, OnOk};
 ghost use Rattle.round_meaning.specs.Rounds.{algorithm_of};
+ghost use Rattle.step_book.specs.Buffers.{names_in};
+ghost use Rattle.step_book.specs.Log.{end_state};
+ghost use Rattle.locked_buffers.specs.Commits.{IsUnnamed};
 ghost use Rattle.locked_buffers.specs.Seats.{round_by};
 
+use crate::fault::PostFault;
+use crate::names::add_names_of;
+use crate::run::Run;
 use round_check::Checked;
 use round_lang::NoMemory;
 use round_meaning::{Setup, initial_of, types_are_kept};
+use slot_plans::Plan;
 use std::alloc::Global;
 use std::marker::Model;
 use std::sync::Arc;
-use step_book::{Mailbox, StoredEvent};
-use step_machine::StoredState;
+use step_book::{Mailbox, StoredEvent, Waiting, room};
+use step_machine::{Finished, StoredState};
 
 /// What the calls of one node were told: how many of its steps are recorded, the names that each of
 /// its receives handed out, and its states after 0, 1, .. closed rounds.
@@ -43,7 +51,7 @@ impl Model for Seat {
 
 impl Seat {
     /// A node that was told nothing but its first state.
-    pub(crate) fn open(
+    pub fn open(
         alloc: Global,
         program: &Checked,
         setup: &Setup,
@@ -81,6 +89,46 @@ impl Seat {
         ensures { result ≡ self.now.steps }
     {
         self.steps
+    }
+
+    /// Notes a step, which was recorded.
+    pub fn note_step(&mut self)
+        requires { self.old.steps < 2 ^ 64 - 1 }
+        ensures { self.new ≡ record self.old { steps = self.old.steps + 1 } }
+    {
+        self.steps += 1;
+    }
+
+    /// Notes a receive, which was recorded and handed out these frames. Refused as
+    /// [`PostFault::Stranger`] if one is of no message of the run.
+    pub fn note_receive<P: Plan>(&mut self, run: &Run<P>, frames: &Waiting) -> Result<(), PostFault>
+        requires { self.old.steps < 2 ^ 64 - 1 }
+        ensures ok { OnOk result (self.new ≡ record self.old {
+          steps = self.old.steps + 1;
+          handed = self.old.handed ++ names_in frames.now.items ∷ [];
+        }) }
+        ensures err { OnErr result (self.new ≡ self.old) }
+        ensures cause { IfErr result (IsUnnamed run.now frames.now.items) }
+    {
+        self.handed.forget();
+        add_names_of(run, frames, &mut self.handed)?;
+        self.handed.hand_out()?;
+        self.note_step();
+        Ok(())
+    }
+
+    /// Notes the end of a round, which was recorded, by the state that it ended with.
+    pub fn note_close(&mut self, finished: &Finished<'_>) -> Result<(), NoMemory>
+        ensures ok { OnOk result (self.new ≡ record self.old {
+          states = self.old.states ++ end_state
+              finished.now.node.now ∷ [];
+        }) }
+        ensures err { OnErr result (self.new ≡ self.old) }
+    {
+        let state = finished.stored_state()?;
+        room(&mut self.states)?;
+        self.states.push_reserved(state);
+        Ok(())
     }
 
     /// Its round: the first that isn't closed.

@@ -50,6 +50,7 @@ use Rattle.step_book.specs.contracts.book.Book as book
 use Rattle.step_book.specs.contracts.book.Book.TheInside as book_inside
 use Rattle.step_book.specs.contracts.buffer.Buffer as buffer
 use Rattle.step_book.specs.contracts.buffer.Buffer.TheInside as buffer_inside
+use Rattle.locked_buffers.specs.contracts.node_buffer.NodeBuffer as node_buffer
 use Rattle.locked_buffers.specs.contracts.post.Post as post
 use Rattle.locked_buffers.specs.contracts.post.Post.TheInside as post_inside
 use denote.Struct.Field.{row_field, shr_ref_field}
@@ -144,6 +145,12 @@ buffer_sync = view_sync buffer_inside.the_row _ _ _ _ (declared_sync buffer_insi
   ),
 ))
 
+pub node_buffer_send : IsSend node_buffer.the_row
+node_buffer_send = declared_send node_buffer.the_type (
+  as_row_send buffer.the_field buffer_send,
+  (search sendable, tt),
+)
+
 pub node_send : IsSend node.the_row
 node_send = search (
   checked_send,
@@ -227,7 +234,7 @@ module _ (P : RattleType) (p : plan.Ghosts P.Denot) (e : eq.Ghosts P.Denot) wher
           (
             search (book_send s, crosses, sendable) depth 30,
             (
-              search (buffer_send, crosses, sendable) depth 30,
+              search (node_buffer_send, crosses, sendable) depth 30,
               (search (buffer_sync, crosses, sendable) depth 30, tt),
             ),
           ),

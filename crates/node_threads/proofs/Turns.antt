@@ -26,7 +26,7 @@ use Rattle.std.proofs.Common.{
 }
 use Rattle.std.proofs.lemmas.List.{append-nil, drop_all}
 use Rattle.adversary.specs.Asking.{Chooses}
-use Rattle.locked_buffers.specs.Runs.{AddsSent}
+use Rattle.locked_buffers.specs.Runs.{AddsSentInRun, Run}
 use Rattle.policies.specs.declared.policy.Choice.{Choice}
 use Rattle.schedule_text.specs.declared.pace.Pace.{Pace}
 use Rattle.step_machine.specs.declared.event.Event.{Event}
@@ -47,24 +47,25 @@ use Rattle.node_threads.specs.Turns.{
 }
 
 -- once all names are gone through, all that was sent is known
-pub learnt_all : {P : Type 0} (starts : P → ℕ → ℕ) (start : ℕ → ℕ) (old new : Known)
+pub learnt_all : {P : Type 0} (starts : P → ℕ → ℕ) (r : Run P) (start : ℕ → ℕ) (old new : Known)
     (events place : ℕ) (before sent items : List Name)
-    → AddsSent starts old.count before sent events → before ≡ [] → items ≡ sent
+    → AddsSentInRun starts r old.count before sent events → before ≡ [] → items ≡ sent
     → length items ≤ place
     → new.flight ++ sent_after start new.count (drop place items)
     ≡ old.flight ++ sent_after start old.count items
     → known_with new.count (drop place items) ≡ known_with old.count items
     → new.told ≡ old.told → HasLearnt starts start old new events
-learnt_all starts start old new events place before sent items adds none same all flight count
+learnt_all starts r start old new events place before sent items adds none same all flight count
     told =
     let past : drop place items ≡ [] = drop_all place items all in
-    let are : items ≡ drop old.count adds.messages = same ∙ adds.adds
-    ∙ ap (λ ns. ns ++ drop old.count adds.messages) none in
+    let after = adds.2 in
+    let are : items ≡ drop old.count after.messages = same ∙ after.adds
+    ∙ ap (λ ns. ns ++ drop old.count after.messages) none in
     record {
-      one = adds.one;
-      messages = adds.messages;
-      are = adds.are;
-      counted = adds.counted;
+      one = adds.0;
+      messages = after.messages;
+      are = after.are;
+      counted = after.counted;
       flight = sym (append-nil new.flight)
           ∙ sym (ap (λ ns. new.flight ++ sent_after start new.count ns) past) ∙ flight
           ∙ ap (λ ns. old.flight ++ sent_after start old.count ns) are;

@@ -3,7 +3,7 @@ ghost use Rattle.std.specs.Prelude.{◌≡◌, ◌+◌, ◌-◌, ◌^◌, ◌≤
 ghost use Rattle.std.specs.Prelude.{OnErr, OnOk, Option, None, min};
 ghost use Rattle.locked_buffers.specs.Commits.{told_with};
 ghost use Rattle.round_meaning.specs.Setups.{max_rounds};
-ghost use Rattle.node_threads.specs.Choices.{ComesToInOne, IsCopyInOne, halt_of};
+ghost use Rattle.node_threads.specs.Choices.{ComesToInOne, IsCopyInRun, halt_of};
 ghost use Rattle.node_threads.specs.Flights.{sent_as};
 ghost use Rattle.node_threads.specs.Turns.{HasLearnt, HasRun, IsAskedFor, IsDone, IsTurn};
 ghost use Rattle.node_threads.specs.Turns.{RunsByTurns, tick_in, time_of};
@@ -143,7 +143,7 @@ impl<'a, P: Plan> Network<'a, P> {
 
     /// The least copy of a message that can be made.
     fn copy_of<R: Wait>(&self, rt: &R, name: Name) -> Result<Option<Event>, Halt>
-        ensures { IfOk result (IsCopyInOne P.start name) }
+        ensures { IfOk result (IsCopyInRun P.start self.now.post.now name) }
     {
         if !is_name(self.setup, name) {
             return Err(Halt::Refused);

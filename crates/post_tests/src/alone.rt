@@ -4,7 +4,7 @@ ghost use Rattle.round_meaning.specs.Setups.{IsLawful};
 
 use crate::forwarding::Forwarding;
 use crate::report;
-use locked_buffers::{OpenGate, Post, Seat};
+use locked_buffers::{Mail, OpenGate, Post, Seat};
 use node_threads::{Beat, Ended, run_steps};
 use round_check::Checked;
 use round_meaning::Setup;
@@ -36,15 +36,15 @@ impl Beat for NoBeat {
 }
 
 /// Runs a node that took no step up to its end.
-fn run_alone<R: Wait, P: Plan>(
+fn run_alone<P: Plan, M: Mail<P>>(
     alloc: Global,
-    mail: &Forwarding<'_, R, P>,
+    mail: &M,
     program: &Checked,
     setup: &Setup,
     plan: P,
     seat: Seat,
 ) -> Result<(Seat, Option<Ended>), Fault>
-    requires run { mail.now.post.now ≡ record {
+    requires run { M.run mail.now ≡ record {
       plan = plan;
       program = program.now;
       setup = setup.now;
@@ -69,16 +69,16 @@ fn run_alone<R: Wait, P: Plan>(
 }
 
 /// Runs all nodes, one after another, and tells how each ended.
-fn run_all<R: Wait, P: Plan>(
+pub fn run_all<P: Plan, M: Mail<P>>(
     alloc: Global,
-    mail: &Forwarding<'_, R, P>,
+    mail: &M,
     program: &Checked,
     setup: &Setup,
     plan: P,
     seats: Vec<Seat>,
     out: &mut String,
 ) -> Result<Vec<Seat>, Fault>
-    requires run { mail.now.post.now ≡ record {
+    requires run { M.run mail.now ≡ record {
       plan = plan;
       program = program.now;
       setup = setup.now;

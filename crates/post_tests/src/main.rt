@@ -5,6 +5,7 @@
 //! post_tests strangers SOURCE
 //! post_tests alone SOURCE
 //! post_tests again SOURCE
+//! post_tests memory SOURCE
 //! post_tests others SOURCE
 //! ```
 //!
@@ -20,7 +21,8 @@
 //! With `alone`, the nodes of a schedule without events run one after another over calls that
 //! release each message as soon as it was sent. Standard output has how each node ended, and the
 //! report. With `again` each node is run once more from its first step, with the seat of another
-//! post, before the report.
+//! post, before the report. With `memory` they run over a journal and seats of the test's own, with
+//! no post, and standard output has what each seat counts too.
 //!
 //! With `others`, node 0 of a schedule without events sends to itself and hears it. Its round is
 //! closed with the work of another node, and then with its own. Standard output has the answers.
@@ -30,6 +32,7 @@ ghost use Rattle.std.specs.Prelude.{◌≡◌};
 
 mod alone;
 mod forwarding;
+mod memory;
 mod others;
 mod recorder;
 mod row;
@@ -87,6 +90,7 @@ fn answer_planned<R: Wait, P: Plan>(
         "strangers" => row::answer_of_strangers(rt, alloc, program, schedule, plan),
         "alone" => alone::answer(rt, alloc, program, &schedule.setup, plan, false),
         "again" => alone::answer(rt, alloc, program, &schedule.setup, plan, true),
+        "memory" => memory::answer(rt, alloc, program, &schedule.setup, plan),
         "others" => others::answer(rt, alloc, program, &schedule.setup, plan),
         _ => Err(Fault::Unreadable),
     }

@@ -8,7 +8,6 @@ ghost use Rattle.step_book.specs.Buffers.{IsMail};
 ghost use Rattle.step_machine.specs.Sealed.{IsPrepared};
 
 use locked_buffers::{OpenGate, Post, PostFault, Relay, RelayFault, Seat};
-use round_lang::NoMemory;
 use slot_plans::Plan;
 use std::alloc::Global;
 use std::sync::Wait;
@@ -71,7 +70,7 @@ pub trait Recorder {
         ensures setup { setup self.new ≡ setup self.old };
 
     /// The copies in flight, and how many events are recorded.
-    fn flight(&self, alloc: Global) -> Result<(Vec<InFlight>, usize), NoMemory>;
+    fn flight(&self, alloc: Global) -> Result<(Vec<InFlight>, usize), RelayFault>;
 }
 
 fn as_post(fault: ReceiveFault) -> PostFault {
@@ -120,7 +119,7 @@ impl<P: Plan> Recorder for Journal<P> {
         Ok(self.copy_frame(name)?)
     }
 
-    fn flight(&self, alloc: Global) -> Result<(Vec<InFlight>, usize), NoMemory> {
+    fn flight(&self, alloc: Global) -> Result<(Vec<InFlight>, usize), RelayFault> {
         Ok((self.flight(alloc)?, self.book().trace().len()))
     }
 }
@@ -219,10 +218,13 @@ impl<'a, R: Wait, P: Plan> Recorder for Counter<'a, R, P> {
         }
     }
 
-    fn flight(&self, alloc: Global) -> Result<(Vec<InFlight>, usize), NoMemory> {
+    fn flight(&self, alloc: Global) -> Result<(Vec<InFlight>, usize), RelayFault> {
         let _alloc = alloc;
         match self.post.flight(self.rt) {
-            Err(NoMemory) => self.post.flight(self.rt),
+            Err(RelayFault::NoMemory) => self
+                .post
+                .flight(self.rt)
+                .map_err(|_| RelayFault::Stranger),
             flight => flight,
         }
     }

@@ -244,7 +244,14 @@ fn act<P: Plan, C: Recorder>(
 
 /// What is in flight after all events, each copy with its sender's step number and its serial.
 fn tell_flight<C: Recorder>(alloc: Global, recorder: &C, out: &mut String) -> Result<(), Fault> {
-    let (flight, events) = recorder.flight(alloc)?;
+    let (flight, events) = match recorder.flight(alloc) {
+        Ok(flight) => flight,
+        Err(RelayFault::NoMemory) => return Err(Fault::NoMemory),
+        Err(fault) => {
+            write!(out, "in flight: {fault:?}\n")?;
+            return Ok(());
+        }
+    };
     write!(out, "in flight after {events}:")?;
     for copy in &flight {
         write_name(out, copy.name)?;

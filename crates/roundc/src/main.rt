@@ -2,6 +2,7 @@
 #![tactic(auto)]
 
 mod host_desk;
+mod made_header;
 mod terminal;
 mod unread;
 

@@ -2,6 +2,7 @@
 use command_runs::{Progress, Watch};
 use std::alloc::{AllocError, Global};
 use std::env;
+use std::fmt::Write as _;
 use std::io::{IsTerminal, Write};
 use std::rt::{Clock, Env};
 use std::sync::atomic::{AtomicU64, Ordering};
@@ -126,22 +127,26 @@ impl<'a, R: Clock, E: Write + Copy> Drop for Terminal<'a, R, E> {
     }
 }
 
-/// The line after this many transitions and milliseconds. It fits into 79 columns, however large
-/// the numbers are.
+/// The line after so many transitions and milliseconds. It names the case if there are several.
 fn line_of(
     alloc: Global,
     progress: Progress,
     made: u64,
     milliseconds: u64,
 ) -> Result<String, AllocError> {
+    let mut line = String::new(alloc);
+    line.push_str(BEGIN)?;
+    if progress.cases > 1 {
+        let case = with_commas(alloc, progress.case)?;
+        let cases = with_commas(alloc, progress.cases)?;
+        write!(line, "{case} of {cases}  ")?;
+    }
     let states = with_commas(alloc, progress.states)?;
     let tenths = made / milliseconds.saturating_mul(100).max(1);
-    format!(in alloc;
-        "{BEGIN}round {}  {states} states  {}.{} M transitions/s{END}",
-        progress.round,
-        tenths / 10,
-        tenths % 10
-    )
+    let (whole, tenth) = (tenths / 10, tenths % 10);
+    write!(line, "round {}  {states} states  ", progress.round)?;
+    write!(line, "{whole}.{tenth} M transitions/s{END}")?;
+    Ok(line)
 }
 
 /// A number with commas between its thousands.

@@ -1,1 +1,2 @@
 pub mod RunLaws
+mod ShrinkLaws

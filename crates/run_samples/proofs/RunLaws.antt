@@ -16,9 +16,8 @@ use Rattle.round_explorer.specs.declared.question.AskedInputs.{AskedInputs}
 use Rattle.round_explorer.specs.declared.question.Failure.{Failure}
 use Rattle.round_explorer.specs.declared.question.Question.{Question}
 use Rattle.round_explorer.specs.Answers.{with_inputs}
-use Rattle.round_explorer.specs.Enumerated.{IsOf}
 use Rattle.round_explorer.specs.Properties.{HoldsUpTo}
-use Rattle.round_explorer.specs.Questions.{AreAsked, IsPattern, IsRow, IsTable, Messages}
+use Rattle.round_explorer.specs.Questions.{AreAsked, IsPattern, IsRow, Messages}
 use Rattle.round_explorer.specs.Reached.{end_without}
 use Rattle.round_explorer.specs.Searched.{AreInputs, AreSame, Breaks, Case, ComesTo, End, IsEnd}
 use Rattle.round_explorer.specs.Searched.{IsEndWithout, IsPart, IsRowOf, IsTrack, IsWhole, Keeps}
@@ -34,7 +33,8 @@ use Rattle.round_explorer.proofs.Parts.{part_is_track, part_more}
 use Rattle.round_explorer.proofs.Searching.{holds_none}
 use Rattle.run_samples.specs.Found.{IsFound}
 use Rattle.run_samples.specs.Samples.{AgreeUpTo, EndsWithout, Follows, HoldsBefore, IsFailing}
-use Rattle.run_samples.specs.Samples.{IsCaseOf, Loses, inbox_with, run_of_case}
+use Rattle.run_samples.specs.Samples.{IsCaseOf, IsFailingRun, IsToldOf, Loses, inbox_with}
+use Rattle.run_samples.specs.Samples.{run_of_case}
 
 -- an inbox with one sender more
 pub inbox_more : (a : Algorithm) (missed : ℕ → Bool) (before : ℕ → List Value) (r i j : ℕ)
@@ -161,35 +161,42 @@ module _ (p : ProgramTree) (c : Case) where
       (is_omitted table i q) late enough (λ j jl. (whole.later i q j l jl later late).0)
       (λ j jl. (whole.later i q j l jl later late).1)
 
-  -- what is told of a run in which the property isn't kept any more
-  pub fails_here : (inputs r : ℕ) (old new : Track) (table : List Omission)
-      (found : Counterexample) → AreInputs c.setup inputs → r + 1 ≤ c.setup.rounds
-      → LeavesEnough c → Follows (search_of p c) r old new
-      → Breaks p c c.property inputs (r + 1) new → IsWhole c (r + 1) table new
-      → IsOf c (r + 1) table found → HoldsBefore p c old.lost (r + 1) → IsFailing p c found
-  fails_here inputs r old new table found are past enough f breaks whole of h =
-      let omits = is_omitted table in
-      let round = of.round in
-      let same : omits ≡ is_omitted found.omissions = ap is_omitted (sym of.omissions) in
-      let agree : AgreeUpTo (r + 1) (is_omitted new.lost) omits =
-      λ i q j l. sym (whole.past i q j l) in
-      let rows : IsTable c.question c.setup.nodes c.pattern c.setup.rounds omits =
-      λ i q l from late. whole_row (r + 1) table new enough f.is_track whole i q l from late
-      (cases_lt (r + 1) q) in
+  -- a run in which the property isn't kept any more fails in its last round
+  pub fails_here : (inputs r : ℕ) (old new : Track) → AreInputs c.setup inputs
+      → r + 1 ≤ c.setup.rounds → LeavesEnough c → Follows (search_of p c) r old new
+      → Breaks p c c.property inputs (r + 1) new → HoldsBefore p c old.lost (r + 1)
+      → IsFailingRun p c (r + 1) new
+  fails_here inputs r old new are past enough f breaks h = record {
+    enough = enough;
+    begun = omega arith;
+    past = past;
+    is_track = f.is_track;
+    fails = λ omits agree. breaks_fails p c omits inputs (r + 1) new are
+        (comes (r + 1) new omits f.is_track agree) c.property refl breaks;
+    first = λ k l omits agree. h k l omits
+        (λ i q j m. f.same i q j (omega arith) ∙ agree i q j m);
+  }
+
+  -- and so does what is told of it
+  pub fails_told : (r : ℕ) (run : Track) (found : Counterexample) → IsFailingRun p c r run
+      → IsToldOf c r run found → IsFailing p c found
+  fails_told r run found h told =
+      let omits = is_omitted found.omissions in
+      let round = told.round in
+      let agree : AgreeUpTo r (is_omitted run.lost) omits =
+      λ i q j l. sym (told.is_whole.past i q j l) in
+      let begun = h.begun in
+      let past = h.past in
       record {
-        inputs = of.inputs;
-        failures = of.failures;
+        inputs = told.inputs;
+        failures = told.failures;
         begun = omega arith;
         past = omega arith;
-        table = subst (IsTable c.question c.setup.nodes c.pattern c.setup.rounds) same rows;
-        fails = λ holds. breaks_fails p c omits inputs (r + 1) new are
-            (comes (r + 1) new omits f.is_track agree) c.property refl breaks
-            (subst (λ o. HoldsUpTo c.property (run_of_case p c o) (r + 1)) (sym same)
-            (subst (HoldsUpTo c.property (run_of_case p c (is_omitted found.omissions))) round
-            holds));
-        first = λ k l. h k (omega arith) (is_omitted found.omissions)
-            (λ i q j m. f.same i q j (omega arith) ∙ agree i q j (omega arith)
-            ∙ ap (λ o. o i q j) same);
+        table = λ i q l from late. whole_row r found.omissions run h.enough h.is_track
+            told.is_whole i q l from late (cases_lt r q);
+        fails = λ holds. h.fails omits agree
+            (subst (HoldsUpTo c.property (run_of_case p c omits)) round holds);
+        first = λ k l. h.first k (omega arith) omits (λ i q j m. agree i q j (omega arith));
       }
 
 -- a failure of a case that is asked about is one that is found

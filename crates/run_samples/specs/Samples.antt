@@ -1,5 +1,6 @@
 -- What is known of a sample while it's made and run.
-use Rattle.std.specs.Prelude.{◌≡◌, ℕ, ◌+◌, ◌<◌, ◌≤◌, ◌++◌, Bool, List, [], ◌∷◌, Option, None, Some}
+use Rattle.std.specs.Prelude.{◌≡◌, ℕ, ◌+◌, ◌<◌, ◌≤◌, ◌++◌, Bool, List, [], ◌∷◌}
+use Rattle.std.specs.Prelude.{Option, None, Some, true}
 use Rattle.round_lang.specs.declared.value.Value.{Value}
 use Rattle.round_lang.specs.Syntax.{ProgramTree}
 use Rattle.round_meaning.specs.declared.omissions.Omission.{Omission}
@@ -13,8 +14,8 @@ use Rattle.round_explorer.specs.declared.question.Question.{Question}
 use Rattle.round_explorer.specs.Answers.{with_inputs}
 use Rattle.round_explorer.specs.Properties.{HoldsUpTo, Run}
 use Rattle.round_explorer.specs.Questions.{AreAsked, IsPattern, IsTable, Messages}
-use Rattle.round_explorer.specs.Searched.{AreLost, Case, End, IsEndWithout, IsTrack, Search, Track}
-use Rattle.round_explorer.specs.Searched.{with_end}
+use Rattle.round_explorer.specs.Searched.{AreLost, Case, End, IsEndWithout, IsTrack, IsWhole}
+use Rattle.round_explorer.specs.Searched.{LeavesEnough, Search, Track, search_of, with_end}
 
 -- the case is that of a question, with inputs and failures that are asked about
 pub record IsCaseOf (p : ProgramTree) (s : Setup) (question : Question) (asked : AskedInputs)
@@ -24,6 +25,20 @@ pub record IsCaseOf (p : ProgramTree) (s : Setup) (question : Question) (asked :
   pub is_property : c.property ≡ property
   pub are_asked : AreAsked p.values s asked c.setup.inputs
   pub is_pattern : IsPattern question s c.pattern
+
+-- the case of a failure that is known
+abbrev pub case_of : Setup → Question → Property → Counterexample → Case
+case_of s question property found = record {
+  setup = with_inputs s found.inputs;
+  question = question;
+  pattern = found.failures.items;
+  property = property;
+}
+
+-- the table omits what the list does
+abbrev pub Covers : (table lost : List Omission) → Type 0
+Covers table lost =
+    (i q j : ℕ) → is_omitted lost i q j ≡ true → is_omitted table i q j ≡ true
 
 -- the run of a case in which these messages are omitted
 abbrev pub run_of_case : ProgramTree → Case → Messages → Run
@@ -50,6 +65,24 @@ abbrev pub HoldsBefore : ProgramTree → Case → (lost : List Omission) → (n 
 HoldsBefore p c lost n =
     (k : ℕ) → k < n → (omits : Messages) → AgreeUpTo k (is_omitted lost) omits
     → HoldsUpTo c.property (run_of_case p c omits) k
+
+-- in this run of r rounds of the case, which is asked about, the property first fails in round r,
+-- whatever is omitted after it
+pub record IsFailingRun (p : ProgramTree) (c : Case) (r : ℕ) (run : Track) : Type 0 where
+  pub enough : LeavesEnough c
+  pub begun : 1 ≤ r
+  pub past : r ≤ c.setup.rounds
+  pub is_track : IsTrack (search_of p c) r run
+  pub fails : (omits : Messages) → AgreeUpTo r (is_omitted run.lost) omits
+      → HoldsUpTo c.property (run_of_case p c omits) r → ⊥
+  pub first : HoldsBefore p c run.lost r
+
+-- this is told of the run, which failed in round r
+pub record IsToldOf (c : Case) (r : ℕ) (run : Track) (found : Counterexample) : Type 0 where
+  pub round : found.round ≡ r
+  pub inputs : found.inputs ≡ c.setup.inputs
+  pub failures : found.failures.items ≡ c.pattern
+  pub is_whole : IsWhole c r found.omissions run
 
 -- the inbox, and behind it what node j sends, if it sends something
 abbrev pub inbox_with : (j : ℕ) → Option (List Value) → List Received → List Received

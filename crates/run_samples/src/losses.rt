@@ -12,6 +12,14 @@ pub(crate) struct Losses {
 }
 
 impl Losses {
+    /// None is lost.
+    pub(crate) fn none() -> Losses {
+        Losses {
+            rate: Rate::Never,
+            side: None,
+        }
+    }
+
     pub(crate) fn new(dice: &mut Dice) -> Losses {
         let side = if dice.happens(Rate::InOneOfFour) {
             Some(dice.side())

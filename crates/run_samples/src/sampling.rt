@@ -3,8 +3,8 @@ ghost use Rattle.std.specs.Prelude.{IfOk, IfSome};
 ghost use Rattle.round_meaning.specs.Setups.{IsLawful};
 ghost use Rattle.run_samples.specs.Found.{IsFound};
 
-use crate::dice::Dice;
 use crate::drawing::drawn_case;
+use crate::drawn::Drawn;
 use crate::machine::Machine;
 use crate::running::failure_of;
 use crate::tally::Tally;
@@ -46,14 +46,16 @@ pub fn sample<W: Watch>(
         (IsFound program.now setup.now question asked property.entry)) }
 {
     let mut machine = Machine::new(alloc, program)?;
-    let mut dice = Dice::new(sampling.seed);
-    let mut tally = Tally::new(watch);
+    let mut rows = Drawn::new(sampling.seed);
+    let mut tally = Tally::new(watch, sampling.count);
     for _sample in 0..sampling.count {
-        let drawn = drawn_case(alloc, program, setup, question, asked, property, &mut dice)?;
+        tally.begin_run();
+        let dice = &mut rows.dice;
+        let drawn = drawn_case(alloc, program, setup, question, asked, property, dice)?;
         let Some(case) = drawn else {
             continue;
         };
-        let found = failure_of(alloc, &mut machine, program, &case, &mut dice, &mut tally)?;
+        let found = failure_of(alloc, &mut machine, program, &case, &mut rows, &mut tally)?;
         if let Some(found) = found {
             return Ok(Some(found));
         }

@@ -8,18 +8,34 @@ const MANY: u64 = 16_384;
 #[derive(Drop)]
 pub(crate) struct Tally<'a, W> {
     watch: &'a W,
+    /// The number of the run that is made, from 1, and of all.
+    run: u64,
+    runs: u64,
     rounds: u64,
     /// How many rounds there were at the last note.
     noted: u64,
 }
 
 impl<'a, W: Watch> Tally<'a, W> {
-    pub(crate) fn new(watch: &'a W) -> Tally<'a, W> {
+    /// Nothing yet, of so many runs.
+    pub(crate) fn new(watch: &'a W, runs: u32) -> Tally<'a, W> {
         Tally {
             watch,
+            run: 0,
+            runs: u64::from(runs),
             rounds: 0,
             noted: 0,
         }
+    }
+
+    /// Begins with another run.
+    pub(crate) fn begin_run(&mut self) {
+        self.run = self.run.saturating_add(1);
+    }
+
+    /// How many rounds were run.
+    pub(crate) fn rounds(&self) -> u64 {
+        self.rounds
     }
 
     /// Counts a round of a run, and tells if it's a while since the last note.
@@ -28,6 +44,8 @@ impl<'a, W: Watch> Tally<'a, W> {
         if self.rounds.saturating_sub(self.noted) >= MANY {
             self.noted = self.rounds;
             self.watch.note(Progress {
+                case: self.run,
+                cases: self.runs,
                 round,
                 states: self.rounds,
                 transitions: self.rounds,

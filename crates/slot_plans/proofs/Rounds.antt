@@ -64,9 +64,9 @@ round-unique nodes start apart step r s f g =
       before-later nodes start apart step s r g.first g.ends f.starts,
     )
 
--- the start of a round fits a number of 31 bits
+-- the start of a round, and four more, fit a number of 32 bits
 pub start-fits : {nodes : ℕ} {receives start : ℕ → ℕ} → PlanLaws nodes receives start → (r : ℕ)
-    → 1 ≤ r → r ≤ max_rounds + 1 → start r < 2 ^ 31
+    → 1 ≤ r → r ≤ max_rounds + 1 → 4 + start r < 2 ^ 32
 start-fits {nodes} {start} laws r h l =
     omega (arith, laws.few_steps, start-le nodes start (starts_apart laws) r (max_rounds + 1) h l)
 

@@ -14,7 +14,8 @@ IsDelta delta = (1 ≤ delta) × (delta ≤ max_delta)
 abbrev pub IsRound : ℕ → Type 0
 IsRound r = (1 ≤ r) × (r ≤ max_rounds)
 
--- each round is a send slot for each node and then receive steps, and the next round follows it
+-- each round is a send slot for each node and then receive steps, and the next round follows it;
+-- the steps of all rounds, and four more, can be counted with 32 bits
 pub record PlanLaws (nodes : ℕ) (receives start : ℕ → ℕ) : Type 0 where
   pub some_node : 1 ≤ nodes
   pub few_nodes : nodes ≤ max_nodes
@@ -22,7 +23,7 @@ pub record PlanLaws (nodes : ℕ) (receives start : ℕ → ℕ) : Type 0 where
   pub receives_rise : (r : ℕ) → 1 ≤ r → receives r ≤ receives (r + 1)
   pub first_start : start 1 ≡ 0
   pub next_start : (r : ℕ) → 1 ≤ r → start (r + 1) ≡ start r + nodes + receives r
-  pub few_steps : start (max_rounds + 1) < 2 ^ 31
+  pub few_steps : 4 + start (max_rounds + 1) < 2 ^ 32
 
 -- the round starts at the global stabilization time or later, and lasts for the delay
 pub record IsClear (receives start : ℕ → ℕ) (delta gst r : ℕ) : Type 0 where

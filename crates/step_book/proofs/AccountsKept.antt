@@ -12,22 +12,22 @@ use Rattle.step_book.specs.Trace.{is_step, steps}
 use Rattle.step_book.specs.History.{answer_to, buffer_of, handed_of, answers_of}
 use Rattle.step_book.specs.Agreement.{Accounts}
 
-handed_kept : (w : World) (i : ℕ) (e : Event) (t : List Event) → is_take w i e t ≡ false
+pub handed_kept : (w : World) (i : ℕ) (e : Event) (t : List Event) → is_take w i e t ≡ false
     → handed_of w i (e ∷ t) ≡ handed_of w i t
 unfolding handed_of
 handed_kept w i e t h = rw h refl
 
-handed_more : (w : World) (i : ℕ) (e : Event) (t : List Event) → is_step i e ≡ true
+pub handed_more : (w : World) (i : ℕ) (e : Event) (t : List Event) → is_step i e ≡ true
     → is_receive w (steps i t) ≡ true
     → handed_of w i (e ∷ t) ≡ handed_of w i t ++ buffer_of w i t ∷ []
 unfolding handed_of
 handed_more w i e t h k = rw (h, k) refl
 
-answers_step : (w : World) (k : ℕ) (t : List Event) → answers_of w (Step k ∷ t) ≡ answers_of w t
+pub answers_step : (w : World) (k : ℕ) (t : List Event) → answers_of w (Step k ∷ t) ≡ answers_of w t
 unfolding answers_of
 answers_step w k t = append-nil (answers_of w t)
 
-answers_more : (w : World) (e : Event) (b : Bool) (t : List Event) → answer_to w e t ≡ b ∷ []
+pub answers_more : (w : World) (e : Event) (b : Bool) (t : List Event) → answer_to w e t ≡ b ∷ []
     → answers_of w (e ∷ t) ≡ answers_of w t ++ b ∷ []
 unfolding answers_of
 answers_more w e b t h = ap (λ z. answers_of w t ++ z) h

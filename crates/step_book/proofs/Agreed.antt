@@ -2,7 +2,7 @@
 use Rattle.std.proofs.Common.{◌≡◌, ℕ, zero, suc, ◌+◌, ◌-◌, ◌<◌, ◌≤◌, Bool, true, false, List}
 use Rattle.std.proofs.Common.{Option, Some, None, sym, subst, refl, ap, ◌∙◌, arith, ◌⊎◌, inl, inr}
 use Rattle.std.proofs.Common.{is_some, if◌then◌else◌}
-use Rattle.std.specs.Prelude.{reverse, IsSome}
+use Rattle.std.specs.Prelude.{◌↔◌, reverse, IsSome}
 use Rattle.std.specs.List.{count_by}
 use Rattle.std.proofs.lemmas.Bool.{and_from, and_parts, cases_lt}
 use Rattle.std.proofs.lemmas.List.{reverse-reverse}
@@ -18,7 +18,7 @@ use Rattle.step_book.specs.Log.{IsBookOf, Log, history, mark_in, round_of, waiti
 use Rattle.step_book.specs.Names.{IsName}
 use Rattle.step_book.specs.Places.{IsCarried, IsMadeAt, IsSlotAt, Sent, steps_before}
 use Rattle.step_book.specs.Trace.{is_name}
-use Rattle.step_book.specs.World.{World}
+use Rattle.step_book.specs.World.{IsPlan, World}
 use Rattle.step_book.proofs.Buffers.{buffer_counts}
 use Rattle.step_book.proofs.Kept.{mark_is}
 use Rattle.step_book.proofs.Placed.{IsMoving, IsWaiting, Placed, carried_found, carried_place}
@@ -90,12 +90,7 @@ at_most_one false n h = omega arith
 
 -- ---- by places, over the reversed history
 
--- ---- by places, over the reversed history
-
-module _ {start : ℕ → ℕ} {nodes : ℕ} {v : Log} {counts : List ℕ} {tables : List (List Mark)}
-    {waiting : List (List Name)} {handed : List (List (List Name))} {answers : List Bool}
-    {messages : List Name}
-    (h : IsBookOf start nodes v counts tables waiting handed answers messages) where
+module _ (start : ℕ → ℕ) (v : Log) where
   own_list : reverse (history v) ≡ v.trace
   own_list = reverse-reverse v.trace
 
@@ -135,7 +130,7 @@ module _ {start : ℕ → ℕ} {nodes : ℕ} {v : Log} {counts : List ℕ} {tabl
       mark_as n ∙ ap (λ k. marked (world_of start v) k (message_sent start v n) (fate_in n)) e
       ∙ silent_by (world_of start v) (n.copy - 1) (message_sent start v n) (fate_in n) none
 
-  flies_to : (n : Name) → mark_in start v n ≡ mark.Flying → IsInFlight start v n
+  pub flies_to : (n : Name) → mark_in start v n ≡ mark.Flying → IsInFlight start v n
   flies_to n e =
       let w = world_of start v in
       let x = flying_by w n.copy (message_sent start v n) (fate_in n) (sym (mark_as n) ∙ e) in
@@ -143,7 +138,7 @@ module _ {start : ℕ → ℕ} {nodes : ℕ} {v : Log} {counts : List ℕ} {tabl
       (subst (λ (f : Fate). Placed w (reverse (history v)) n f) x.0 (placed w (history v) n)) in
       record { a = p.a; made = p.made; message = x.1; none = p.none }
 
-  flies_from : (n : Name) → IsInFlight start v n → mark_in start v n ≡ mark.Flying
+  pub flies_from : (n : Name) → IsInFlight start v n → mark_in start v n ≡ mark.Flying
   flies_from n f =
       let w = world_of start v in
       let p : IsMoving w v.trace n = record { a = f.a; made = f.made; none = f.none } in
@@ -152,7 +147,7 @@ module _ {start : ℕ → ℕ} {nodes : ℕ} {v : Log} {counts : List ℕ} {tabl
       (moving_found w (history v) n (subst (λ z. IsMoving w z n) (sym own_list) p))
       ∙ flies_by w n.copy (message_sent start v n) f.message
 
-  buffered_to : (n : Name) → is_buffered (world_of start v) (history v) n ≡ true
+  pub buffered_to : (n : Name) → is_buffered (world_of start v) (history v) n ≡ true
       → IsInBuffer start v n
   buffered_to n e =
       let w = world_of start v in
@@ -172,7 +167,7 @@ module _ {start : ℕ → ℕ} {nodes : ℕ} {v : Log} {counts : List ℕ} {tabl
         none = p.none;
       }
 
-  buffered_from : (n : Name) → IsInBuffer start v n
+  pub buffered_from : (n : Name) → IsInBuffer start v n
       → is_buffered (world_of start v) (history v) n ≡ true
   buffered_from n f =
       let w = world_of start v in
@@ -191,35 +186,48 @@ module _ {start : ℕ → ℕ} {nodes : ℕ} {v : Log} {counts : List ℕ} {tabl
       (subst (λ z. IsWaiting w z n (steps_before v.trace n.to f.b)) (sym own_list) p)))
       f.message
 
-  counted : (n : Name) → IsName v.setup n
+  counted : IsPlan (world_of start v) → (n : Name) → IsName v.setup n
       → count_by (is_name n) (waiting_in start v n.to)
       ≡ (if is_buffered (world_of start v) (history v) n then 1 else 0)
-  counted n l = buffer_counts (world_of start v) h.plan (history v) n l.first l.last
+  counted plan n l = buffer_counts (world_of start v) plan (history v) n l.first l.last
 
+  pub waits_as : IsPlan (world_of start v) → (n : Name) → IsName v.setup n
+      → (count_by (is_name n) (waiting_in start v n.to) ≡ 1) ↔ IsInBuffer start v n
+  waits_as plan n l = (
+    λ e. buffered_to n (as_one _ _ (counted plan n l) e),
+    λ f. counted plan n l ∙ ap (λ (b : Bool). if b then 1 else 0) (buffered_from n f),
+  )
+
+  pub waits_once : IsPlan (world_of start v) → (n : Name) → IsName v.setup n
+      → count_by (is_name n) (waiting_in start v n.to) ≤ 1
+  waits_once plan n l = at_most_one _ _ (counted plan n l)
+
+module _ {start : ℕ → ℕ} {nodes : ℕ} {v : Log} {counts : List ℕ} {tables : List (List Mark)}
+    {waiting : List (List Name)} {handed : List (List (List Name))} {answers : List Bool}
+    {messages : List Name}
+    (h : IsBookOf start nodes v counts tables waiting handed answers messages) where
   -- what the journal answers is what the run in rounds says
   pub agreed : JournalAgrees start v (mark_in start v) (waiting_in start v)
   agreed =
       let all = faithful h in
+      let own = reverse-reverse v.trace in
       record {
         omissions = λ n l. (
-          λ e. subst (λ z. IsCarried (world_of start v) z n) own_list
+          λ e. subst (λ z. IsCarried (world_of start v) z n) own
               (carried_place (world_of start v) (history v) n e),
           λ f. carried_found (world_of start v) (history v) n
-              (subst (λ z. IsCarried (world_of start v) z n) (sym own_list) f),
+              (subst (λ z. IsCarried (world_of start v) z n) (sym own) f),
         );
-        spoken = agreed_spoken;
-        unsent = agreed_unsent;
-        uncopied = agreed_uncopied;
+        spoken = agreed_spoken start v;
+        unsent = agreed_unsent start v;
+        uncopied = agreed_uncopied start v;
         stated = all.stated;
         closed = λ i r l low high. closed_due i r l low high;
         due = λ i r l d. due_near i r l d;
         exact = λ i l d. (let near = all.near i l d.last in let over = d.over in omega arith);
-        flies = λ n l. (flies_to n, flies_from n);
-        waits = λ n l. (
-          λ e. buffered_to n (as_one _ _ (counted n l) e),
-          λ f. counted n l ∙ ap (λ (b : Bool). if b then 1 else 0) (buffered_from n f),
-        );
-        once = λ n l. at_most_one _ _ (counted n l);
+        flies = λ n l. (flies_to start v n, flies_from start v n);
+        waits = waits_as start v h.plan;
+        once = waits_once start v h.plan;
       }
     where
       closed_due : (i r : ℕ) → i < v.setup.nodes → 1 ≤ r → r < round_of v i → IsDueRound start v i r

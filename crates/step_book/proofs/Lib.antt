@@ -23,6 +23,7 @@ pub mod Vectors
 pub mod Moments
 pub mod Placed
 pub mod Agreed
+pub mod MomentLaws
 pub mod Later
 pub mod Taking
 pub mod Spelling

@@ -89,7 +89,7 @@ count_more : (i : ℕ) (e : Event) (xs : List Event) (n : ℕ) → count_by (is_
 count_more i e xs n ih = count_more_by (is_step i) e xs n ih (is_step i e) refl
 
 -- how many steps stand before a moment
-count_steps : (i : ℕ) (t : List Event) → count_by (is_step i) (reverse t) ≡ steps i t
+pub count_steps : (i : ℕ) (t : List Event) → count_by (is_step i) (reverse t) ≡ steps i t
 unfolding steps
 count_steps i [] = refl
 count_steps i (e ∷ t) = ap (count_by (is_step i)) (last_event e t)

@@ -53,7 +53,7 @@ copy_event n (Release m) h = cc
 copy_event n (Drop m) h = cc
 copy_event n (Copy m) h = ap Copy (one_name n m h)
 
-is_it_step : (i : ℕ) (e : Event) → e ≡ Step i → is_step i e ≡ true
+pub is_it_step : (i : ℕ) (e : Event) → e ≡ Step i → is_step i e ≡ true
 is_it_step i e h = ap (is_step i) h ∙ eq-eqb i i refl
 
 is_it_release : (n : Name) (e : Event) → e ≡ Release n → is_release n e ≡ true
@@ -82,13 +82,13 @@ receive_round_by w n x l (inr new) f =
       },
     )
 
-receive_round : (w : World) (n x : ℕ) → n ≤ w.rounds → receives_by w n x ≡ true
+pub receive_round : (w : World) (n x : ℕ) → n ≤ w.rounds → receives_by w n x ≡ true
     → (r : ℕ) × IsReceiveOf w r x
 receive_round w zero x l h = cc
 receive_round w (suc n) x l h = receive_round_by w n x l (or_cases _ _ h)
     (λ old. receive_round w n x (omega arith) old)
 
-round_receive : (w : World) (r x : ℕ) → IsReceiveOf w r x → is_receive w x ≡ true
+pub round_receive : (w : World) (r x : ℕ) → IsReceiveOf w r x → is_receive w x ≡ true
 round_receive w r x h =
     receives_by_in w w.rounds r x h.first h.last (cases_lt w.rounds (suc r))
     (and_from _ _ (le-leb _ _ h.after_sends) (lt-ltb _ _ h.before_end))

@@ -21,5 +21,6 @@ pub mod Causes
 pub mod Buffers
 pub mod Places
 pub mod Agreed
+pub mod Moments
 pub mod Taking
 pub mod Pieces

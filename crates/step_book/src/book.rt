@@ -16,6 +16,7 @@ ghost use Rattle.step_book.specs.Log.{HasBook, IsReceive, SameMarks};
 ghost use Rattle.step_book.specs.Log.{SameMarksBut, SameWaiting, SameWaitingBut, count_of};
 ghost use Rattle.step_book.specs.Log.{happened, history, mark_in, opened, round_of};
 ghost use Rattle.step_book.specs.Log.{states_of, waiting_in, world_of};
+ghost use Rattle.step_book.specs.Moments.{MomentsAgree};
 ghost use Rattle.step_book.specs.Names.{IsName};
 ghost use Rattle.step_book.specs.Serials.{AreSent, HasSerial};
 ghost use Rattle.step_book.specs.Slots.{IsMessageAt, IsNoMessageAt};
@@ -169,6 +170,14 @@ impl<P: Plan> Book<P> {
         ensures { JournalAgrees (P.start self.now.plan) self.now.log
             (mark_in (P.start self.now.plan) self.now.log)
             (waiting_in (P.start self.now.plan) self.now.log) }
+    {
+        let _trace = &self.trace;
+    }
+
+    /// Nothing at run time: at each place of the trace the record is what stands before it, so that
+    /// what receives handed out and events were answered reads by places too.
+    pub fn moments_agree(&self)
+        ensures { MomentsAgree (P.start self.now.plan) self.now.log }
     {
         let _trace = &self.trace;
     }
@@ -371,7 +380,7 @@ impl<P: Plan> Book<P> {
         requires first { 0 < round }
         requires last { round ≤ self.now.log.setup.rounds + 1 }
         ensures value { result ≡ P.start self.now.plan round }
-        ensures small { result < 2 ^ 31 }
+        ensures small { 4 + result < 2 ^ 32 }
     {
         u64::from(self.plan.start(round))
     }
@@ -382,7 +391,7 @@ impl<P: Plan> Book<P> {
         requires { node < self.now.log.setup.nodes }
         ensures value { result ≡ counted (world_of (P.start self.now.plan) self.now.log)
             (count_of self.now.log node) }
-        ensures small { result < 2 ^ 31 }
+        ensures small { 4 + result < 2 ^ 32 }
     {
         self.count_of(node).min(self.start(self.setup.rounds + 1))
     }

@@ -7,7 +7,8 @@ use Rattle.command_runs.proofs.Refusing.{no_growing_plan, no_known_plan, not_run
 use Rattle.command_runs.proofs.Refusing.{told_after}
 use Rattle.command_runs.proofs.Serving.{answered_as}
 use Rattle.command_runs.proofs.asking.answer_by.Goals as goal
-use Rattle.command_runs.specs.Refused.{IsNotRun, IsPlan, IsRunnable}
+use Rattle.command_runs.specs.Refused.{IsNotRun, IsRunnable}
+use Rattle.command_runs.specs.Within.{IsPlan}
 use Rattle.command_runs.specs.Served.{receives_of, start_of}
 use Rattle.command_runs.specs.Stages.{IsAnswered, IsNotRunAs, listed_by}
 use Rattle.command_runs.specs.declared.refusal.Refusal.TheVariants as refusal

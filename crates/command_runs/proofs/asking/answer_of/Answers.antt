@@ -1,9 +1,11 @@
 use Rattle.std.proofs.Common.{◌≡◌, ◌<◌, All, [], refl, subst, sym}
+use Rattle.std.proofs.lemmas.List.Elements.{All-nil}
 use Rattle.command_runs.proofs.Refusing.{err_then, no_run, report_from, report_to}
 use Rattle.command_runs.proofs.asking.answer_of.Goals as goal
 use Rattle.command_runs.specs.Refused.{of_read}
 use Rattle.command_runs.specs.Served.{Answered}
 use Rattle.command_runs.specs.Stages.{IsNotRunAs, StopsSchedule, listed_by}
+use Rattle.command_runs.specs.Within.{IsFitRun}
 use Rattle.command_runs.specs.declared.asking.Answer.TheVariants as answer
 use Rattle.command_runs.specs.declared.asking.Question.{Question}
 use Rattle.command_runs.specs.declared.refusal.Refusal.{Refusal}
@@ -51,23 +53,35 @@ returns-in_err-verdict-in-Verdict-clause-refused g c =
 pub returns-in-Report-clause-answered : goal.returns-in-Report-clause-answered
 returns-in-Report-clause-answered g c =
     let said = c.in_ok-report-in-Report.ensures in
-    let events = c.in_ok-report-in-Report.journal.log.trace in (
+    let events = c.in_ok-report-in-Report.journal.log.trace in
+    let s = c.args.schedule.setup in
+    let fit : IsFitRun c.args.program.now s [] events = record {
+      setup = said.lawful;
+      listed = All-nil (λ n. n < s.nodes);
+      known = said.known;
+    } in (
       events,
       said.read,
       subst (λ (q : Question). Answered (g.P.Plan.start c.args.plan) (g.P.Plan.receives c.args.plan)
           c.args.program.now c.args.schedule.setup events q
           (answer.Report c.in_ok-report-in-Report.report c.in-Report.form)) (sym c.in-Report.is)
-          (refl, said.explained),
+          (refl, fit, said.explained),
     )
 
 pub returns-clause-answered : goal.returns-clause-answered
 returns-clause-answered g c =
     let said = c.in_ok-verdict-in-Verdict.ensures in
-    let events = c.in_ok-verdict-in-Verdict.journal.log.trace in (
+    let events = c.in_ok-verdict-in-Verdict.journal.log.trace in
+    let list = c.in-Verdict.terms.correct.now in
+    let fit : IsFitRun c.args.program.now c.args.schedule.setup list events = record {
+      setup = said.lawful;
+      listed = said.listed;
+      known = said.known;
+    } in (
       events,
       said.read,
       subst (λ (q : Question). Answered (g.P.Plan.start c.args.plan) (g.P.Plan.receives c.args.plan)
           c.args.program.now c.args.schedule.setup events q
           (answer.Verdict c.in_ok-verdict-in-Verdict.verdict c.in-Verdict.format))
-          (sym c.in-Verdict.is) (refl, said.judged),
+          (sym c.in-Verdict.is) (refl, fit, said.judged),
     )

@@ -6,7 +6,8 @@ use Rattle.slot_plans.specs.declared.kind.PlanKind.{PlanKind}
 use Rattle.command_runs.proofs.Drawn.{drawn_as, no_growing_picture, no_known_picture, not_drawn}
 use Rattle.command_runs.proofs.Refusing.{stops_as, told_after}
 use Rattle.command_runs.proofs.drawing.draw_by.Goals as goal
-use Rattle.command_runs.specs.Refused.{IsDrawable, IsNotDrawn, IsPlan}
+use Rattle.command_runs.specs.Refused.{IsDrawable, IsNotDrawn}
+use Rattle.command_runs.specs.Within.{IsPlan}
 use Rattle.command_runs.specs.Served.{start_of}
 use Rattle.command_runs.specs.Stages.{IsDrawnAs, IsNotDrawnAs}
 use Rattle.command_runs.specs.declared.refusal.Refusal.TheVariants as refusal

@@ -1,4 +1,5 @@
-use Rattle.std.proofs.Common.{◌≡◌, subst, sym}
+use Rattle.std.proofs.Common.{◌≡◌, ◌<◌, subst, sym}
+use Rattle.std.proofs.lemmas.List.Elements.{All-nil}
 use Rattle.std.proofs.lemmas.Result.{IfErr-weaker}
 use Rattle.adversary.specs.declared.fault.RunFault.TheVariants as run
 use Rattle.command_runs.proofs.Drawn.{drawn_always, undrawn_read, undrawn_report}
@@ -38,6 +39,11 @@ returns-clause-drawn g c =
       c.in_ok-report.report,
       said.read,
       c.in-Some.ensures.some,
+      record {
+        setup = said.lawful;
+        listed = All-nil (λ n. n < c.args.schedule.setup.nodes);
+        known = said.known;
+      },
       said.explained,
     )
 

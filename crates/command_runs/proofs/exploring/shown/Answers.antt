@@ -3,11 +3,11 @@ use Rattle.std.specs.Prelude.{string_bytes}
 use Rattle.std.specs.List.{range_with_len}
 use Rattle.std.proofs.lemmas.List.FromFn.{length-map-range_with_len}
 use Rattle.std.proofs.lemmas.Result.{IfOk-weaker}
-use Rattle.command_runs.specs.InRounds.{shown_by}
+use Rattle.command_runs.specs.InRounds.{shown_by, shown_setup}
 use Rattle.command_runs.proofs.Explored.{comment_drops, plain_comment, says_behind, shown_so}
 use Rattle.exploration_texts.specs.Lines.{comment_text}
 use Rattle.exploration_texts.specs.Stops.{steps_of}
-use Rattle.round_explorer.specs.Answers.{with_inputs}
+use Rattle.round_explorer.specs.Answers.{in_rounds, with_inputs}
 use Rattle.round_meaning.specs.declared.setup.Setup.{Setup}
 use Rattle.schedule_text.specs.Small.{IsSmall}
 use Rattle.schedule_text.specs.Texts.{Says, max_text}
@@ -20,7 +20,7 @@ schedule_with_stops-requires-clause-stops g c =
     let many : length c.deref-2.result.now ≡ s.nodes =
     ap length (c.deref-2.ensures.value ∙ c.in_ok-stops.ensures)
     ∙ length-map-range_with_len (steps_of (g.P.Plan.nodes c.args.plan)
-    (g.P.Plan.start c.args.plan) s.rounds c.deref.result.now) 0 s.nodes in
+    (g.P.Plan.start c.args.plan) c.args.failed.found.now.round c.deref.result.now) 0 s.nodes in
     omega (arith, many)
 
 pub returns : goal.returns
@@ -32,17 +32,17 @@ returns g c =
     let nodes = g.P.Plan.nodes c.args.plan in
     let start = g.P.Plan.start c.args.plan in
     let receives = g.P.Plan.receives c.args.plan in
-    let u = with_inputs s found.inputs in
+    let u = shown_setup s found in
     let stop : c.deref-2.result.now
-    ≡ map (steps_of nodes start s.rounds found.failures.items) (range_with_len 0 s.nodes) =
+    ≡ map (steps_of nodes start found.round found.failures.items) (range_with_len 0 s.nodes) =
     c.deref-2.ensures.value ∙ c.in_ok-stops.ensures
-    ∙ ap (λ fs. map (steps_of nodes start s.rounds fs) (range_with_len 0 s.nodes))
+    ∙ ap (λ fs. map (steps_of nodes start found.round fs) (range_with_len 0 s.nodes))
     c.deref.ensures.value in
     let events : c.deref-3.result.now ≡ shown_by receives start s found =
     c.deref-3.ensures.value ∙ c.in_ok-events.ensures
     ∙ shown_so receives start s found nodes c.deref-2.result.now c.requires.nodes stop in
-    let made : with_inputs s c.in_ok-copy.field-0 ≡ u =
-    ap (with_inputs s) c.in_ok-copy.ensures in
+    let made : in_rounds (with_inputs s c.in_ok-copy.field-0) found.round ≡ u =
+    ap (λ inputs. in_rounds (with_inputs s inputs) found.round) c.in_ok-copy.ensures in
     let bytes = string_bytes c.in_ok-schedule.schedule in
     let comment = comment_text name found.round in
     let past = c.requires.showable.past in

@@ -22,30 +22,28 @@ returns-in_err-head-clause-refused g c =
     (explore_refused x.source files x.header x.exploring c.args.format fault
     c.in_err-head.ensures.refused))
 
-pub returns-in_err-write_shown-clause-refused : goal.returns-in_err-write_shown-clause-refused
-returns-in_err-write_shown-clause-refused g c =
+pub returns-clause-refused : goal.returns-clause-refused
+returns-clause-refused g c =
     let x = c.args.exploration in
     let files = g.D.Desk.files c.args.desk.now in
     let cause = IsRefusedCommand (Explore x.source x.header x.exploring c.args.format) files in
-    let fault = c.in_err-write_shown.field-0.0 in
-    err_then c.from_residual-in_err-write_shown.result (λ r. r ≡ fault) cause
-    c.from_residual-in_err-write_shown.ensures.1 (λ r is. subst cause (sym is)
-    (explore_unwritten x.source files x.header x.exploring c.args.format c.in_ok-head.field-0 fault
-    c.in_ok-head.ensures.found c.in_err-write_shown.ensures.refused))
+    subst cause (sym c.told_all_the_same.ensures.same)
+    (explore_unwritten x.source files x.header x.exploring c.args.format c.in_ok-head.field-0
+    c.in-Err.refusal c.in_ok-head.ensures.found c.in-Err.ensures.refused)
 
-pub returns-in_err-written-clause-refused : goal.returns-in_err-written-clause-refused
-returns-in_err-written-clause-refused g c =
+pub returns-in_err-written-in-Ok-clause-refused : goal.returns-in_err-written-in-Ok-clause-refused
+returns-in_err-written-in-Ok-clause-refused g c =
     let x = c.args.exploration in
     let files = g.D.Desk.files c.args.desk.now in
     let cause = IsRefusedCommand (Explore x.source x.header x.exploring c.args.format) files in
-    let fault = c.in_err-written.field-0.0 in
-    err_then c.from_residual-in_err-written.result (λ r. r ≡ fault) cause
-    c.from_residual-in_err-written.ensures.1 (λ r is. subst cause (sym is)
+    let fault = c.in_err-written-in-Ok.field-0.0 in
+    err_then c.from_residual-in_err-written-in-Ok.result (λ r. r ≡ fault) cause
+    c.from_residual-in_err-written-in-Ok.ensures.1 (λ r is. subst cause (sym is)
     (explore_unwritten x.source files x.header x.exploring c.args.format c.in_ok-head.field-0 fault
-    c.in_ok-head.ensures.found (inl c.in_err-written.ensures.refused)))
+    c.in_ok-head.ensures.found (inl c.in_err-written-in-Ok.ensures.refused)))
 
-pub returns-clause-served : goal.returns-clause-served
-returns-clause-served g c =
+pub returns-in-Ok-clause-served : goal.returns-in-Ok-clause-served
+returns-in-Ok-clause-served g c =
     let x = c.args.exploration in
     let files = g.D.Desk.files c.args.desk.now in
     let after = g.D.Desk.files c.write_shown.new.desk in
@@ -55,22 +53,22 @@ returns-clause-served g c =
       explored.head,
       told,
       tells_of_all x.source files x.exploring explored (files x.header.now) after
-          c.in_ok-write_shown.ensures.held c.in_ok-head.ensures.found,
-      c.of.ensures ∙ ap outcome_of c.deref-2.ensures.value,
+          c.in-Ok.ensures.held c.in_ok-head.ensures.found,
+      c.of.ensures ∙ ap outcome_of c.deref-in-Ok.ensures.value,
       subst (λ ts. Appends (out c.args.out.now) (out c.written.new.out)
           (explored_as c.args.format explored.head ts)) c.deref.ensures.value
           (written_whole c.write_explored.result (out c.args.out.now)
           (out c.write_explored.new.out) (out c.written.new.out)
           (explored_as c.args.format explored.head c.deref.result.now)
-          c.in_ok-written.ensures.done c.write_explored.ensures c.in_ok-written.ensures.kept),
+          c.in_ok-written-in-Ok.ensures.done c.write_explored.ensures c.in_ok-written-in-Ok.ensures.kept),
     )
 
-pub returns-clause-traced : goal.returns-clause-traced
-returns-clause-traced g c =
+pub returns-in-Ok-clause-traced : goal.returns-in-Ok-clause-traced
+returns-in-Ok-clause-traced g c =
     let found = c.in_ok-head.field-0.found in
     trace_written c.args.exploration.exploring.trace found.told.items (trace_of found) c.of.result
     (g.D.Desk.written c.args.desk.now) (g.D.Desk.written c.write_shown.new.desk)
-    c.in_ok-head.ensures.made (c.of.ensures ∙ ap outcome_of c.deref-2.ensures.value)
+    c.in_ok-head.ensures.made (c.of.ensures ∙ ap outcome_of c.deref-in-Ok.ensures.value)
     (subst (λ old. WritesText c.args.exploration.exploring.trace (trace_of found) old
     (g.D.Desk.written c.write_shown.new.desk)) c.find.ensures.written
-    c.in_ok-write_shown.ensures.traced)
+    c.in-Ok.ensures.traced)

@@ -15,5 +15,5 @@ loop-one-preserved g c =
 pub returns : goal.returns
 returns g c =
     let out = g.W.Write.contents in
-    all_written told_data (out c.args.out.now) (out c.loop-one.out) c.args.told.now c.loop-one.one-index
-    c.loop-one-test.false c.loop-one.invariant
+    all_written told_data (out c.args.out.now) (out c.loop-one.out) c.args.told.now
+    c.loop-one.one-index c.loop-one-test.false c.loop-one.invariant

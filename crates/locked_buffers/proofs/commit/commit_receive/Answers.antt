@@ -4,7 +4,7 @@ use Rattle.locked_buffers.proofs.commit.commit_receive.Goals as goal
 
 pub returns-clause-mail : goal.returns-clause-mail
 returns-clause-mail g c =
-    mail_waits g.P.Plan.start c.args.run.now c.args.book.now c.args.buffer.now c.args.node
+    mail_waits g.P.Plan.start c.args.run.now c.args.book.now c.args.buffer.now.frames c.args.node
     c.take-frames.result.items
     c.args.mail.now.waiting c.waiting-else-not-has_book.result.now c.requires.of_run
     c.requires.names c.requires.known

@@ -10,7 +10,7 @@ put-requires-clause-honest g c =
     let said = prepared_spells (algorithm_by run) c.args.prepared c.into_sealed.result
     c.in-Some-into_sealed.frame c.requires.work c.into_sealed.ensures
     c.in-Some-into_sealed.is in
-    spells_of_run run.program run.setup c.args.buffer.now c.in-Some-into_sealed.frame
+    spells_of_run run.program run.setup c.args.buffer.now.frames c.in-Some-into_sealed.frame
     c.requires.of_run said
 
 pub returns-clause-frame : goal.returns-clause-frame

@@ -8,9 +8,9 @@ use Rattle.locked_buffers.proofs.network.commit_copy.Goals as goal
 
 pub put-requires-clause-honest : goal.put-requires-clause-honest
 put-requires-clause-honest g c =
-    let same : IsSameRun c.args.buffer.now c.args.buffer.now =
+    let same : IsSameRun c.args.buffer.now.frames c.args.buffer.now.frames =
     record { program = refl; setup = refl } in
-    spelt_made c.args.buffer.now c.args.buffer.now c.args.name.copy c.args.name.round
+    spelt_made c.args.buffer.now.frames c.args.buffer.now.frames c.args.name.copy c.args.name.round
     (place_among c.args.run.now.setup.nodes (original c.args.name)) c.args.frame c.in-Some.frame
     c.honest.ensures c.requires.copied c.in-Some.is same
 

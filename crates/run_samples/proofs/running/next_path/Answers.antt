@@ -11,14 +11,14 @@ use Rattle.run_samples.proofs.running.next_path.Goals as goal
 
 pub end_node-requires-clause-nodes : goal.end_node-requires-clause-nodes
 unfolding algorithm
-end_node-requires-clause-nodes c =
+end_node-requires-clause-nodes g c =
     let w = search_of c.args.program.now c.args.case.now in
     ap length (c.deref.ensures.value ∙ c.begin_round-before.ensures.before ∙ c.requires.path.states)
     ∙ length-states_after w.algorithm (is_omitted c.args.path.lost) c.args.done
 
 pub loop-me-preserved : goal.loop-me-preserved
 unfolding algorithm
-loop-me-preserved c =
+loop-me-preserved g c =
     let w = search_of c.args.program.now c.args.case.now in
     let run = c.args.path in
     let n = c.loop-me.me in
@@ -28,14 +28,14 @@ loop-me-preserved c =
       machine = c.end_node.ensures.machine ∙ c.loop-me.invariant.machine;
       part = part_next w run c.args.done n missed c.loop-me.part c.end_node.new.part
           c.requires.path c.in-Some.ensures
-          (subst (λ g. EndsWithout w g (c.args.done + 1) n missed c.loop-me.part
+          (subst (λ x. EndsWithout w x (c.args.done + 1) n missed c.loop-me.part
           c.end_node.new.part) before c.in_ok-end_node.ensures.part) c.loop-me.invariant.part;
       kinds = c.in_ok-end_node.ensures.kinds;
     }
 
 pub returns-clause-path : goal.returns-clause-path
 unfolding algorithm
-returns-clause-path c =
+returns-clause-path g c =
     let w = search_of c.args.program.now c.args.case.now in
     let all : c.loop-me.me ≡ w.algorithm.nodes =
     omega (arith, ap (λ (x : Setup). x.nodes) c.setup.ensures) in

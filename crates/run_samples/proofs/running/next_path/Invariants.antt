@@ -5,7 +5,7 @@ use Rattle.step_code.specs.Turns.{IsOfState}
 use Rattle.run_samples.proofs.running.next_path.Given as goal
 
 abbrev pub invariant-loop-me : goal.invariant-loop-me
-invariant-loop-me l =
+invariant-loop-me g l =
     record {
       machine : l.machine ≡ l.program;
       part : IsPart (search_of l.program l.case) l.fn.path (l.done + 1) l.me l.part;

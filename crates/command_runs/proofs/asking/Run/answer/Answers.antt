@@ -1,9 +1,9 @@
 use Rattle.std.proofs.Common.{subst}
 use Rattle.std.specs.Prelude.{IfSome}
-use Rattle.std.proofs.lemmas.Result.{IfErr-weaker, IfOk-weaker}
+use Rattle.std.proofs.lemmas.Result.{IfErr-weaker}
 use Rattle.schedule_text.specs.Readers.{IsOpened}
 use Rattle.command_runs.proofs.Refusing.{told_after, unanswered_offer, unanswered_run}
-use Rattle.command_runs.proofs.Serving.{answers_run, program_of}
+use Rattle.command_runs.proofs.Serving.{answers_run, ok_then, program_of}
 use Rattle.command_runs.proofs.Telling.{held_back, opened_is}
 use Rattle.command_runs.proofs.asking.Run.answer.Goals as goal
 use Rattle.command_runs.specs.Refused.{IsNotOffered}
@@ -18,9 +18,10 @@ returns-in-Ok-clause-answer g c =
     (c.open.ensures.files run.schedule.now) c.in_ok-schedule.ensures.opened in
     let is = program_of run.source files c.in_ok-opened.opened o.setup.nodes o.setup.faults
     c.in-Ok.program c.in_ok-opened.ensures.opened c.in-Ok.ensures.program in
-    IfOk-weaker c.answer_by.result _ _
-    (λ a h. answers_run run.source files c.in-Ok.program o.setup o.plan o.reader c.args.question
-    (files run.schedule.now) a is begun h) c.answer_by.ensures.answered
+    ok_then c.answer_by.result _ _
+    (λ plan a h. answers_run run.source files c.in-Ok.program o.setup o.plan o.reader
+    c.args.question (files run.schedule.now) a is begun plan h) c.answer_by.ensures.plan
+    c.answer_by.ensures.answered
 
 pub returns-in-Ok-clause-refused : goal.returns-in-Ok-clause-refused
 returns-in-Ok-clause-refused g c =

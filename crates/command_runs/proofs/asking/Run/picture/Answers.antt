@@ -1,10 +1,10 @@
 use Rattle.std.proofs.Common.{◌≡◌, List, Some, inl, inr, ℕ, subst, sym}
 use Rattle.std.specs.Prelude.{string_bytes}
-use Rattle.std.proofs.lemmas.Result.{IfErr-weaker, IfOk-weaker}
+use Rattle.std.proofs.lemmas.Result.{IfErr-weaker}
 use Rattle.schedule_text.specs.Readers.{IsOpened}
 use Rattle.command_runs.proofs.Drawn.{draws_run, missing_in, opened_in, undrawn_offer, undrawn_run}
 use Rattle.command_runs.proofs.Refusing.{err_then, told_after}
-use Rattle.command_runs.proofs.Serving.{program_of}
+use Rattle.command_runs.proofs.Serving.{ok_then, program_of}
 use Rattle.command_runs.proofs.Telling.{held_back, opened_is}
 use Rattle.command_runs.proofs.Wholes.{whole_is}
 use Rattle.command_runs.proofs.asking.Run.picture.Goals as goal
@@ -28,9 +28,9 @@ returns-in-Ok-clause-drawn g c =
     c.in_ok-schedule.ensures.opened) in
     let is = program_of run.source files c.in_ok-opened.opened o.setup.nodes o.setup.faults
     c.in-Ok.program c.in_ok-opened.ensures.opened c.in-Ok.ensures.program in
-    IfOk-weaker c.draw_by.result _ _
-    (λ t h. draws_run run.source files c.in-Ok.program o.setup o.plan o.reader
-    c.args.drawing.now file is begun h) c.draw_by.ensures.drawn
+    ok_then c.draw_by.result _ _
+    (λ plan t h. draws_run run.source files c.in-Ok.program o.setup o.plan o.reader
+    c.args.drawing.now file is begun plan h) c.draw_by.ensures.plan c.draw_by.ensures.drawn
 
 pub returns-in-Ok-clause-refused : goal.returns-in-Ok-clause-refused
 returns-in-Ok-clause-refused g c =

@@ -15,7 +15,8 @@ returns-clause-found g c =
     let ready = c.in_ok-program.ensures.searchable in
     finds_in asked.source files p s k asked.exploring
     (record { head = c.in_ok-program.head; found = c.in_ok-found.found })
-    (files asked.header.now) ready.program ready.read c.in_ok-found.ensures.found
+    (files asked.header.now) ready.program ready.read ready.explored
+    c.in_ok-found.ensures.found
     c.in_ok-program.ensures.headed
 
 pub returns-clause-apart : goal.returns-clause-apart

@@ -20,7 +20,8 @@ returns-clause-ready g c =
           (c.open.ensures.files threaded.setup.now) c.in_ok-setup.ensures.setup;
       program = program_of threaded.source files c.in_ok-opened.opened t.setup.nodes
           t.setup.faults p c.in_ok-opened.ensures.opened c.in_ok-program.ensures.program;
-      fit = λ bad. bad c.in_ok-check_fit.ensures.fit;
+      fit = c.in_ok-check_fit.ensures.fit.0;
+      plan = c.in_ok-check_fit.ensures.fit.1;
     }
 
 pub returns-in_err-program-clause-refused : goal.returns-in_err-program-clause-refused

@@ -16,7 +16,8 @@ returns-clause-told g c =
     let p = c.in_ok-program.program in
     let ready = c.in_ok-program.ensures.ready in
     IfOk-weaker c.run_by.result _ _ (λ run h whole. reports_threads threaded.source files p t run
-    (files threaded.setup.now) ready.program ready.read h whole) c.run_by.ensures.told
+    (files threaded.setup.now) ready.program ready.read ready.plan ready.fit h whole)
+    c.run_by.ensures.told
 
 pub returns-clause-starts : goal.returns-clause-starts
 returns-clause-starts g c =

@@ -1,12 +1,9 @@
-use Rattle.std.proofs.Common.{length, sym, ap, ◌∙◌}
-use Rattle.step_book.specs.Log.{Recorded}
+use Rattle.locked_buffers.specs.Runs.{IsFlightAfter}
+use Rattle.locked_buffers.proofs.Read.{read_in_run}
 use Rattle.locked_buffers.proofs.post.Post.flight.Goals as goal
 
 pub returns : goal.returns
-returns g c = record {
-  one = c.deref-2.result.now;
-  flies = c.in_ok-flight.ensures;
-  counted = ap length c.trace.ensures
-      ∙ ap (λ (b : Recorded g.row.P.Denot). length b.log.trace) (c.deref-3.ensures
-      ∙ sym c.deref-2.ensures);
-}
+returns g c =
+    read_in_run g.P.Plan.start c.self.inside.run c.args.self.now c.deref-2.result.now
+    (λ one o. IsFlightAfter g.P.Plan.start one o.0.items o.1) c.read_flight.result
+    c.self.view_is c.read_flight.ensures.of_run c.read_flight.ensures.flight

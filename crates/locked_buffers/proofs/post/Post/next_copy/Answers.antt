@@ -1,9 +1,9 @@
-use Rattle.locked_buffers.proofs.Copied.{next_is}
+use Rattle.locked_buffers.specs.Runs.{IsNextCopy}
+use Rattle.locked_buffers.proofs.Read.{read_in_run}
 use Rattle.locked_buffers.proofs.post.Post.next_copy.Goals as goal
 
 pub returns-clause-ok : goal.returns-clause-ok
-returns-clause-ok g c = (
-  c.deref-3.result.now,
-  next_is g.P.Plan.start c.deref-3.result.now c.args.name c.next_copy.result
-      c.next_copy.ensures.some c.next_copy.ensures.none,
-)
+returns-clause-ok g c =
+    read_in_run g.P.Plan.start c.self.inside.run c.args.self.now c.deref-2.result.now
+    (λ one copied. IsNextCopy g.P.Plan.start one c.args.name copied) c.read_copy.result
+    c.self.view_is c.read_copy.ensures.of_run c.read_copy.ensures.copy

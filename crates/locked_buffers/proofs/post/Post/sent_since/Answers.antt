@@ -1,50 +1,10 @@
-use Rattle.std.proofs.Common.{
-  ℕ,
-  ◌<◌,
-  ◌⊎◌,
-  inl,
-  inr,
-  ◌≡◌,
-  ◌∙◌,
-  ◌++◌,
-  List,
-  ap,
-  append-nil,
-  arith,
-  drop,
-  length,
-  sym,
-}
-use Rattle.std.proofs.Math.ListN.{drop_of_length-le}
-use Rattle.std.proofs.lemmas.List.{take_rest}
-use Rattle.step_book.specs.Log.{Recorded}
-use Rattle.step_machine.specs.declared.event.Name.{Name}
+use Rattle.locked_buffers.specs.Runs.{AddsSentAfter}
+use Rattle.locked_buffers.proofs.Read.{read_in_run}
 use Rattle.locked_buffers.proofs.post.Post.sent_since.Goals as goal
-use Rattle.locked_buffers.proofs.post.Post.sent_since.Goals.{in-Some+in_ok-add_names, in_default}
-
--- nothing lies past the end
-past : (xs ys : List Name) (k : ℕ) → (length ys < k) ⊎ (length ys < length ys)
-    → xs ≡ xs ++ drop k ys
-past xs ys k (inl less) = sym (ap (λ zs. xs ++ zs) (drop_of_length-le ys (omega (arith, less)))
-    ∙ append-nil xs)
-past xs ys k (inr less) = absurd (omega (arith, less))
 
 pub returns-clause-ok : goal.returns-clause-ok
 returns-clause-ok g c =
-    let old = c.args.sent.now.items in
-    let names = c.messages.result.now in
-    let k = c.args.known in record {
-      one = c.deref-2.result.now;
-      messages = names;
-      are = c.messages.ensures;
-      adds = elim c.match-get.branch [
-        | in-Some+in_ok-add_names w ↦
-            ap (λ v. v.items) w.sent-is ∙ w.in_ok-add_names.ensures.ok
-            ∙ ap (λ zs. old ++ zs) (w.in-Some.ensures.lookup.0.2 ∙ take_rest names k)
-        | in_default w ↦ ap (λ v. v.items) w.sent-is
-            ∙ past old names k w.in_default.ensures.lookup.0
-      ];
-      counted = ap length c.trace.ensures
-          ∙ ap (λ (b : Recorded g.row.P.Denot). length b.log.trace) (c.deref-3.ensures
-          ∙ sym c.deref-2.ensures);
-    }
+    read_in_run g.P.Plan.start c.self.inside.run c.args.self.now c.deref-2.result.now
+    (λ one count. AddsSentAfter g.P.Plan.start one c.args.known c.args.sent.now.items
+    c.read_sent.new.sent.items count) c.read_sent.result
+    c.self.view_is c.read_sent.ensures.of_run c.read_sent.ensures.sent

@@ -15,4 +15,4 @@ returns-in-Some-get-2 g c =
     found.3.0 found.3.1 in
     subst (λ (z : Choice). IfOk c.copy_of.result (ComesToInOne g.P.Plan.start flight (Some z)))
     (sym c.in-Copy.is)
-    (copy_comes g.P.Plan.start flight k m.name c.copy_of.result at c.copy_of.ensures)
+    (copy_comes g.P.Plan.start c.args.self.now.post.now flight k m.name c.copy_of.result at c.copy_of.ensures)

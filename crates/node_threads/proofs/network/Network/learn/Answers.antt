@@ -18,6 +18,6 @@ returns-clause-learnt g c =
       inv.sized,
       c.loop-place-test.false,
     ) in
-    learnt_all g.P.Plan.start (g.P.Plan.start c.args.self.now.plan) old new c.in_ok-events.events
-    c.loop-place.place c.clear.new.self.items c.sent_since.new.sent.items now.sent.items
+    learnt_all g.P.Plan.start c.args.self.now.post.now (g.P.Plan.start c.args.self.now.plan) old new
+    c.in_ok-events.events c.loop-place.place c.clear.new.self.items c.sent_since.new.sent.items now.sent.items
     c.in_ok-events.ensures.ok c.clear.ensures.items inv.same all inv.flight inv.known inv.relay

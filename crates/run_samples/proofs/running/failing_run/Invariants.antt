@@ -3,7 +3,7 @@ use Rattle.std.specs.List.{All}
 use Rattle.round_explorer.specs.Searched.{IsTrack, search_of}
 use Rattle.step_code.specs.Turns.{IsOfState}
 use Rattle.run_samples.specs.Samples.{HoldsBefore}
-use Rattle.run_samples.proofs.running.failure_of.Given as goal
+use Rattle.run_samples.proofs.running.failing_run.Given as goal
 
 abbrev pub invariant-loop-done : goal.invariant-loop-done
 invariant-loop-done g l =
