@@ -1,9 +1,11 @@
-//! What is asked for.
-
+//! Reports as data and as tables.
 use crate::short_writer::ShortWriter;
-use omission_explainer::{Report, write_report};
+use omission_explainer::{Report, explain, write_report};
 use run_data::{DataFault, Grouping, TableOptions, write_report_data, write_summary, write_table};
+use slot_plans::Plan;
 use std::alloc::Global;
+use std::io::{ErrorKind, Write};
+use step_journal::Journal;
 use test_kit::{Fault, comma_numbers, number};
 
 /// How a report is shown.
@@ -15,21 +17,54 @@ enum Form {
     Summary,
 }
 
-/// A source, the form of its report, and what a table shows of it.
+/// The form of a report, and what a table shows of it.
 #[derive(Drop)]
-pub(crate) struct Asked<'a> {
-    pub source: &'a str,
+pub(crate) struct Data {
     /// How many bytes the writer takes.
-    pub room: usize,
+    room: usize,
     form: Form,
     by: Grouping,
     places: Option<Vec<usize>>,
     changed_only: bool,
 }
 
-impl Asked<'_> {
+impl Data {
+    /// Reads the words behind the source.
+    pub(crate) fn of(alloc: Global, form: &str, options: &[&str]) -> Result<Data, Fault> {
+        let mut data = Data {
+            room: usize::MAX,
+            form: form_of(form)?,
+            by: Grouping::Round,
+            places: None,
+            changed_only: false,
+        };
+        let mut option = "";
+        for word in options {
+            option = read_word(alloc, &mut data, option, *word)?;
+        }
+        Ok(data)
+    }
+
+    /// Writes the report of a run, and behind what the writer took the fault if it fails.
+    pub(crate) fn tell<P: Plan>(
+        &self,
+        alloc: Global,
+        journal: &Journal<P>,
+        out: &mut Vec<u8>,
+    ) -> Result<(), Fault> {
+        let report = explain(alloc, journal)?;
+        let mut bytes = ShortWriter::new(alloc, self.room);
+        let told = self.write(alloc, &report, &mut bytes);
+        out.extend_from_slice(bytes.as_slice())?;
+        match told {
+            Ok(()) => Ok(()),
+            Err(fault) if ran_out(fault) => Err(Fault::NoMemory),
+            Err(fault) => Ok(writeln!(out, "refused: {fault}")?),
+        }
+    }
+
     /// Writes a report in this form.
-    pub(crate) fn write(
+    fn write(
         &self,
         alloc: Global,
         report: &Report,
@@ -54,24 +89,12 @@ impl Asked<'_> {
     }
 }
 
-/// Reads the words.
-pub(crate) fn asked_by<'a>(alloc: Global, words: &[&'a str]) -> Result<Asked<'a>, Fault> {
-    let [source, form, options @ ..] = words else {
-        return Err(Fault::Unreadable);
-    };
-    let mut asked = Asked {
-        source: *source,
-        room: usize::MAX,
-        form: form_of(*form)?,
-        by: Grouping::Round,
-        places: None,
-        changed_only: false,
-    };
-    let mut option = "";
-    for word in options {
-        option = read_word(alloc, &mut asked, option, *word)?;
+/// Whether memory ran out, for the report's text or in the writer.
+fn ran_out(fault: DataFault) -> bool {
+    match fault {
+        DataFault::NoMemory => true,
+        DataFault::Write(error) => error.kind() == ErrorKind::OutOfMemory,
     }
-    Ok(asked)
 }
 
 fn form_of(word: &str) -> Result<Form, Fault> {
@@ -88,7 +111,7 @@ fn form_of(word: &str) -> Result<Form, Fault> {
 /// needs the next word.
 fn read_word<'a>(
     alloc: Global,
-    asked: &mut Asked<'_>,
+    data: &mut Data,
     option: &'a str,
     word: &'a str,
 ) -> Result<&'a str, Fault> {
@@ -97,11 +120,11 @@ fn read_word<'a>(
             if word != "changed" {
                 return Ok(word);
             }
-            asked.changed_only = true;
+            data.changed_only = true;
         }
-        "by" => asked.by = grouping(word)?,
-        "vars" => asked.places = Some(places(alloc, word)?),
-        "narrow" => asked.room = number(word)? as usize,
+        "by" => data.by = grouping(word)?,
+        "vars" => data.places = Some(places(alloc, word)?),
+        "narrow" => data.room = number(word)? as usize,
         _ => return Err(Fault::Unreadable),
     }
     Ok("")

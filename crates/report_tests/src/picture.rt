@@ -1,0 +1,101 @@
+//! Pictures of runs.
+use omission_explainer::explain;
+use round_meaning::NodeSet;
+use run_picture::{PictureFault, RoundRange, View, write_picture};
+use slot_plans::Plan;
+use std::alloc::Global;
+use std::io::Write;
+use step_journal::Journal;
+use test_kit::{Fault, comma_numbers, number};
+
+/// The title of a picture, and what it shows.
+#[derive(Clone, Copy)]
+pub(crate) struct Picture<'a> {
+    title: &'a str,
+    view: View,
+}
+
+impl<'a> Picture<'a> {
+    /// Reads the words behind the source, which is the title if they give none.
+    pub(crate) fn of(
+        alloc: Global,
+        source: &'a str,
+        options: &[&'a str],
+    ) -> Result<Picture<'a>, Fault> {
+        let mut picture = Picture {
+            title: source,
+            view: View {
+                rounds: None,
+                nodes: None,
+                html: false,
+            },
+        };
+        let mut option = "";
+        for word in options {
+            option = read_word(alloc, &mut picture, option, *word)?;
+        }
+        Ok(picture)
+    }
+
+    /// Draws the run of a schedule's text.
+    pub(crate) fn draw<P: Plan>(
+        &self,
+        alloc: Global,
+        journal: &Journal<P>,
+        schedule: &str,
+        out: &mut Vec<u8>,
+    ) -> Result<(), Fault> {
+        let report = explain(alloc, journal)?;
+        let book = journal.book();
+        match write_picture(alloc, &report, book, schedule, self.title, &self.view, out) {
+            Ok(()) => Ok(()),
+            Err(PictureFault::TooManyEvents) => {
+                writeln!(out, "refused: {}", PictureFault::TooManyEvents)?;
+                Ok(())
+            }
+            Err(_) => Err(Fault::NoMemory),
+        }
+    }
+}
+
+/// Reads a word behind an option that needs a value, or behind none; and answers the option that
+/// needs the next word.
+fn read_word<'a>(
+    alloc: Global,
+    picture: &mut Picture<'a>,
+    option: &'a str,
+    word: &'a str,
+) -> Result<&'a str, Fault> {
+    match option {
+        "" => {
+            if word != "html" {
+                return Ok(word);
+            }
+            picture.view.html = true;
+        }
+        "rounds" => picture.view.rounds = Some(rounds(word)?),
+        "nodes" => picture.view.nodes = Some(nodes(alloc, word)?),
+        "title" => picture.title = word,
+        _ => return Err(Fault::Unreadable),
+    }
+    Ok("")
+}
+
+fn rounds(text: &str) -> Result<RoundRange, Fault> {
+    match text.split_once('-') {
+        Some((first, last)) => Ok(RoundRange {
+            first: number(first)?,
+            last: number(last)?,
+        }),
+        None => Err(Fault::Unreadable),
+    }
+}
+
+fn nodes(alloc: Global, text: &str) -> Result<NodeSet, Fault> {
+    let numbers = comma_numbers(alloc, text)?;
+    let mut nodes = NodeSet::empty();
+    for node in &numbers {
+        nodes = nodes.with(*node);
+    }
+    Ok(nodes)
+}
