@@ -77,6 +77,21 @@ left_by ws w files after old new refusal.NodeNoMemory means cause left = (w, mea
 left_by ws (words.Threads source setup trace told) files after old new r means cause left = left
 left_by ws w files after old new r means cause left = left
 
+pub left_if : {A : Type 0} (result : Result A Refusal) (ws : List (List ℕ)) (w : Words)
+    (files after : Files) (old new : Option (List ℕ)) → Means ws w
+    → IfErr result (IsRefusedCommand w files) → IfErr result (IsLeft w files after old new)
+    → IfErr result (IsLeftBy ws files after old new)
+left_if (Ok x) ws w files after old new means cause left = tt
+left_if (Err r) ws w files after old new means cause left =
+    left_by ws w files after old new r means cause left
+
+-- nothing was written before the output took no more, or it's of no matter
+pub left_write : {A : Type 0} (result : Result A Refusal) (ws : List (List ℕ))
+    (files after : Files) (old new : Option (List ℕ)) → IfErr result (λ r. r ≡ refusal.Write)
+    → IfErr result (IsLeftBy ws files after old new)
+left_write (Ok x) ws files after old new h = tt
+left_write (Err r) ws files after old new h = subst (IsLeftBy ws files after old new) (sym h) tt
+
 some_program : (file : Option (List ℕ)) (p : ProgramTree)
     → IfSome file (λ text. IsCheckedSource text p)
     → IfSome file (λ held. (q : ProgramTree) × IsCheckedSource held q)

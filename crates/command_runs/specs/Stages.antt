@@ -1,6 +1,6 @@
 -- What the parts of a command answer, which proofs pass through.
 use Rattle.std.specs.Borrow.{Bor}
-use Rattle.std.specs.Prelude.{◌≡◌, ◌≢◌, ◌<◌, ◌⊎◌, ◌++◌, ◌∷◌, ⊤, ℕ, All, Bool, IfSome, List, []}
+use Rattle.std.specs.Prelude.{◌≡◌, ◌≢◌, ◌<◌, ◌⊎◌, ◌++◌, ◌∷◌, ⊤, ℕ, All, IfSome, List, []}
 use Rattle.std.specs.Prelude.{Option, Some, length}
 use Rattle.std.specs.Prelude.{true}
 use Rattle.std.specs.Io.KnownBytes.{Appends}
