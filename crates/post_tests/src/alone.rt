@@ -3,7 +3,7 @@ ghost use Rattle.std.specs.Prelude.{◌≡◌};
 ghost use Rattle.round_meaning.specs.Setups.{IsLawful};
 
 use crate::forwarding::Forwarding;
-use crate::report;
+use crate::reports::{end_text, report};
 use locked_buffers::{Mail, OpenGate, Post, Seat};
 use node_threads::{Beat, Ended, run_steps};
 use round_check::Checked;
@@ -89,12 +89,8 @@ pub fn run_all<P: Plan, M: Mail<P>>(
     let mut after = Vec::new(alloc);
     for seat in seats {
         let (seat, ended) = run_alone(alloc, mail, program, setup, plan, seat)?;
-        out.push_str(match ended {
-            Some(Ended::Done) => "done\n",
-            Some(Ended::Stopped) => "stopped\n",
-            Some(Ended::NoMemory) => "no memory\n",
-            None => "refused\n",
-        })?;
+        let told = ended.map_or("refused", end_text);
+        writeln!(out, "{told}")?;
         after.push(seat)?;
     }
     Ok(after)

@@ -1,4 +1,5 @@
-//! What a run under locks answers on one thread, asked by texts.
+//! What policies choose, and what runs under locks answer, on one thread or by threads, asked by
+//! texts.
 //!
 //! ```text
 //! post_tests row SOURCE
@@ -7,6 +8,17 @@
 //! post_tests again SOURCE
 //! post_tests memory SOURCE
 //! post_tests others SOURCE
+//! post_tests prompt
+//! post_tests hoard COUNT
+//! post_tests script NAME ..
+//! post_tests faulty CHOICE ..
+//! post_tests bounded DELTA GST DELAY ..
+//! post_tests run VALUES INPUTS ROUNDS RECEIVES CORRECT TICKS POLICY ..
+//! post_tests threads VALUES POLICY ..
+//! post_tests tail VALUES POLICY ..
+//! post_tests events VALUES POLICY ..
+//! post_tests overlap
+//! post_tests watched POLICY ..
 //! ```
 //!
 //! SOURCE is the file of a program, or `gather:K` for K values. With `row`, standard input is a
@@ -26,117 +38,110 @@
 //!
 //! With `others`, node 0 of a schedule without events sends to itself and hears it. Its round is
 //! closed with the work of another node, and then with its own. Standard output has the answers.
+//!
+//! A policy is one of the five words `prompt`, `hoard`, `script`, `faulty` and `bounded` with what
+//! stands behind it. Where it comes first, each line of standard input is a call of it: the tick,
+//! and then the messages in flight, each as its name, `sent_at` and `serial`, `0.1.1.0.5.7`. A line
+//! of standard output has the choice: `none`, `release 0`, `drop 0` or `copy 0`. A name is
+//! `FROM.TO.ROUND.COPY`, and a choice among the words is `release.0`.
+//!
+//! With `run`, standard output has the schedule of a run of `gather` in which the policy is asked,
+//! or `refused`; INPUTS and CORRECT have commas, and `-` stands for none.
+//!
+//! With `threads`, standard input is the thread setup of a run of `gather` by threads. Standard
+//! output has how each thread ended, the report, and whether the run's trace has the same report
+//! as a schedule; or `refused` with the fault's number. With `tail` it has of the report the lines
+//! of the nodes alone, and with `events` these and the run's schedule. With `overlap` a gate holds
+//! some threads until others have passed, and with `watched` until the network has done two choices
+//! of the policy.
 #![tactic(auto)]
 
-ghost use Rattle.std.specs.Prelude.{◌≡◌};
-
 mod alone;
+mod calls;
+mod chosen;
 mod forwarding;
+mod gate;
 mod memory;
 mod others;
+mod reading;
 mod recorder;
+mod reports;
 mod row;
+mod running;
+mod schedules;
+mod sources;
+mod threads;
+mod watch;
 
-use adversary::{Schedule, ScheduleFault, read_schedule};
-use omission_explainer::{explain, write_report};
-use round_check::{Checked, check};
-use round_lang::parse;
-use slot_plans::{Growing, Known, Plan, PlanKind};
+use calls::call_all;
+use chosen::Chosen;
+use running::schedule;
+use sources::program;
 use std::alloc::Global;
 use std::io::Write;
 use std::process::ExitCode;
-use std::rt::Files;
 use std::sync::Wait;
-use std::{env, fs, io};
-use step_journal::Journal;
+use std::thread::Threads;
+use std::{env, io};
 use test_kit::Fault;
+use threads::{Shown, overlap, threads, watched};
 
-/// The program of a source.
-fn program<R: Files + AllocGlobal>(rt: &R, alloc: Global, source: &str) -> Result<Checked, Fault> {
-    let text = match source.split_once(':') {
-        Some(("gather", values)) => format!(in alloc;
-            "values {values} period 1 input x state seen: set = single(x) decide seen
-            at 1: message (s: set) send when true: (seen)
-            on message: seen := seen union s; end:"
-        )?,
-        _ => fs::read_to_string(rt, source)?,
-    };
-    Ok(check(alloc, parse(alloc, text.as_str())?)?)
-}
-
-/// The report of a journal.
-pub fn report<P: Plan>(alloc: Global, journal: &Journal<P>) -> Result<String, Fault> {
-    let mut bytes = Vec::new(alloc);
-    write_report(&explain(alloc, journal)?, &mut bytes)?;
-    String::from_utf8(bytes).map_err(|_| Fault::Unreadable)
-}
-
-/// Answers under a plan.
-fn answer_planned<R: Wait, P: Plan>(
-    rt: &R,
+/// Answers a word about the schedule of a program.
+fn answer_schedule<R: Wait>(
+    rt: &HostRuntime,
+    waiter: &R,
     alloc: Global,
-    program: &Checked,
-    schedule: &Schedule,
-    plan: P,
-    word: &str,
-) -> Result<String, Fault>
-    requires { P.nodes plan ≡ schedule.now.setup.nodes }
-{
-    if !schedule.setup.is_lawful(program) {
-        return Err(Fault::Unreadable);
-    }
-    match word {
-        "row" => row::answer(rt, alloc, program, schedule, plan),
-        "strangers" => row::answer_of_strangers(rt, alloc, program, schedule, plan),
-        "alone" => alone::answer(rt, alloc, program, &schedule.setup, plan, false),
-        "again" => alone::answer(rt, alloc, program, &schedule.setup, plan, true),
-        "memory" => memory::answer(rt, alloc, program, &schedule.setup, plan),
-        "others" => others::answer(rt, alloc, program, &schedule.setup, plan),
-        _ => Err(Fault::Unreadable),
-    }
-}
-
-fn schedule_fault(fault: ScheduleFault) -> Fault {
-    match fault {
-        ScheduleFault::NoMemory => Fault::NoMemory,
-        _ => Fault::Unreadable,
-    }
-}
-
-fn answer_text<R: Wait>(
-    rt: &R,
-    alloc: Global,
-    program: &Checked,
+    words: &[String],
     input: &str,
-    word: &str,
 ) -> Result<String, Fault> {
-    let schedule = read_schedule(alloc, input).map_err(schedule_fault)?;
-    let nodes = schedule.setup.nodes;
-    match schedule.plan {
-        PlanKind::Known(delta) => {
-            let plan = Known::new(nodes, delta).ok_or(Fault::Unreadable)?;
-            answer_planned(rt, alloc, program, &schedule, plan, word)
+    let [word, source] = words else {
+        return Err(Fault::Unreadable);
+    };
+    let program = program(rt, alloc, source.as_str())?;
+    schedules::answer(waiter, alloc, &program, input, word.as_str())
+}
+
+/// What the words ask for: a run, or what a policy chooses at each call.
+fn answer_all<R: Threads + Wait + Sync>(
+    rt: &HostRuntime,
+    starter: &R,
+    alloc: Global,
+    words: &[String],
+    input: &str,
+) -> Result<String, Fault> {
+    let [kind, rest @ ..] = words else {
+        return Err(Fault::Unreadable);
+    };
+    match kind.as_str() {
+        "row" | "strangers" | "alone" | "again" | "memory" | "others" => {
+            answer_schedule(rt, starter, alloc, words, input)
         }
-        PlanKind::Growing => {
-            let plan = Growing::new(nodes).ok_or(Fault::Unreadable)?;
-            answer_planned(rt, alloc, program, &schedule, plan, word)
-        }
+        "run" => schedule(alloc, rest),
+        "threads" => threads(starter, alloc, Shown::Whole, rest, input),
+        "tail" => threads(starter, alloc, Shown::Tail, rest, input),
+        "events" => threads(starter, alloc, Shown::Events, rest, input),
+        "overlap" => overlap(starter, alloc, input),
+        "watched" => watched(starter, alloc, rest, input),
+        _ => call_all(alloc, Chosen::read(alloc, words)?, input),
     }
 }
 
 /// Does what the words say, and gives what is to be printed.
-fn answer<R: Wait>(rt: &HostRuntime, waiter: &R, alloc: Global) -> Result<String, Fault> {
+fn answer<R: Threads + Wait + Sync>(
+    rt: &HostRuntime,
+    starter: &R,
+    alloc: Global,
+) -> Result<String, Fault> {
     let words = env::args(rt)?.collect::<Vec<String>>(alloc)?;
-    let [_, word, source] = words.as_slice() else {
+    let [_, words @ ..] = words.as_slice() else {
         return Err(Fault::Unreadable);
     };
-    let program = program(rt, alloc, source.as_str())?;
     let input = io::read_to_string(alloc, rt.reader())?;
-    answer_text(waiter, alloc, &program, &input, word.as_str())
+    answer_all(rt, starter, alloc, words, input.as_str())
 }
 
-fn run<R: Wait>(rt: &HostRuntime, waiter: &R) -> Result<(), Fault> {
-    let out = answer(rt, waiter, rt.alloc())?;
+fn run<R: Threads + Wait + Sync>(rt: &HostRuntime, starter: &R) -> Result<(), Fault> {
+    let out = answer(rt, starter, rt.alloc())?;
     rt.stdout().write_all(out.as_bytes())?;
     Ok(())
 }

@@ -3,7 +3,7 @@ ghost use Rattle.std.specs.Prelude.{◌≡◌};
 ghost use Rattle.round_meaning.specs.Setups.{IsLawful};
 
 use crate::alone::run_all;
-use crate::report;
+use crate::reports::report;
 use locked_buffers::{Mail, PostFault, Run, Seat, may_close, refuses_receive, refuses_send};
 use round_check::Checked;
 use round_meaning::Setup;

@@ -5,7 +5,7 @@ ghost use Rattle.step_book.specs.Buffers.{IsMail};
 ghost use Rattle.step_machine.specs.Nodes.{algorithm_in};
 
 use crate::recorder::{Counter, Recorder};
-use crate::report;
+use crate::reports::report;
 use locked_buffers::{Post, PostFault, RelayFault, Unmatched};
 use round_check::Checked;
 use round_meaning::Setup;

@@ -9,47 +9,39 @@
 //! run_tests report | writers NAME
 //! run_tests writers run SOURCE
 //! run_tests lists
+//! run_tests lockstep VALUES INPUTS ROUNDS RECEIVES CORRECT DELTA GST TICKS DELAYS ORDERS [CHANGES]
 //! ```
 //!
-//! SOURCE is the file of a program, or `gather:K` or `gather_from_ones:K` for K values; INPUTS has
-//! commas. But for a schedule, a thread setup and a header, which are read whole, each line of
-//! standard input is an act, and a line of standard output its answer. With `writers run` standard
-//! input is the schedule of the run whose report is written.
+//! SOURCE is the file of a program, or `gather:K` or `gather_from_ones:K` for K values. INPUTS,
+//! CORRECT, DELAYS and ORDERS have commas, and `-` stands for none. But for a schedule, a thread
+//! setup and a header, which are read whole, each line of standard input is an act, and a line of
+//! standard output its answer. With `writers run` standard input is the schedule of the run whose
+//! report is written.
+//!
+//! With `lockstep`, standard output has the schedule of a run of `gather` in lockstep, or
+//! `refused`. RECEIVES are the receive steps of a round. CHANGES are the words STOPS OMISSIONS OWN,
+//! lists of the same form: each stop is the two numbers I,C, each omission the three I,R,J, and
+//! each delay of a message of its own the four J,I,R,D.
 #![tactic(auto)]
 
 mod journal;
+mod lockstep;
 mod plans;
 mod reading;
 mod reports;
 mod schedules;
+mod sources;
 mod writers;
 
+use sources::source;
 use std::alloc::Global;
 use std::io::Write;
 use std::process::ExitCode;
-use std::rt::Files;
-use std::{env, fs, io};
+use std::{env, io};
 use test_kit::{Fault, texts};
 
 /// The room for answers, so that giving one takes no memory.
 const ROOM: usize = 65_536;
-
-/// The source in which each node tells what it has seen if the condition holds.
-fn gathering(alloc: Global, values: &str, condition: &str) -> Result<String, Fault> {
-    Ok(format!(in alloc;
-        "values {values} period 1 input x state seen: set = single(x) decide seen
-        at 1: message (s: set) send when {condition}: (seen)
-        on message: seen := seen union s; end:"
-    )?)
-}
-
-fn source<R: Files + AllocGlobal>(rt: &R, alloc: Global, name: &str) -> Result<String, Fault> {
-    match name.split_once(':') {
-        Some(("gather", values)) => gathering(alloc, values, "true"),
-        Some(("gather_from_ones", values)) => gathering(alloc, values, "x = 1"),
-        _ => Ok(fs::read_to_string(rt, name)?),
-    }
-}
 
 /// Acts on a journal.
 fn ask_journal(
@@ -97,6 +89,7 @@ fn answer(rt: &HostRuntime, words: &[&str], out: &mut String) -> Result<(), Faul
         ["report", name] => reports::print(rt.alloc(), name, out),
         ["writers", name] => writers::try_named(rt.alloc(), name, out),
         ["lists"] => writers::list(rt.alloc(), out),
+        ["lockstep", words @ ..] => lockstep::write_run(rt.alloc(), words, out),
         _ => answer_input(rt, words, out),
     }
 }

@@ -1,11 +1,11 @@
-//! Texts of numbers, plans and setups.
+//! Texts of numbers, plans and setups, and sets of nodes.
 ghost use Rattle.std.specs.Prelude.{◌≡◌, IfOk};
 ghost use Rattle.slot_plans.specs.Known.{known_nodes};
 
-use round_meaning::{Inputs, Setup};
+use round_meaning::{Inputs, NodeSet, Setup};
 use slot_plans::{Known, PlanKind};
 use std::alloc::Global;
-use test_kit::{Fault, cut, number, numbers};
+use test_kit::{Fault, comma_numbers, cut, number};
 
 /// Two numbers with a blank between them.
 pub fn two(text: &str) -> Result<(u32, u32), Fault> {
@@ -22,9 +22,18 @@ pub fn kind(text: &str) -> Result<PlanKind, Fault> {
     }
 }
 
+/// The set of these nodes.
+pub fn nodes(members: &[u32]) -> NodeSet {
+    let mut set = NodeSet::empty();
+    for node in members {
+        set = set.with(*node);
+    }
+    set
+}
+
 /// A setup without faults, of as many nodes as there are inputs.
 pub fn setup(alloc: Global, inputs: &str, rounds: &str) -> Result<Setup, Fault> {
-    let inputs = numbers(alloc, inputs.split(','))?;
+    let inputs = comma_numbers(alloc, inputs)?;
     Ok(Setup {
         nodes: inputs.len().min(16) as u32,
         faults: 0,

@@ -1,7 +1,7 @@
 //! Reports made by hand.
+use crate::reading::nodes;
 use omission_explainer::{Listed, Report, ReportRow, write_report};
 use round_lang::{Identifier, NoMemory, Row, Shape, Ty, Value, ValueSet, VarsBuilder};
-use round_meaning::NodeSet;
 use std::alloc::Global;
 use std::sync::Arc;
 use step_machine::StoredState;
@@ -33,12 +33,6 @@ struct Case {
     types: &'static [Ty],
     rows: &'static [GivenRow],
     counts: &'static [(u64, u64)],
-}
-
-fn nodes(members: &[u32]) -> NodeSet {
-    NodeSet {
-        bits: values(members).bits,
-    }
 }
 
 fn values(members: &[u32]) -> ValueSet {

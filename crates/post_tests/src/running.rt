@@ -1,23 +1,13 @@
 //! Runs of `gather` in which a policy is asked.
 use crate::chosen::Chosen;
+use crate::sources::gather;
 use adversary::{RunFault, run_policy};
-use round_check::{Checked, check};
-use round_lang::parse;
+use round_check::Checked;
 use round_meaning::{Inputs, NodeSet, Setup};
 use schedule_text::write_stored_schedule;
 use slot_plans::{Known, PlanKind};
 use std::alloc::Global;
 use test_kit::{Fault, comma_numbers, number};
-
-/// Each node sends what it has seen.
-pub fn gather(alloc: Global, values: &str) -> Result<Checked, Fault> {
-    let text = format!(in alloc;
-        "values {values} period 1 input x state seen: set = single(x) decide seen
-        at 1: message (s: set) send when true: (seen)
-        on message: seen := seen union s; end:"
-    )?;
-    Ok(check(alloc, parse(alloc, text.as_str())?)?)
-}
 
 fn nodes(alloc: Global, text: &str) -> Result<NodeSet, Fault> {
     let members = comma_numbers(alloc, text)?;

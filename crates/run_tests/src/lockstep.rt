@@ -1,60 +1,18 @@
 //! Runs of `gather` in lockstep, as schedules.
-//!
-//! ```text
-//! lockstep_tests VALUES INPUTS ROUNDS RECEIVES CORRECT DELTA GST TICKS DELAYS ORDERS [CHANGES]
-//! ```
-//!
-//! RECEIVES are the receive steps of a round. INPUTS, CORRECT, DELAYS and ORDERS have commas, and
-//! `-` stands for none. CHANGES are the words STOPS OMISSIONS OWN, lists of the same form: each
-//! stop is the two numbers I,C, each omission the three I,R,J, and each delay of a message of its
-//! own the four J,I,R,D. Standard output has the schedule of the run, or `refused`.
-#![tactic(auto)]
-
 ghost use Rattle.std.specs.Prelude.{◌≡◌, IfOk};
 
+use crate::reading::{known, nodes, setup};
+use crate::sources::gather;
 use adversary::RunFault;
 use lockstep_runs::{Changes, MessageDelay, Stop, run_changed_lockstep, run_lockstep};
 use policies::{Bounded, Table};
-use round_check::{Checked, check};
-use round_lang::parse;
-use round_meaning::{Inputs, NodeSet, OmissionTable, Setup};
+use round_check::Checked;
+use round_meaning::{NodeSet, OmissionTable, Setup};
 use schedule_text::write_stored_schedule;
 use slot_plans::{Known, PlanKind};
 use std::alloc::Global;
-use std::env;
-use std::io::Write;
-use std::process::ExitCode;
 use step_journal::Journal;
-use test_kit::{Fault, comma_numbers, number, texts};
-
-fn nodes(alloc: Global, text: &str) -> Result<NodeSet, Fault> {
-    let members = comma_numbers(alloc, text)?;
-    let mut set = NodeSet::empty();
-    for node in &members {
-        set = set.with(*node);
-    }
-    Ok(set)
-}
-
-/// Each node sends what it has seen.
-fn gather(alloc: Global, values: &str) -> Result<Checked, Fault> {
-    let text = format!(in alloc;
-        "values {values} period 1 input x state seen: set = single(x) decide seen
-        at 1: message (s: set) send when true: (seen)
-        on message: seen := seen union s; end:"
-    )?;
-    Ok(check(alloc, parse(alloc, text.as_str())?)?)
-}
-
-fn setup(alloc: Global, inputs: &str, rounds: &str) -> Result<Setup, Fault> {
-    let inputs = comma_numbers(alloc, inputs)?;
-    Ok(Setup {
-        nodes: inputs.len().min(16) as u32,
-        faults: 0,
-        inputs: Inputs::new(inputs),
-        rounds: number(rounds)?,
-    })
-}
+use test_kit::{Fault, comma_numbers, number};
 
 fn bounded(alloc: Global, words: [&str; 4]) -> Result<Bounded, Fault> {
     let [delta, gst, delays, orders] = words;
@@ -135,13 +93,13 @@ impl Question {
         let program = gather(alloc, values)?;
         let setup = setup(alloc, inputs, rounds)?;
         let receives = number(receives)?;
-        let plan = Known::new(setup.nodes, receives).ok_or(Fault::Unreadable)?;
+        let plan = known(setup.nodes, receives)?;
         Ok(Question {
             program,
             setup,
             receives,
             plan,
-            correct: nodes(alloc, correct)?,
+            correct: nodes(&comma_numbers(alloc, correct)?),
             bounded: bounded(alloc, [delta, gst, delays, orders])?,
             ticks: number(ticks)?,
         })
@@ -215,21 +173,9 @@ fn schedule(alloc: Global, words: &[&str]) -> Result<String, Fault> {
     }
 }
 
-fn run(rt: &HostRuntime, alloc: Global) -> Result<(), Fault> {
-    let words = env::args(rt)?.collect::<Vec<String>>(alloc)?;
-    let words = texts(alloc, words.as_slice())?;
-    let out = schedule(alloc, words.as_slice())?;
-    rt.stdout().write_all(out.as_bytes())?;
+/// Writes the schedule of that run.
+pub fn write_run(alloc: Global, words: &[&str], out: &mut String) -> Result<(), Fault> {
+    let text = schedule(alloc, words)?;
+    out.push_str(text.as_str())?;
     Ok(())
-}
-
-fn main(rt: HostRuntime) -> ExitCode {
-    match run(&rt, rt.alloc()) {
-        Ok(()) => ExitCode::SUCCESS,
-        Err(fault) => {
-            // Where standard error fails too there is nobody left to tell.
-            let _ = writeln!(rt.stderr(), "{fault}");
-            ExitCode::from(fault.status())
-        }
-    }
 }

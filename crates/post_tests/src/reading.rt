@@ -1,8 +1,17 @@
-//! Texts of numbers, messages and choices.
+//! Texts of numbers, messages and choices, and why a schedule's text has no answer.
 use policies::Choice;
+use schedule_text::ScheduleFault;
 use std::alloc::Global;
 use step_machine::{InFlight, Name};
 use test_kit::{Fault, number, numbers};
+
+/// Why there is no answer where the text of a schedule is refused.
+pub fn schedule_fault(fault: ScheduleFault) -> Fault {
+    match fault {
+        ScheduleFault::NoMemory => Fault::NoMemory,
+        _ => Fault::Unreadable,
+    }
+}
 
 pub fn names(alloc: Global, words: &[String]) -> Result<Vec<Name>, Fault> {
     let mut names = Vec::new(alloc);

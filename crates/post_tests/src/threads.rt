@@ -3,19 +3,19 @@ ghost use Rattle.std.specs.Prelude.{◌≡◌};
 
 use crate::chosen::Chosen;
 use crate::gate::Holder;
-use crate::running::gather;
+use crate::reading::schedule_fault;
+use crate::reports::{end_text, report};
+use crate::sources::gather;
 use crate::watch::{Watch, Watched};
 use adversary::{RunFault, run_schedule};
 use locked_buffers::{Gate, OpenGate};
 use node_threads::{Ended, run_threads};
-use omission_explainer::{explain, write_report};
 use policies::{Policy, Prompt};
 use round_check::Checked;
 use round_meaning::Setup;
-use schedule_text::{Pace, ScheduleFault, Stop, ThreadSetup, read_threads, write_stored_schedule};
+use schedule_text::{Pace, Stop, ThreadSetup, read_threads, write_stored_schedule};
 use slot_plans::{Growing, Known, Plan, PlanKind};
 use std::alloc::Global;
-use std::io::Write;
 use std::sync::Wait;
 use std::thread::Threads;
 use step_book::events_of;
@@ -42,20 +42,6 @@ struct Asked<'a> {
     pace: Pace,
     stops: &'a [Stop],
     shown: Shown,
-}
-
-fn ended(end: Ended) -> &'static str {
-    match end {
-        Ended::Done => "done",
-        Ended::Stopped => "stopped",
-        Ended::NoMemory => "no memory",
-    }
-}
-
-fn report<P: Plan>(alloc: Global, journal: &Journal<P>) -> Result<String, Fault> {
-    let mut bytes = Vec::new(alloc);
-    write_report(&explain(alloc, journal)?, &mut bytes)?;
-    String::from_utf8(bytes).map_err(|_| Fault::Unreadable)
 }
 
 fn number_of(fault: RunFault) -> &'static str {
@@ -116,7 +102,7 @@ impl<'a> Asked<'a> {
     {
         let mut out = String::new(alloc);
         for end in ends {
-            writeln!(out, "{}", ended(*end))?;
+            writeln!(out, "{}", end_text(*end))?;
         }
         if self.shown == Shown::Events {
             let events = journal.book().trace();
@@ -156,13 +142,6 @@ impl<'a> Asked<'a> {
             Err(RunFault::NoMemory) => Err(Fault::NoMemory),
             Err(_) => Ok("no schedule\n"),
         }
-    }
-}
-
-fn schedule_fault(fault: ScheduleFault) -> Fault {
-    match fault {
-        ScheduleFault::NoMemory => Fault::NoMemory,
-        _ => Fault::Unreadable,
     }
 }
 
