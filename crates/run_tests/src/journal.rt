@@ -4,6 +4,7 @@ ghost use Rattle.round_meaning.specs.Setups.{IsSetup};
 
 mod act;
 mod doing;
+mod sealing;
 mod seen;
 mod taking;
 mod telling;
@@ -35,6 +36,7 @@ fn all_nodes(alloc: Global, program: &Checked, setup: &Setup) -> Result<Vec<Node
 
 /// One of the nodes does it.
 fn perform(
+    alloc: Global,
     program: &Checked,
     setup: &Setup,
     journal: &mut Journal<Known>,
@@ -56,7 +58,7 @@ fn perform(
         return Err(Fault::Unreadable);
     }
     let node = &mut nodes[by as usize];
-    doing::perform(journal, node, deed, out)
+    doing::perform(alloc, journal, node, deed, out)
 }
 
 /// Makes room for events, and is asked again if there was none.
@@ -87,7 +89,7 @@ fn answer_all(
 {
     for line in input.lines() {
         match act_of(line)? {
-            Act::Do { by, deed } => perform(program, setup, journal, nodes, by, deed, out)?,
+            Act::Do { by, deed } => perform(alloc, program, setup, journal, nodes, by, deed, out)?,
             Act::Ask(asked) => telling::answer(alloc, journal, asked, out)?,
             Act::Reserve(events) => reserve(journal, events, out)?,
         }

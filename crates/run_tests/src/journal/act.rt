@@ -8,6 +8,8 @@ use test_kit::{Fault, cut, number};
 #[derive(Clone, Copy)]
 pub enum Deed {
     Send(u32),
+    /// The node's message is read again from its bytes, and isn't sent.
+    Seal(u32),
     Receive,
     Close,
     Idle,
@@ -71,6 +73,13 @@ fn send(text: &str) -> Result<Act, Fault> {
     Ok(Act::Do { by, deed })
 }
 
+/// The act that two numbers are: the node whose message is sealed, and the one that it's for.
+fn seal(text: &str) -> Result<Act, Fault> {
+    let (by, to) = two(text)?;
+    let deed = Deed::Seal(to);
+    Ok(Act::Do { by, deed })
+}
+
 fn act_of_network(event: Network, text: &str) -> Result<Act, Fault> {
     let deed = Deed::Network(event, name(text)?);
     Ok(Act::Do { by: 0, deed })
@@ -100,6 +109,7 @@ pub fn act_of(line: &str) -> Result<Act, Fault> {
     let (verb, rest) = cut(line);
     match verb {
         "send" => send(rest),
+        "seal" => seal(rest),
         "receive" => deed_by(rest, Deed::Receive),
         "close" => deed_by(rest, Deed::Close),
         "idle" => deed_by(rest, Deed::Idle),

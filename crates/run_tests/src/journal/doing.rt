@@ -7,18 +7,20 @@ ghost use Rattle.step_machine.specs.Sealed.{IsPrepared};
 ghost use Rattle.step_machine.specs.Nodes.{algorithm_in};
 
 use crate::journal::act::{Deed, Network};
+use crate::journal::sealing::seal;
 use crate::journal::seen::{Answer, Seen, tell};
 use crate::journal::taking::receive;
 use crate::journal::telling::within;
 use round_lang::NoMemory;
 use slot_plans::Known;
+use std::alloc::Global;
 use step_book::{CloseFault, IdleFault, SendFault};
 use step_journal::Journal;
 use step_machine::{Name, Node, Prepared};
 use test_kit::Fault;
 
 /// What the node has for another.
-fn prepare(node: &mut Node, to: u32) -> Option<Prepared>
+pub fn prepare(node: &mut Node, to: u32) -> Option<Prepared>
     requires to { to < node.old.setup.nodes }
     requires last { node.old.round ≤ node.old.setup.rounds }
     ensures ready { IfSome result (λ p. p ≡ record {
@@ -211,6 +213,7 @@ fn skip(journal: &Journal<Known>, node: &mut Node) -> Answer<NoMemory>
 
 /// Does it, and writes what the journal answers.
 pub fn perform(
+    alloc: Global,
     journal: &mut Journal<Known>,
     node: &mut Node,
     deed: Deed,
@@ -225,6 +228,7 @@ pub fn perform(
 {
     match deed {
         Deed::Send(to) => tell(out, send(journal, node, to), "sent"),
+        Deed::Seal(to) => seal(alloc, journal, node, to, out),
         Deed::Receive => receive(journal, node, out),
         Deed::Close => tell(out, close(journal, node), "closed"),
         Deed::Idle => tell(out, idle(journal, node), "idle"),
