@@ -140,8 +140,7 @@ impl Condition<'_> {
     ) -> Result<bool, Refusal> {
         let before = self.written(&BeforeCondition(program))?;
         let after = self.written(&AfterCondition(program))?;
-        let parts = (before.as_str(), self.text, after.as_str());
-        let Ok(text) = format!(in self.alloc; "{}{}{}", parts.0, parts.1, parts.2) else {
+        let Ok(text) = format!(in self.alloc; "{before}{}{after}", self.text) else {
             return Err(Refusal::NoMemory);
         };
         let Some(framed) = unless_refused(parse(self.alloc, text.as_str()))? else {
