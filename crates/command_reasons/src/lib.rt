@@ -6,6 +6,7 @@ mod before_threads;
 mod byte_source;
 mod columns;
 mod condition;
+mod condition_program;
 mod decision_lines;
 mod explain;
 mod files;

@@ -30,7 +30,7 @@ use Rattle.round_meaning.specs.declared.setup.Setup.{Setup}
 use Rattle.step_book.specs.Log.{Log}
 use Rattle.step_machine.specs.declared.event.Event.{Event}
 use Rattle.command_runs.specs.EveryReport.{AreFinal, HoldsOfRows}
-use Rattle.command_runs.specs.Explained.{IsReportOf}
+use Rattle.command_runs.specs.Explained.{IsReportSoFar}
 
 -- ---- lists
 
@@ -153,7 +153,7 @@ module _ (p : ProgramTree) (like : Setup) (rows : List ClosedRound) where
       (each_counts row.node row.round shown.node)))
 
 all_shown : (start : ℕ → ℕ) (p : ProgramTree) (like : Setup) (events : List Event) (report : Report)
-    → IsReportOf start p like events report → All (IsShown p like report.rows) report.rows
+    → IsReportSoFar start p like events report → All (IsShown p like report.rows) report.rows
 all_shown start p like events report h =
     every (Contains report.rows) (IsShown p like report.rows) report.rows
     (All-contains_itself report.rows) (λ row known.
@@ -173,7 +173,7 @@ pub yes_is_of_every_report : (start : ℕ → ℕ) (p : ProgramTree) (s like : S
     (question : Question) (asked : AskedInputs) (property : Property) (events : List Event)
     (report : Report)
     → IsOpen question → IsSetupOf p.values s asked like
-    → AllHoldUpTo p s question asked property s.rounds → IsReportOf start p like events report
+    → AllHoldUpTo p s question asked property s.rounds → IsReportSoFar start p like events report
     → HoldsOfRows property p like report.rows
 yes_is_of_every_report start p s like question asked property events report free is all h =
     holds_of_rows p like report.rows property (all_shown start p like events report h)

@@ -54,14 +54,15 @@ module _ (nodes : ℕ) (start : ℕ → ℕ) (s : Setup) (ls : List OmissionLine
 -- ---- the run of the schedule
 
 pub runs_report_rounds : RunsReportRounds
-runs_report_rounds receives start p s ls report again laws shows x =
+runs_report_rounds receives start p s ls report again laws shows h =
+    let x = h.so_far in
     let stops = steps_of s.nodes start s ls in
     let run : IsScheduleRun receives start p s stops (omits ls) x.run = record {
       program = x.program;
       setup = x.setup;
       trace = x.trace;
       agrees = x.agrees;
-      closed = x.closed;
+      closed = h.closed;
     } in
     let explained : IsExplained start x.run again = record {
       values = x.values ∙ ap (λ (q : ProgramTree). q.values) (sym x.program);

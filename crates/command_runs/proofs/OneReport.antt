@@ -25,7 +25,7 @@ use Rattle.omission_explainer.specs.Reported.{counts_in}
 use Rattle.omission_explainer.specs.Reported.{heard_in, is_closed, omitted_in, place, silent_in}
 use Rattle.omission_explainer.specs.Rows.{ClosedRound}
 use Rattle.omission_explainer.specs.declared.report.Report.{Report}
-use Rattle.command_runs.specs.Explained.{IsReportOf}
+use Rattle.command_runs.specs.Explained.{IsReportOf, IsReportSoFar}
 
 -- a run by its program, setup and events alone
 abbrev of_events : ProgramTree → Setup → List Event → Log
@@ -128,7 +128,13 @@ not_more start v w mark waiting due agrees setup trace i node = by_number (round
 
 -- two runs of the same events
 module _ (start : ℕ → ℕ) (p : ProgramTree) (s : Setup) (events : List Event) (a b : Report)
-    (x : IsReportOf start p s events a) (y : IsReportOf start p s events b) where
+    (one : IsReportOf start p s events a) (other : IsReportOf start p s events b) where
+  abbrev x : IsReportSoFar start p s events a
+  x = one.so_far
+
+  abbrev y : IsReportSoFar start p s events b
+  y = other.so_far
+
   setups : y.run.setup ≡ x.run.setup
   setups = y.setup ∙ sym x.setup
 
@@ -137,10 +143,10 @@ module _ (start : ℕ → ℕ) (p : ProgramTree) (s : Setup) (events : List Even
 
   rounds : (i : ℕ) → i < x.run.setup.nodes → round_of y.run i - 1 ≡ round_of x.run i - 1
   rounds i node =
-      let below = not_more start x.run y.run _ _ x.closed y.agrees setups traces i node in
+      let below = not_more start x.run y.run _ _ one.closed y.agrees setups traces i node in
       let there : i < y.run.setup.nodes = subst (λ (z : Setup). i < z.nodes) (sym setups) node in
       let above =
-      not_more start y.run x.run _ _ y.closed x.agrees (sym setups) (sym traces) i there in
+      not_more start y.run x.run _ _ other.closed x.agrees (sym setups) (sym traces) i there in
       omega (arith, below, above)
 
   places : closed_rounds y.run ≡ closed_rounds x.run

@@ -6,7 +6,8 @@ use Rattle.std.specs.Global.{Vec}
 use Rattle.std.specs.Io.KnownBytes.{Keeps}
 use Rattle.adversary.specs.declared.fault.RunFault.TheVariants as run
 use Rattle.command_runs.specs.Refused.{IsNoOffer, IsNoProgram, IsNotOffered, IsNotRun}
-use Rattle.command_runs.specs.Refused.{IsOpened, IsRefusedCommand, IsRefusedInTurn, IsSilent}
+use Rattle.command_runs.specs.Refused.{IsLeft, IsLeftBy, IsOpened, IsRefusedCommand}
+use Rattle.command_runs.specs.Refused.{IsRefusedInTurn, IsSilent}
 use Rattle.command_runs.specs.Refused.{IsUnanswered, IsUnrealised}
 use Rattle.command_runs.specs.Refused.{Fault, HasNoText, Later, fault_in}
 use Rattle.command_runs.specs.Served.{AnswersRun, IsCheckedSource, JudgesRun, NamesColumns, Opens}
@@ -29,6 +30,8 @@ use Rattle.command_words.specs.declared.forms.Format.{Format}
 use Rattle.command_words.specs.declared.forms.Format.TheVariants as format
 use Rattle.command_words.specs.declared.values.Source.{Source}
 use Rattle.command_words.specs.declared.values.Source.TheVariants as source
+use Rattle.command_words.specs.Given.{Means}
+use Rattle.command_words.specs.declared.words.Words.{Words}
 use Rattle.command_words.specs.declared.words.Words.TheVariants as words
 use Rattle.omission_explainer.specs.declared.report.Report.{Report}
 use Rattle.round_lang.specs.Syntax.{ProgramTree}
@@ -45,7 +48,7 @@ keeps_same (Some xs) = refl
 -- nothing was written
 pub silent_same : (x : Option (List ℕ)) (r : Refusal) → IsSilent x x r
 silent_same x refusal.Write = tt
-silent_same x refusal.NodeNoMemory = tt
+silent_same x refusal.NodeNoMemory = keeps_same x
 silent_same x (refusal.Words f) = keeps_same x
 silent_same x refusal.File = keeps_same x
 silent_same x (refusal.Source f) = keeps_same x
@@ -65,6 +68,29 @@ pub silent_write : {A : Type 0} (result : Result A Refusal) (old new : Option (L
     → IfErr result (λ r. r ≡ refusal.Write) → IfErr result (IsSilent old new)
 silent_write (Ok x) old new h = tt
 silent_write (Err r) old new h = subst (IsSilent old new) (sym h) tt
+
+-- what a command leaves, the words leave that mean it
+pub left_by : (ws : List (List ℕ)) (w : Words) (files after : Files) (old new : Option (List ℕ))
+    (r : Refusal) → Means ws w → IsRefusedCommand w files r → IsLeft w files after old new r
+    → IsLeftBy ws files after old new r
+left_by ws w files after old new refusal.NodeNoMemory means cause left = (w, means, cause, left)
+left_by ws (words.Threads source setup trace told) files after old new r means cause left = left
+left_by ws w files after old new r means cause left = left
+
+pub left_if : {A : Type 0} (result : Result A Refusal) (ws : List (List ℕ)) (w : Words)
+    (files after : Files) (old new : Option (List ℕ)) → Means ws w
+    → IfErr result (IsRefusedCommand w files) → IfErr result (IsLeft w files after old new)
+    → IfErr result (IsLeftBy ws files after old new)
+left_if (Ok x) ws w files after old new means cause left = tt
+left_if (Err r) ws w files after old new means cause left =
+    left_by ws w files after old new r means cause left
+
+-- nothing was written before the output took no more, or it's of no matter
+pub left_write : {A : Type 0} (result : Result A Refusal) (ws : List (List ℕ))
+    (files after : Files) (old new : Option (List ℕ)) → IfErr result (λ r. r ≡ refusal.Write)
+    → IfErr result (IsLeftBy ws files after old new)
+left_write (Ok x) ws files after old new h = tt
+left_write (Err r) ws files after old new h = subst (IsLeftBy ws files after old new) (sym h) tt
 
 some_program : (file : Option (List ℕ)) (p : ProgramTree)
     → IfSome file (λ text. IsCheckedSource text p)

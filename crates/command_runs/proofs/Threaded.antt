@@ -1,6 +1,6 @@
 -- From what a run by threads gives to what the command does.
-use Rattle.std.proofs.Common.{◌≡◌, ℕ, List, Option, Some, None, sym, subst}
-use Rattle.std.specs.Prelude.{IfSome, IsTrue, string_bytes}
+use Rattle.std.proofs.Common.{◌≡◌, ℕ, Bool, List, Option, Some, None, sym, subst}
+use Rattle.std.specs.Prelude.{IfSome, string_bytes}
 use Rattle.command_runs.specs.ByThreads.{IsRunOf}
 use Rattle.command_runs.specs.InLockstep.{IsWritten}
 use Rattle.command_runs.specs.Served.{IsProgramOf, IsThreadSetup, ReportsThreads, start_of}
@@ -23,10 +23,9 @@ pub reports_threads : (source : Source) (files : Files) (p : ProgramTree) (t : T
     → IfSome file (λ text. IsThreadSetup text t.setup t.plan t.pace t.stops.items)
     → IsPlan t.plan → IsFitForThreads p.values t.setup t.stops.items
     → IsRunOf (start_of t.plan t.setup.nodes) p t run
-    → IsTrue run.whole → ReportsThreads source files file (Some (string_bytes run.trace)) run.report
-reports_threads source files p t run None is read plan fit said whole = tt
-reports_threads source files p t run (Some text) is read plan fit said whole =
-    let made = said whole in
+    → ReportsThreads source files file (Some (string_bytes run.trace)) run.whole run.report
+reports_threads source files p t run None is read plan fit made = tt
+reports_threads source files p t run (Some text) is read plan fit made =
     (t.setup, t.plan, t.pace, t.stops.items, made.0, p, read, is, plan, fit, made.1, made.2)
 
 -- a trace that was written is in its file
@@ -37,11 +36,11 @@ traced s k events made None is same = tt
 traced s k events made (Some held) is same = subst (λ text. IsWritten s k events text) (sym same) is
 
 pub reports_traced : (source : Source) (files : Files) (file after : Option (List ℕ))
-    (made : List ℕ) (report : Report)
-    → ReportsThreads source files file (Some made) report → IfSome after (λ held. held ≡ made)
-    → ReportsThreads source files file after report
-reports_traced source files None after made report is same = tt
-reports_traced source files (Some text) after made report
+    (made : List ℕ) (whole : Bool) (report : Report)
+    → ReportsThreads source files file (Some made) whole report
+    → IfSome after (λ held. held ≡ made) → ReportsThreads source files file after whole report
+reports_traced source files None after made whole report is same = tt
+reports_traced source files (Some text) after made whole report
     (s, k, pace, stops, events, p, read, of, plan, fit, ran, written) same = (
       s,
       k,

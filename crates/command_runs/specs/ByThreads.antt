@@ -1,6 +1,7 @@
 -- What a run by threads gives.
-use Rattle.std.specs.Prelude.{◌≢◌, ℕ, All, List, IsTrue, string_bytes}
-use Rattle.command_runs.specs.Explained.{IsReportOf}
+use Rattle.std.specs.Prelude.{◌≢◌, ◌↔◌, ℕ, All, Bool, List, IsTrue, string_bytes}
+use Rattle.adversary.specs.Driving.{ClosedAreDue}
+use Rattle.command_runs.specs.Explained.{IsReportSoFar}
 use Rattle.command_runs.specs.InLockstep.{IsWritten}
 use Rattle.command_runs.specs.declared.threads.ThreadRun.{ThreadRun}
 use Rattle.node_threads.specs.Ends.{HaveEnded}
@@ -14,17 +15,18 @@ use Rattle.schedule_text.specs.declared.reading.ThreadSetup.{ThreadSetup}
 use Rattle.step_machine.specs.declared.event.Event.{Event}
 
 -- The report is of a run whose events are these, as in Explained. The thread of each node closed
--- all its rounds, or stopped after as many steps as the stops say.
+-- all its rounds, or stopped after as many steps as the stops say, or had no memory. The run is
+-- whole if none had no memory, and then a round is closed if its node took all its steps.
 pub record IsThreadRun (start : ℕ → ℕ) (p : ProgramTree) (s : Setup) (stops : List Stop)
-    (events : List Event) (report : Report) : Type 0 where
-  pub told : IsReportOf start p s events report
+    (whole : Bool) (events : List Event) (report : Report) : Type 0 where
+  pub told : IsReportSoFar start p s events report
   pub ends : List Ended
   pub ended : HaveEnded start told.run stops ends
-  pub memory : All (λ e. e ≢ NoMemory) ends
+  pub memory : IsTrue whole ↔ All (λ e. e ≢ NoMemory) ends
+  pub closed : IsTrue whole → ClosedAreDue start told.run
 
--- if the threads had memory: the report is of a run by threads, and the trace is the text of its
--- events
+-- the report is of a run by threads, and the trace is the text of its events
 abbrev pub IsRunOf : (start : ℕ → ℕ) → ProgramTree → ThreadSetup → ThreadRun → Type 0
-IsRunOf start p t run = IsTrue run.whole → (events : List Event)
-    × IsThreadRun start p t.setup t.stops.items events run.report
+IsRunOf start p t run =
+    (events : List Event) × IsThreadRun start p t.setup t.stops.items run.whole events run.report
     × IsWritten t.setup t.plan events (string_bytes run.trace)

@@ -15,7 +15,7 @@ use Rattle.round_explorer.specs.declared.question.Question.{Question}
 use Rattle.round_lang.specs.Syntax.{ProgramTree}
 use Rattle.round_meaning.specs.declared.setup.Setup.{Setup}
 use Rattle.step_machine.specs.declared.event.Event.{Event}
-use Rattle.command_runs.specs.Explained.{IsReportOf}
+use Rattle.command_runs.specs.Explained.{IsReportSoFar}
 
 -- a node that has decided v in one row decides v in each later row of its own
 abbrev pub AreFinal : List ClosedRound → Type 0
@@ -37,12 +37,12 @@ HoldsOfRows (Always f) p s rows =
     is_true p s.nodes s.faults f.now row.round row.node row.state ≡ true) rows
 
 -- If any message may be missed, a yes holds of every report: of every schedule under every plan,
--- and of every run by threads, of the program, of inputs that were asked about and of no more
--- rounds.
+-- and of every run by threads, even if one had no memory, of the program, of inputs that were asked
+-- about and of no more rounds.
 abbrev pub YesIsOfEveryReport : Type 0
 YesIsOfEveryReport =
     (start : ℕ → ℕ) (p : ProgramTree) (s like : Setup) (question : Question) (asked : AskedInputs)
     (property : Property) (events : List Event) (report : Report)
     → IsOpen question → IsSetupOf p.values s asked like
-    → AllHoldUpTo p s question asked property s.rounds → IsReportOf start p like events report
+    → AllHoldUpTo p s question asked property s.rounds → IsReportSoFar start p like events report
     → HoldsOfRows property p like report.rows

@@ -17,19 +17,18 @@ use Rattle.omission_explainer.specs.Verdict.{AreNodes, HearsFrom, IsDelayBound, 
 use Rattle.omission_explainer.specs.declared.judging.Verdict.{Verdict}
 use Rattle.round_lang.specs.Sets.{is_in}
 
--- The report is of a run whose events are these. What that run recorded agrees with the run in
--- rounds by the places of these events, a round is closed in it exactly where its node took all its
--- steps, and the report has a row for each closed round. A row's sets are those of the events, and
+-- The report is of a run whose events are these, and in which a round whose node took all its steps
+-- may still be open. What that run recorded agrees with the run in rounds by the places of these
+-- events, and the report has a row for each closed round. A row's sets are those of the events, and
 -- its state is that of the node after that round in the run in rounds under the omissions that the
 -- rows print.
-pub record IsReportOf (start : ℕ → ℕ) (p : ProgramTree) (s : Setup) (events : List Event)
+pub record IsReportSoFar (start : ℕ → ℕ) (p : ProgramTree) (s : Setup) (events : List Event)
     (report : Report) : Type 0 where
   pub run : Log
   pub program : run.program ≡ p
   pub setup : run.setup ≡ s
   pub trace : run.trace ≡ events
   pub agrees : JournalAgrees start run (mark_in start run) (waiting_in start run)
-  pub closed : ClosedAreDue start run
   pub values : report.values ≡ p.values
   pub names : report.names ≡ declared_names p
   pub types : report.types ≡ declared_types p
@@ -37,6 +36,12 @@ pub record IsReportOf (start : ℕ → ℕ) (p : ProgramTree) (s : Setup) (event
   pub reported : All (IsReported start run) report.rows
   pub in_rounds : All (IsOfRounds (algorithm_of p s) (printed_omits report.rows)) report.rows
   pub counted : report.counts ≡ counts_in run
+
+-- and a round is closed in that run exactly if its node took all its steps
+pub record IsReportOf (start : ℕ → ℕ) (p : ProgramTree) (s : Setup) (events : List Event)
+    (report : Report) : Type 0 where
+  pub so_far : IsReportSoFar start p s events report
+  pub closed : ClosedAreDue start so_far.run
 
 -- the set has just the listed numbers, which are nodes of the run
 pub record AreListed (nodes : ℕ) (list : List ℕ) (members : ℕ) : Type 0 where

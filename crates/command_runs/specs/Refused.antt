@@ -1,8 +1,8 @@
 -- Why a command is refused: the cause of each refusal, and the order in which they are told.
 use Rattle.std.specs.Prelude.{◌≡◌, ◌<◌, ◌≤◌, ◌⊎◌, ⊤, ℕ, All, Err, List, [], Option, IfSome, Some}
-use Rattle.std.specs.Prelude.{IsSome, None, codes}
+use Rattle.std.specs.Prelude.{Bool, IsSome, None, codes, false}
 use Rattle.std.specs.Borrow.{Bor}
-use Rattle.std.specs.Io.KnownBytes.{Keeps}
+use Rattle.std.specs.Io.KnownBytes.{Appends, Keeps}
 use Rattle.adversary.specs.Driving.{IsUnknownAt}
 use Rattle.adversary.specs.declared.fault.ReadFault.{ReadFault}
 use Rattle.adversary.specs.declared.fault.ReadFault.TheVariants as read
@@ -18,7 +18,8 @@ use Rattle.command_runs.specs.Lines.{status_of}
 use Rattle.command_runs.specs.Served.{AsksForHelp, IsCheckedSource, IsHeader, IsOfKind}
 use Rattle.command_runs.specs.Served.{IsOmissionText, IsProgramOf, IsThreadSetup, Prints}
 use Rattle.command_runs.specs.Served.{IsPaced, IsShownOf, NamesColumns, ReportsRounds, ReportsRun}
-use Rattle.command_runs.specs.Served.{SaysLines, file_name, start_of, terms_by}
+use Rattle.command_runs.specs.Served.{ReportsThreads, SaysLines, file_name, start_of, terms_by}
+use Rattle.command_runs.specs.Served.{told_text}
 use Rattle.command_runs.specs.Texts.{Files}
 use Rattle.command_runs.specs.Unshown.{IsUnshown}
 use Rattle.command_runs.specs.Within.{IsExplorable, IsExplored, IsPlan}
@@ -489,18 +490,45 @@ IsCause ws files refusal.Write =
     AsksForHelp ws ⊎ ((w : Words) × Means ws w × IsRefusedCommand w files refusal.Write)
 IsCause ws files r = (w : Words) × Means ws w × IsRefusedCommand w files r
 
--- known bytes of `out` stay as they were, unless it takes no more, or the thread of a node had no
--- memory
+-- known bytes of `out` stay as they were, unless it takes no more
 abbrev pub IsSilent : Option (List ℕ) → Option (List ℕ) → Refusal → Type 0
 IsSilent old new refusal.Write = ⊤
-IsSilent old new refusal.NodeNoMemory = ⊤
 IsSilent old new r = Keeps old new
+
+-- `out` gained the report of a run by threads, and the other file has its trace
+abbrev pub TellsThreads : Source → Files → (file after : Option (List ℕ)) → (whole told : Bool)
+    → (old new : Option (List ℕ)) → Type 0
+TellsThreads source files file after whole told old new =
+    (report : Report) × ReportsThreads source files file after whole report
+    × Appends old new (told_text report told)
+
+-- what a run by threads leaves that was refused: if the thread of a node had no memory, the report
+-- and the trace of what was recorded, and else nothing
+abbrev pub LeftByThreads : Source → Files → (file after : Option (List ℕ)) → (told : Bool)
+    → (old new : Option (List ℕ)) → Refusal → Type 0
+LeftByThreads source files file after told old new refusal.NodeNoMemory =
+    TellsThreads source files file after false told old new
+LeftByThreads source files file after told old new r = IsSilent old new r
+
+-- what a refused command leaves
+abbrev pub IsLeft : Words → (files after : Files) → (old new : Option (List ℕ)) → Refusal → Type 0
+IsLeft (Threads source setup trace told) files after old new r =
+    LeftByThreads source files (files setup.now) (after trace.now) told old new r
+IsLeft w files after old new r = IsSilent old new r
+
+-- what the words leave whose command was refused
+abbrev pub IsLeftBy : List (List ℕ) → (files after : Files) → (old new : Option (List ℕ)) → Refusal
+    → Type 0
+IsLeftBy ws files after old new refusal.NodeNoMemory =
+    (w : Words) × Means ws w × IsThreaded w files
+    × IsLeft w files after old new refusal.NodeNoMemory
+IsLeftBy ws files after old new r = IsSilent old new r
 
 -- a command was refused for a cause that stands, and `out` gained nothing, unless it takes no more,
 -- or the thread of a node had no memory
-pub record IsRefused (ws : List (List ℕ)) (files : Files) (status : ℕ)
+pub record IsRefused (ws : List (List ℕ)) (files after : Files) (status : ℕ)
     (old new : Option (List ℕ)) : Type 0 where
   pub refusal : Refusal
   pub cause : IsCause ws files refusal
   pub exit : status ≡ status_of refusal
-  pub silent : IsSilent old new refusal
+  pub left : IsLeftBy ws files after old new refusal

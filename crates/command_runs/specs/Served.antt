@@ -244,14 +244,15 @@ ReportsRounds source files header omissions report =
     × IsAsked source files header omissions p s k ls × IsPlan k × IsFitOmitting p s ls
     × ShowsOmitting (start_of k s.nodes) p s ls report
 
--- the report of the source's run by threads under the setup in a file, and the other file is the
--- trace of that run as a schedule
-abbrev pub ReportsThreads : Source → Files → (file after : Option (List ℕ)) → Report → Type 0
-ReportsThreads source files file after report =
+-- the report of the source's run by threads under the setup in a file, which is whole if each
+-- thread had memory, and the other file is the trace of that run as a schedule
+abbrev pub ReportsThreads : Source → Files → (file after : Option (List ℕ)) → (whole : Bool)
+    → Report → Type 0
+ReportsThreads source files file after whole report =
     IfSome file (λ text. (s : Setup) × (k : PlanKind) × (pace : Pace) × (stops : List Stop)
     × (events : List Event) × (p : ProgramTree) × IsThreadSetup text s k pace stops
     × IsProgramOf source files s.nodes s.faults p × IsPlan k × IsFitForThreads p.values s stops
-    × IsThreadRun (start_of k s.nodes) p s stops events report
+    × IsThreadRun (start_of k s.nodes) p s stops whole events report
     × IfSome after (λ held. IsWritten s k events held))
 
 -- what is found in all runs of the source's program, under the header in a file
@@ -364,7 +365,7 @@ Prints (Run source schedule form) files after text =
     × IsReportText form report text
 Prints (Threads source setup trace told) files after text =
     (report : Report)
-    × ReportsThreads source files (files setup.now) (after trace.now) report
+    × ReportsThreads source files (files setup.now) (after trace.now) true report
     × (text ≡ told_text report told)
 Prints (Judge source schedule correct delta gst f) files after text =
     (verdict : Verdict)

@@ -1,6 +1,6 @@
 -- What the parts of a command answer, which proofs pass through.
 use Rattle.std.specs.Borrow.{Bor}
-use Rattle.std.specs.Prelude.{◌≡◌, ◌≢◌, ◌<◌, ◌⊎◌, ◌++◌, ◌∷◌, ⊤, ℕ, All, Bool, IfSome, List, []}
+use Rattle.std.specs.Prelude.{◌≡◌, ◌≢◌, ◌<◌, ◌⊎◌, ◌++◌, ◌∷◌, ⊤, ℕ, All, IfSome, List, []}
 use Rattle.std.specs.Prelude.{Option, Some, length}
 use Rattle.std.specs.Prelude.{true}
 use Rattle.std.specs.Io.KnownBytes.{Appends}
@@ -17,9 +17,7 @@ use Rattle.command_runs.specs.Refused.{IsUnmade, IsUnthreaded, IsUntraced}
 use Rattle.command_runs.specs.Refused.{StartsThreads, fault_in, of_text, omission_fault}
 use Rattle.command_runs.specs.Explained.{IsReportOf}
 use Rattle.command_runs.specs.Served.{Answered, AnswersRun, IsHeader, IsProgramOf, IsShownOf}
-use Rattle.command_runs.specs.Served.{IsThreadSetup, MakesLockstep, NamesColumns, ReportsThreads}
-use Rattle.command_runs.specs.Served.{SaysAnswer}
-use Rattle.command_runs.specs.Served.{told_text}
+use Rattle.command_runs.specs.Served.{IsThreadSetup, MakesLockstep, NamesColumns, SaysAnswer}
 use Rattle.command_runs.specs.Texts.{Files}
 use Rattle.command_runs.specs.Within.{IsExplorable, IsExplored, IsFitRun, IsPlan}
 use Rattle.schedule_text.specs.Bytes.{BeginsUtf8, IsLongText, IsNoText}
@@ -295,13 +293,6 @@ pub record AreSearchable (source : Source) (files : Files) (file : Option (List 
 abbrev pub IsRefusedSearch : Source → Files → Option (List ℕ) → Exploring → Refusal → Type 0
 IsRefusedSearch source files file e refusal.Write = IsUntraced source files file e
 IsRefusedSearch source files file e r = IsUnexplored source files file e r
-
--- `out` gained the report of a run by threads, and the other file has its trace
-abbrev pub TellsThreads : Source → Files → (file after : Option (List ℕ)) → Bool
-    → (old new : Option (List ℕ)) → Type 0
-TellsThreads source files file after told old new =
-    (report : Report) × ReportsThreads source files file after report
-    × Appends old new (told_text report told)
 
 -- why the report of a run by threads isn't told
 abbrev pub IsRefusedThreads : Source → Files → Option (List ℕ) → Refusal → Type 0

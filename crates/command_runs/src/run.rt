@@ -1,17 +1,19 @@
 //! Running a command.
 ghost use Rattle.std.specs.Prelude.{◌≡◌, ◌<◌, ◌≤◌, ◌⊎◌, ◌++◌, ◌∷◌, [], IfErr, IfOk, IsOk};
-ghost use Rattle.std.specs.Prelude.{OnOk, map};
+ghost use Rattle.std.specs.Prelude.{OnOk, map, true};
 ghost use Rattle.std.specs.Io.KnownBytes.{Keeps};
 ghost use Rattle.command_runs.specs.Apart.{IsApart, IsApartIfNamed, WritesApart, WroteApart};
 ghost use Rattle.command_runs.specs.Desks.{MayWrite, MayWriteTrace, Writes, WritesTrace, WroteAll};
 ghost use Rattle.command_runs.specs.Desks.{WroteAtMost, WroteFor};
 ghost use Rattle.command_runs.specs.InRounds.{code_of};
-ghost use Rattle.command_runs.specs.Refused.{IsCause, IsRefused, IsRefusedCommand, IsSilent};
+ghost use Rattle.command_runs.specs.Refused.{IsCause, IsLeft, IsLeftBy, IsRefused};
+ghost use Rattle.command_runs.specs.Refused.{IsRefusedCommand, IsSilent, LeftByThreads};
+ghost use Rattle.command_runs.specs.Refused.{TellsThreads};
 ghost use Rattle.command_runs.specs.Served.{AsksForHelp, Ends, IsEnded, SaysAnswer, Serves};
 ghost use Rattle.command_runs.specs.InChanges.{terms_of};
 ghost use Rattle.command_runs.specs.Stages.{IsRefusedAnswer, IsRefusedLockstep, IsRefusedThreads};
 ghost use Rattle.command_runs.specs.Stages.{IsUntold};
-ghost use Rattle.command_runs.specs.Stages.{TellsAnswer, TellsLockstep, TellsThreads};
+ghost use Rattle.command_runs.specs.Stages.{TellsAnswer, TellsLockstep};
 
 use crate::asking::{Answer, Question, Run};
 use crate::desk::Desk;
@@ -63,10 +65,11 @@ pub fn run_words<'a, R: Threads + Wait + Sync, D: Desk, O: Write, E: Write>(
     ensures served { (o : Outcome) → result ≡ code_of o
         → IsEnded (map (λ s. s.now) words.entry.now) (D.files desk.old)
         (D.files desk.new) o (O.contents out.old) (O.contents out.new) }
-    // Another status: a cause stands, and none that is told before it, and `out` gained nothing,
-    // but if the thread of a node had no memory.
+    // Another status: a cause stands, and none that is told before it, and `out` gained nothing. If
+    // the thread of a node had no memory, it gained the report of what was recorded, whose trace
+    // was written.
     ensures refused { 0 < result → result ≤ 3 → IsRefused (map (λ s. s.now) words.entry.now)
-        (D.files desk.old) result (O.contents out.old) (O.contents out.new) }
+        (D.files desk.old) (D.files desk.new) result (O.contents out.old) (O.contents out.new) }
     // No command writes a file, but for `threads` and `explore` that of a trace.
     ensures written { WroteFor (map (λ s. s.now) words.entry.now)
         (D.written desk.old) (D.written desk.new) }
@@ -103,7 +106,8 @@ pub fn serve<'a, R: Threads + Wait + Sync, D: Desk, O: Write>(
     ensures served { IfOk result (λ o. IsEnded (map (λ s. s.now) words.entry.now)
         (D.files desk.old) (D.files desk.new) o (O.contents out.old) (O.contents out.new)) }
     ensures refused { IfErr result (IsCause (map (λ s. s.now) words.entry.now) (D.files desk.old)) }
-    ensures silent { IfErr result (IsSilent (O.contents out.old) (O.contents out.new)) }
+    ensures left { IfErr result (IsLeftBy (map (λ s. s.now) words.entry.now) (D.files desk.old)
+        (D.files desk.new) (O.contents out.old) (O.contents out.new)) }
     ensures written { WroteFor (map (λ s. s.now) words.entry.now)
         (D.written desk.old) (D.written desk.new) }
     ensures apart { WroteApart (map (λ s. s.now) words.entry.now)
@@ -132,7 +136,8 @@ fn carry_out<'a, R: Threads + Wait + Sync, D: Desk, O: Write>(
     ensures served { IfOk result (λ o. Ends command.entry (D.files desk.old) (D.files desk.new) o
         (O.contents out.old) (O.contents out.new)) }
     ensures refused { IfErr result (IsRefusedCommand command.entry (D.files desk.old)) }
-    ensures silent { IfErr result (IsSilent (O.contents out.old) (O.contents out.new)) }
+    ensures left { IfErr result (IsLeft command.entry (D.files desk.old) (D.files desk.new)
+        (O.contents out.old) (O.contents out.new)) }
     ensures written { MayWrite command.entry (D.written desk.old) (D.written desk.new) }
     ensures apart { WritesApart command.entry (D.written desk.old) (D.written desk.new) }
     ensures traced { IfOk result (λ o.
@@ -303,7 +308,8 @@ fn answer<'a, D: Desk, O: Write>(
     tell_answer(alloc, &answer, out)
 }
 
-/// Runs a source by threads, and writes the trace and then the report.
+/// Runs a source by threads, and writes the trace and then the report; both also if the thread of a
+/// node had no memory, which is refused after that.
 #[tactic(auto, using(crate::proofs::Telling::silent_same))]
 fn thread<'a, R: Threads + Wait + Sync, D: Desk, O: Write>(
     rt: &R,
@@ -316,10 +322,12 @@ fn thread<'a, R: Threads + Wait + Sync, D: Desk, O: Write>(
     ensures done { IfOk result (λ o. o ≡ Outcome.Done) }
     ensures served { OnOk result (TellsThreads threaded.entry.source (D.files desk.old)
         (D.files desk.old threaded.entry.setup.now) (D.files desk.new threaded.entry.trace.now)
-        decided (O.contents out.old) (O.contents out.new)) }
+        true decided (O.contents out.old) (O.contents out.new)) }
     ensures refused { IfErr result (IsRefusedThreads threaded.entry.source (D.files desk.old)
         (D.files desk.old threaded.entry.setup.now)) }
-    ensures silent { IfErr result (IsSilent (O.contents out.old) (O.contents out.new)) }
+    ensures left { IfErr result (LeftByThreads threaded.entry.source (D.files desk.old)
+        (D.files desk.old threaded.entry.setup.now) (D.files desk.new threaded.entry.trace.now)
+        decided (O.contents out.old) (O.contents out.new)) }
     ensures written { WroteAtMost (D.written desk.old) (D.written desk.new)
         threaded.entry.trace.now }
     ensures apart { (D.written desk.new ≡ D.written desk.old)

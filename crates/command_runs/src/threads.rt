@@ -66,8 +66,8 @@ impl<'a> Threaded<'a> {
         alloc: Global,
         desk: &mut D,
     ) -> Result<ThreadRun, Refusal>
-        ensures told { IfOk result (λ run. IsTrue run.whole → ReportsThreads self.now.source
-            (D.files desk.old) (D.files desk.old self.now.setup.now) (Some (string_bytes run.trace))
+        ensures told { IfOk result (λ run. ReportsThreads self.now.source (D.files desk.old)
+            (D.files desk.old self.now.setup.now) (Some (string_bytes run.trace)) run.whole
             run.report) }
         ensures starts { OnOk result (StartsThreads self.now.source (D.files desk.old)
             (D.files desk.old self.now.setup.now)) }

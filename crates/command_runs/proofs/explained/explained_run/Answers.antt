@@ -21,23 +21,26 @@ returns-clause-explained g c =
     let of_program =
     subst (λ p. All (IsOfRounds (algorithm_of p run.setup) (printed_omits rows)) rows)
     ran.program said.in_rounds in record {
-      run = run;
-      program = ran.program;
-      setup = ran.setup;
-      trace = refl;
-      agrees = subst
-          (λ p. JournalAgrees (g.P.Plan.start p) run (mark_in (g.P.Plan.start p) run)
-          (waiting_in (g.P.Plan.start p) run)) ran.plan c.agrees.ensures;
+      so_far = record {
+        run = run;
+        program = ran.program;
+        setup = ran.setup;
+        trace = refl;
+        agrees = subst
+            (λ p. JournalAgrees (g.P.Plan.start p) run (mark_in (g.P.Plan.start p) run)
+            (waiting_in (g.P.Plan.start p) run)) ran.plan c.agrees.ensures;
+        values = said.values ∙ ap (λ (p : ProgramTree). p.values) ran.program;
+        names = said.names ∙ ap declared_names ran.program;
+        types = said.types ∙ ap declared_types ran.program;
+        listed = said.listed;
+        reported =
+            subst (λ p. All (IsReported (g.P.Plan.start p) run) rows) ran.plan said.reported;
+        in_rounds =
+            subst (λ s. All (IsOfRounds (algorithm_of c.args.program.now s) (printed_omits rows))
+            rows) ran.setup of_program;
+        counted = said.counted;
+      };
       closed = subst (λ p. ClosedAreDue (g.P.Plan.start p) run) ran.plan ran.closed;
-      values = said.values ∙ ap (λ (p : ProgramTree). p.values) ran.program;
-      names = said.names ∙ ap declared_names ran.program;
-      types = said.types ∙ ap declared_types ran.program;
-      listed = said.listed;
-      reported = subst (λ p. All (IsReported (g.P.Plan.start p) run) rows) ran.plan said.reported;
-      in_rounds =
-          subst (λ s. All (IsOfRounds (algorithm_of c.args.program.now s) (printed_omits rows))
-          rows) ran.setup of_program;
-      counted = said.counted;
     }
 
 -- what a report of its own run says of Algorithm 1

@@ -1,6 +1,6 @@
 use Rattle.std.proofs.Common.{◌≡◌, ◌≢◌, ◌∙◌, All, List, ap, subst, inl, inr, ℕ, ◌<◌, length, arith}
 use Rattle.std.proofs.Common.{refl}
-use Rattle.std.specs.Prelude.{string_bytes}
+use Rattle.std.specs.Prelude.{◌↔◌, IsTrue, string_bytes}
 use Rattle.std.proofs.lemmas.Bool.{cases_lt}
 use Rattle.node_threads.specs.Ends.{HaveEnded, IsFitForThreads}
 use Rattle.node_threads.specs.declared.ended.Ended.TheVariants.{NoMemory}
@@ -35,7 +35,7 @@ has_input values s stops fit =
     let inputs : length s.inputs ≡ s.nodes = fit.lawful.sized.inputs in omega (nodes, inputs, arith)
 
 pub returns-clause-explained : goal.returns-clause-explained
-returns-clause-explained g c = λ whole.
+returns-clause-explained g c =
     let start = g.P.Plan.start in
     let t = c.args.setup.now in
     let run = c.in_ok-journal.journal.log in
@@ -44,8 +44,8 @@ returns-clause-explained g c = λ whole.
     let rows = c.in_ok-report.report.rows in
     let text = string_bytes c.in_ok-trace.trace in
     let stops = c.as_slice-stops.ensures.value in
-    let had = subst (λ es. All (λ e. e ≢ NoMemory) es) c.deref.ensures.value
-    (c.had_memory.ensures.0 whole) in
+    let had = subst (λ es. IsTrue c.had_memory.result ↔ All (λ e. e ≢ NoMemory) es)
+    c.deref.ensures.value c.had_memory.ensures in
     let of_program =
     subst (λ p. All (IsOfRounds (algorithm_of p run.setup) (printed_omits rows)) rows)
     ran.program said.in_rounds in
@@ -64,7 +64,6 @@ returns-clause-explained g c = λ whole.
           agrees = subst
               (λ p. JournalAgrees (start p) run (mark_in (start p) run) (waiting_in (start p) run))
               ran.plan c.agrees.ensures;
-          closed = ran.closed had;
           values = said.values ∙ ap (λ (p : ProgramTree). p.values) ran.program;
           names = said.names ∙ ap declared_names ran.program;
           types = said.types ∙ ap declared_types ran.program;
@@ -79,6 +78,7 @@ returns-clause-explained g c = λ whole.
         ended = subst (λ ss. HaveEnded (start c.args.plan) run ss c.in_ok-journal.ends.items) stops
             ran.ends;
         memory = had;
+        closed = λ whole. ran.closed (had.0 whole);
       },
       record {
         spelled = c.in_ok-trace.ensures.spelled ∙ ap (text_of t.setup t.plan) same;

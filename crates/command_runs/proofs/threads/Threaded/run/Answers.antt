@@ -15,8 +15,8 @@ returns-clause-told g c =
     let t = c.in_ok-program.setup in
     let p = c.in_ok-program.program in
     let ready = c.in_ok-program.ensures.ready in
-    IfOk-weaker c.run_by.result _ _ (λ run h whole. reports_threads threaded.source files p t run
-    (files threaded.setup.now) ready.program ready.read ready.plan ready.fit h whole)
+    IfOk-weaker c.run_by.result _ _ (λ run h. reports_threads threaded.source files p t run
+    (files threaded.setup.now) ready.program ready.read ready.plan ready.fit h)
     c.run_by.ensures.told
 
 pub returns-clause-starts : goal.returns-clause-starts
