@@ -37,7 +37,8 @@ pub record IsReportSoFar (start : ℕ → ℕ) (p : ProgramTree) (s : Setup) (ev
   pub in_rounds : All (IsOfRounds (algorithm_of p s) (printed_omits report.rows)) report.rows
   pub counted : report.counts ≡ counts_in run
 
--- and a round is closed in that run exactly if its node took all its steps
+-- The report is of such a run, in which a round is closed exactly if its node took all its steps:
+-- all that `IsReportSoFar` says, and that none is still open.
 pub record IsReportOf (start : ℕ → ℕ) (p : ProgramTree) (s : Setup) (events : List Event)
     (report : Report) : Type 0 where
   pub so_far : IsReportSoFar start p s events report
