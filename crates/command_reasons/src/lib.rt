@@ -24,6 +24,7 @@ mod parts;
 mod program;
 mod refusals;
 mod report_reasons;
+mod round_reasons;
 mod run_causes;
 mod run_reasons;
 mod schedule_forms;
