@@ -1,10 +1,10 @@
 -- What a run by threads gives.
-use Rattle.std.specs.Prelude.{◌≢◌, ◌↔◌, ℕ, All, Bool, List, IsTrue, string_bytes}
+use Rattle.std.specs.Prelude.{◌≢◌, ◌↔◌, ◌+◌, ℕ, All, Bool, List, IsTrue, string_bytes}
 use Rattle.adversary.specs.Driving.{ClosedAreDue}
 use Rattle.command_runs.specs.Explained.{IsReportSoFar}
 use Rattle.command_runs.specs.InLockstep.{IsWritten}
 use Rattle.command_runs.specs.declared.threads.ThreadRun.{ThreadRun}
-use Rattle.node_threads.specs.Ends.{HaveEnded}
+use Rattle.node_threads.specs.Ends.{AreBehind, HaveEnded}
 use Rattle.node_threads.specs.declared.ended.Ended.{Ended}
 use Rattle.node_threads.specs.declared.ended.Ended.TheVariants.{NoMemory}
 use Rattle.omission_explainer.specs.declared.report.Report.{Report}
@@ -14,14 +14,16 @@ use Rattle.schedule_text.specs.declared.pace.Stop.{Stop}
 use Rattle.schedule_text.specs.declared.reading.ThreadSetup.{ThreadSetup}
 use Rattle.step_machine.specs.declared.event.Event.{Event}
 
--- The report is of a run whose events are these, as in Explained. The thread of each node closed
--- all its rounds, or stopped after as many steps as the stops say, or had no memory. The run is
--- whole if none had no memory, and then a round is closed if its node took all its steps.
+-- The report is of a run whose events are these, as in Explained. Each node's thread closed all its
+-- rounds, with no stop before their end; or it stopped after as many steps as its stop says; or it
+-- had no memory to go on. The run is whole if none lacked memory, and then a round is closed if its
+-- node took all its steps.
 pub record IsThreadRun (start : ℕ → ℕ) (p : ProgramTree) (s : Setup) (stops : List Stop)
     (whole : Bool) (events : List Event) (report : Report) : Type 0 where
   pub told : IsReportSoFar start p s events report
   pub ends : List Ended
   pub ended : HaveEnded start told.run stops ends
+  pub behind : AreBehind (start (s.rounds + 1)) stops ends
   pub memory : IsTrue whole ↔ All (λ e. e ≢ NoMemory) ends
   pub closed : IsTrue whole → ClosedAreDue start told.run
 

@@ -490,7 +490,7 @@ IsCause ws files refusal.Write =
     AsksForHelp ws ⊎ ((w : Words) × Means ws w × IsRefusedCommand w files refusal.Write)
 IsCause ws files r = (w : Words) × Means ws w × IsRefusedCommand w files r
 
--- known bytes of `out` stay as they were, unless it takes no more
+-- known bytes of `out` stay as they were; nothing is said if the refusal is `write`
 abbrev pub IsSilent : Option (List ℕ) → Option (List ℕ) → Refusal → Type 0
 IsSilent old new refusal.Write = ⊤
 IsSilent old new r = Keeps old new
@@ -524,8 +524,7 @@ IsLeftBy ws files after old new refusal.NodeNoMemory =
     × IsLeft w files after old new refusal.NodeNoMemory
 IsLeftBy ws files after old new r = IsSilent old new r
 
--- a command was refused for a cause that stands, and `out` gained nothing, unless it takes no more,
--- or the thread of a node had no memory
+-- a command was refused for a cause that stands, and this is what it leaves of `out`
 pub record IsRefused (ws : List (List ℕ)) (files after : Files) (status : ℕ)
     (old new : Option (List ℕ)) : Type 0 where
   pub refusal : Refusal

@@ -1,8 +1,8 @@
-use Rattle.std.proofs.Common.{◌≡◌, ◌≢◌, ◌∙◌, All, List, ap, subst, inl, inr, ℕ, ◌<◌, length, arith}
-use Rattle.std.proofs.Common.{refl}
+use Rattle.std.proofs.Common.{◌≡◌, ◌≢◌, ◌∙◌, ◌+◌, All, List, ap, subst, inl, inr, ℕ, ◌<◌, length}
+use Rattle.std.proofs.Common.{arith, refl}
 use Rattle.std.specs.Prelude.{◌↔◌, IsTrue, string_bytes}
 use Rattle.std.proofs.lemmas.Bool.{cases_lt}
-use Rattle.node_threads.specs.Ends.{HaveEnded, IsFitForThreads}
+use Rattle.node_threads.specs.Ends.{AreBehind, HaveEnded, IsFitForThreads}
 use Rattle.node_threads.specs.declared.ended.Ended.TheVariants.{NoMemory}
 use Rattle.omission_explainer.specs.Decided.{AreAgreed, AreInputs}
 use Rattle.omission_explainer.specs.InRounds.{IsOfRounds, printed_omits}
@@ -77,6 +77,8 @@ returns-clause-explained g c =
         ends = c.in_ok-journal.ends.items;
         ended = subst (λ ss. HaveEnded (start c.args.plan) run ss c.in_ok-journal.ends.items) stops
             ran.ends;
+        behind = subst (λ ss. AreBehind (start c.args.plan (t.setup.rounds + 1)) ss
+            c.in_ok-journal.ends.items) stops ran.behind;
         memory = had;
         closed = λ whole. ran.closed (had.0 whole);
       },
