@@ -101,6 +101,15 @@ ended_in start v i a stop e h g =
               (subst (λ n. start (n + 1) ≤ count_of v i) (sym r) due.1),
         ),
       );
+      cut = λ is. (
+        subst (λ n. n ≤ v.setup.rounds) r (g.cut is).open_round,
+        λ at.
+            let due = (g.cut is).due (at ∙ ap Some (sym h.steps)) in (
+              subst (λ n. n ≤ v.setup.rounds) r due.0,
+              subst (λ n. start (n + 1) ≤ count_of v i) r
+                  (subst (λ n. start (round_by a + 1) ≤ n) h.steps due.1),
+            ),
+      );
     }
 
 pub have_ended : {P : Type 0} (start : ℕ → ℕ) (b : Recorded P) (stops : List Stop)

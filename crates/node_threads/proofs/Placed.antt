@@ -12,17 +12,21 @@ use Rattle.std.proofs.Common.{
   ◌-◌,
   ◌<◌,
   ◌≤◌,
+  ◌⊎◌,
+  inl,
+  inr,
   length,
   ap,
   ◌∙◌,
   arith,
+  sym,
 }
 use Rattle.slot_plans.specs.Plan.{PlanLaws}
 use Rattle.locked_buffers.specs.Seats.{Account, IsDueBy, round_by}
 use Rattle.node_threads.specs.declared.body.Halt.{Halt}
 use Rattle.node_threads.specs.declared.body.Halt.TheVariants as halt
 use Rattle.node_threads.specs.declared.ended.Ended.TheVariants.{NoMemory, Stopped}
-use Rattle.node_threads.specs.Bodies.{IsEnded, IsInPlace, end_of}
+use Rattle.node_threads.specs.Bodies.{IsCutShort, IsEnded, IsHeldUp, IsInPlace, end_of}
 
 -- what holds of the value
 pub for_some : {X : Type 0} (P : X → Type 0) (y : X) → P y → ForSome (Some y) P
@@ -117,6 +121,7 @@ module _ (start receives : ℕ → ℕ) (nodes : ℕ) (laws : PlanLaws nodes rec
   stopped_there rounds stop a h l e = record {
     done = λ is. cc;
     stopped = λ is. (e, before_all rounds a h l, not_due rounds a h);
+    cut = λ is. cc;
   }
 
   -- the steps that are left
@@ -124,10 +129,20 @@ module _ (start receives : ℕ → ℕ) (nodes : ℕ) (laws : PlanLaws nodes rec
       → b.steps ≡ a.steps + 1 → start (rounds + 1) - b.steps < start (rounds + 1) - a.steps
   fewer rounds a b h l more = omega (arith, before_all rounds a h l, more)
 
--- a thread that couldn't go on has ended as it's told, whatever its seat says
+-- a thread that couldn't go on before its end has ended as it's told
 pub ended_stuck : (start : ℕ → ℕ) (rounds : ℕ) (stop : Option ℕ) (a : Account) (h : Halt)
-    → ForSome (end_of h) (IsEnded start rounds stop a)
-ended_stuck start rounds stop a halt.NoMemory =
+    → IsCutShort start rounds stop a → ForSome (end_of h) (IsEnded start rounds stop a)
+ended_stuck start rounds stop a halt.NoMemory cut =
     for_some (IsEnded start rounds stop a) NoMemory
-    (record { done = λ is. cc; stopped = λ is. cc })
-ended_stuck start rounds stop a halt.Refused = λ x is. cc
+    (record { done = λ is. cc; stopped = λ is. cc; cut = λ is. cut })
+ended_stuck start rounds stop a halt.Refused cut = λ x is. cc
+
+-- a step that was held up before the stop leaves the seat before its end
+pub cut_short : (start : ℕ → ℕ) (rounds : ℕ) (stop : Option ℕ) (a b : Account)
+    → round_by a ≤ rounds → (stop ≡ Some a.steps → ⊥) → IsHeldUp start rounds a b
+    → IsCutShort start rounds stop b
+cut_short start rounds stop a b l other (inl same) = record {
+  open_round = subst (λ c. round_by c ≤ rounds) (sym same) l;
+  due = λ is. absurd (other (is ∙ ap (λ (c : Account). Some c.steps) same));
+}
+cut_short start rounds stop a b l other (inr due) = record { open_round = due.0; due = λ is. due }

@@ -1,6 +1,6 @@
 -- A node's thread: its seat and its node go together.
-use Rattle.std.specs.Prelude.{◌≡◌, ℕ, ◌+◌, ◌<◌, ◌≤◌, List, [], ◌∷◌, ◌++◌, Option, None, Some}
-use Rattle.std.specs.Prelude.{length, slice_index_or}
+use Rattle.std.specs.Prelude.{◌≡◌, ℕ, ◌+◌, ◌<◌, ◌≤◌, ◌⊎◌, List, [], ◌∷◌, ◌++◌, Option, None}
+use Rattle.std.specs.Prelude.{Some, length, slice_index_or}
 use Rattle.locked_buffers.specs.Runs.{Run}
 use Rattle.locked_buffers.specs.Seats.{Account, IsDueBy, round_by}
 use Rattle.round_meaning.specs.Setups.{max_rounds}
@@ -54,12 +54,22 @@ abbrev pub end_of : Halt → Option Ended
 end_of halt.NoMemory = Some NoMemory
 end_of halt.Refused = None
 
+-- the step that came next wasn't taken, or it was, and the round that it made due is still open
+abbrev pub IsHeldUp : (start : ℕ → ℕ) → (rounds : ℕ) → (old new : Account) → Type 0
+IsHeldUp start rounds old new = (new ≡ old) ⊎ IsDueBy start rounds new
+
+-- the seat isn't at its end: it has a round that isn't closed, and at its stop that round is due
+pub record IsCutShort (start : ℕ → ℕ) (rounds : ℕ) (stop : Option ℕ) (a : Account) : Type 0 where
+  pub open_round : round_by a ≤ rounds
+  pub due : stop ≡ Some a.steps → IsDueBy start rounds a
+
 -- what is said of a seat by how its thread ended, as in Ends
 pub record IsEnded (start : ℕ → ℕ) (rounds : ℕ) (stop : Option ℕ) (a : Account) (e : Ended)
     : Type 0 where
   pub done : e ≡ Done → (round_by a ≡ rounds + 1) × (a.steps ≡ start (rounds + 1))
   pub stopped : e ≡ Stopped
       → (stop ≡ Some a.steps) × (a.steps < start (rounds + 1)) × (¬ IsDueBy start rounds a)
+  pub cut : e ≡ NoMemory → IsCutShort start rounds stop a
 
 -- each seat is as its thread ended
 pub record SeatsEnded (start : ℕ → ℕ) (rounds : ℕ) (stops : List Stop) (seats : List Account)

@@ -8,17 +8,20 @@ use Rattle.schedule_text.specs.declared.pace.Stop.{Stop}
 use Rattle.step_book.specs.Agreement.{row}
 use Rattle.step_book.specs.Log.{IsDue, Log, count_of, round_of}
 use Rattle.node_threads.specs.declared.ended.Ended.{Ended}
-use Rattle.node_threads.specs.declared.ended.Ended.TheVariants.{Done, Stopped}
+use Rattle.node_threads.specs.declared.ended.Ended.TheVariants.{Done, NoMemory, Stopped}
 use Rattle.node_threads.specs.Stops.{AreStops, stop_of}
 
 -- what the record says of node i by how its thread ended. Done: all its rounds are closed, and it
 -- has taken all their steps. Stopped: it has taken this number of steps, fewer than all, and each
--- round of it that is due is closed. Out of memory: nothing.
+-- round of it that is due is closed. Out of memory: neither, since a round of it isn't closed, and
+-- if it has taken as many steps as its stop says, that round is due. So just one of these is true.
 pub record HasEnded (start : ℕ → ℕ) (v : Log) (i : ℕ) (stop : Option ℕ) (e : Ended) : Type 0 where
   pub done : e ≡ Done
       → (round_of v i ≡ v.setup.rounds + 1) × (count_of v i ≡ start (v.setup.rounds + 1))
   pub stopped : e ≡ Stopped → (stop ≡ Some (count_of v i))
       × (count_of v i < start (v.setup.rounds + 1)) × (¬ IsDue start v i)
+  pub cut : e ≡ NoMemory
+      → (round_of v i ≤ v.setup.rounds) × (stop ≡ Some (count_of v i) → IsDue start v i)
 
 -- there is an end for each node of the run, in the order of the nodes, and each is the record's
 pub record HaveEnded (start : ℕ → ℕ) (v : Log) (stops : List Stop) (ends : List Ended)

@@ -1,10 +1,10 @@
 //! What a node's thread does, over whatever answers its calls.
 ghost use Rattle.std.specs.Option.{ForSome};
-ghost use Rattle.std.specs.Prelude.{◌≡◌, ◌↔◌, ◌+◌, ◌<◌, ◌≤◌, IfOk, OnOk, Some};
+ghost use Rattle.std.specs.Prelude.{◌≡◌, ◌↔◌, ◌+◌, ◌<◌, ◌≤◌, IfOk, OnErr, OnOk, Some};
 ghost use Rattle.round_meaning.specs.Setups.{max_rounds};
 ghost use Rattle.locked_buffers.specs.Seats.{round_by};
-ghost use Rattle.node_threads.specs.Bodies.{HasReceived, IsEnded, IsInPlace, IsNotPassed};
-ghost use Rattle.node_threads.specs.Bodies.{IsPlanned, IsTogether, end_of};
+ghost use Rattle.node_threads.specs.Bodies.{HasReceived, IsCutShort, IsEnded, IsHeldUp};
+ghost use Rattle.node_threads.specs.Bodies.{IsInPlace, IsNotPassed, IsPlanned, IsTogether, end_of};
 ghost use Rattle.node_threads.specs.declared.body.Halt.TheVariants as halt;
 ghost use Rattle.locked_buffers.specs.declared.fault.PostFault.TheVariants as post;
 ghost use Rattle.step_book.specs.declared.fault.CloseFault.TheVariants as close;
@@ -96,6 +96,7 @@ fn send_step<P: Plan, M: Mail<P>, G: Gate>(
     ensures steps { OnOk result (seat.new.steps ≡ seat.old.steps + 1) }
     ensures states { OnOk result (seat.new.states ≡ seat.old.states) }
     ensures together { OnOk result (IsTogether (M.run mail.now) seat.new node.new) }
+    ensures err { OnErr result (seat.new ≡ seat.old) }
 {
     let name = Name {
         from: seat.node(),
@@ -117,6 +118,7 @@ fn receive_step<P: Plan, M: Mail<P>>(mail: &M, seat: &mut Seat, node: &mut Node)
     ensures states { OnOk result (seat.new.states ≡ seat.old.states) }
     ensures together { OnOk result (IsTogether (M.run mail.now) seat.new node.new) }
     ensures taken { OnOk result (HasReceived seat.old seat.new node.old node.new) }
+    ensures err { OnErr result (seat.new ≡ seat.old) }
 {
     let took = mail.receive(seat)?;
     take_all(node, took.frames);
@@ -135,6 +137,7 @@ fn close_round<P: Plan, M: Mail<P>, G: Gate>(
     ensures together { OnOk result (IsTogether (M.run mail.now) seat.new node.new) }
     ensures steps { OnOk result (seat.new.steps ≡ seat.old.steps) }
     ensures round { OnOk result (round_by seat.new ≡ round_by seat.old + 1) }
+    ensures err { OnErr result (seat.new ≡ seat.old) }
 {
     let me = seat.node();
     let round = node.round();
@@ -175,6 +178,7 @@ fn next_step<P: Plan, M: Mail<P>, G: Gate, B: Beat>(
     ensures steps { OnOk result (seat.new.steps ≡ seat.old.steps + 1) }
     ensures states { OnOk result (seat.new.states ≡ seat.old.states) }
     ensures together { OnOk result (IsTogether (M.run mail.now) seat.new node.new) }
+    ensures err { OnErr result (seat.new ≡ seat.old) }
 {
     let offset = seat.steps() - u64::from(plan.start(node.round()));
     if offset < u64::from(plan.nodes()) {
@@ -201,6 +205,8 @@ fn step<P: Plan, M: Mail<P>, G: Gate, B: Beat>(
     ensures together { OnOk result (IsTogether (M.run mail.now) seat.new node.new) }
     ensures place { OnOk result (IsInPlace (P.start plan) node.old.setup.rounds seat.new) }
     ensures steps { OnOk result (seat.new.steps ≡ seat.old.steps + 1) }
+    ensures err { OnErr result
+        (IsHeldUp (P.start plan) node.old.setup.rounds seat.old seat.new) }
 {
     let round = node.round();
     next_step(mail, gate, beat, plan, seat, node)?;
@@ -228,6 +234,7 @@ fn take_steps<P: Plan, M: Mail<P>, G: Gate, B: Beat>(
     ensures ended { IfOk result (IsEnded (P.start plan) rounds stop seat.new) }
     ensures passed { IfOk result (λ ended. ended ≡ Ended.Done
         → IsNotPassed stop seat.old.steps (P.start plan (rounds + 1))) }
+    ensures cut { OnErr result (IsCutShort (P.start plan) rounds stop seat.new) }
 {
     while node.round() <= rounds {
         if is_stop(stop, seat.steps()) {

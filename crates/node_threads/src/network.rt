@@ -216,8 +216,8 @@ impl<'a, P: Plan> Network<'a, P> {
         Ok(())
     }
 
-    /// Asks the policy until it chooses nothing. Without a tick it's told how many events were
-    /// recorded when the network last looked, with its own since.
+    /// Asks the policy until it chooses nothing, each time after it has learnt what was sent.
+    /// Without a tick the policy is told how many events were recorded by then.
     fn take_turn<R: Wait, Q: Policy>(
         &mut self,
         rt: &R,
@@ -236,13 +236,12 @@ impl<'a, P: Plan> Network<'a, P> {
             })) }
         ensures plan { OnOk result (self.new.plan ≡ self.old.plan) }
     {
-        let mut events = self.learn(rt)?;
         for _ in rt.forever() {
+            let events = self.learn(rt)?;
             let Some((choice, event)) = self.ask(rt, policy, now_of(tick, events))? else {
                 return Ok(());
             };
             self.carry_out(rt, choice, event)?;
-            events = events.saturating_add(1);
         }
         unreachable!()
     }

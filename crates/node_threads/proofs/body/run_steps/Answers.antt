@@ -11,4 +11,4 @@ returns-clause-ended g c =
     let a = c.take_steps.new.seat in
     subst (λ (o : Option Ended). ForSome o (IsEnded start c.args.rounds c.args.stop a))
     (sym c.end_of.ensures)
-    (ended_stuck start c.args.rounds c.args.stop a c.in-Err.halt)
+    (ended_stuck start c.args.rounds c.args.stop a c.in-Err.halt c.in-Err.ensures.cut)
