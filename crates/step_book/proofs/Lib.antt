@@ -25,6 +25,7 @@ pub mod Placed
 pub mod Agreed
 pub mod MomentLaws
 pub mod Later
+pub mod Effects
 pub mod Taking
 pub mod Spelling
 pub mod Pieces

@@ -204,7 +204,8 @@ pub trace_view : {P : Type 0} {s v : Recorded P} (e : Event) (trace : List Event
 trace_view {P} e trace is h = h ∙ ap (λ (z : Recorded P). z.log.trace ++ e ∷ []) is
 
 -- the run of a view, with one event more
-pub log_view : {P : Type 0} {s v : Recorded P} (e : Event) (trace : List Event) → s ≡ v
-    → trace ≡ s.log.trace ++ e ∷ [] → record s.log { trace = trace } ≡ happened v.log e
-log_view {P} {s} e trace is h = ap (λ t. record s.log { trace = t }) h
-    ∙ ap (λ (z : Recorded P). happened z.log e) is
+pub event_view : {P : Type 0} {s v : Recorded P} (e : Event) (trace : List Event) → s ≡ v
+    → trace ≡ s.log.trace ++ e ∷ []
+    → record s { log = record s.log { trace = trace } } ≡ record v { log = happened v.log e }
+event_view {P} {s} e trace is h = ap (λ t. record s { log = record s.log { trace = t } }) h
+    ∙ ap (λ (z : Recorded P). record z { log = happened z.log e }) is

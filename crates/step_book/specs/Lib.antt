@@ -21,6 +21,7 @@ pub mod Causes
 pub mod Buffers
 pub mod Places
 pub mod Agreed
+pub mod Effects
 pub mod Moments
 pub mod Taking
 pub mod Pieces

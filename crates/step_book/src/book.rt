@@ -1,21 +1,20 @@
 //! What a run has recorded, by the names of its messages.
-ghost use Rattle.std.specs.Prelude.{◌≡◌, ◌+◌, ◌-◌, ◌*◌, ◌^◌, ◌<◌, ◌≤◌, ◌↔◌, [], IfErr, IfOk};
+ghost use Rattle.std.specs.Prelude.{◌≡◌, ◌+◌, ◌-◌, ◌*◌, ◌^◌, ◌<◌, ◌≤◌, ◌↔◌, IfErr, IfOk};
 ghost use Rattle.std.specs.Prelude.{IfSome, IsTrue, MatchOption, None, OnErr, OnOk};
 ghost use Rattle.round_meaning.specs.Rounds.{algorithm_of};
 ghost use Rattle.round_meaning.specs.Setups.{IsLawful};
 ghost use Rattle.step_machine.specs.Sealed.{IsPrepared};
-ghost use Rattle.step_book.specs.Agreed.{JournalAgrees, KeepsClosed};
+ghost use Rattle.step_book.specs.Agreed.{JournalAgrees};
 ghost use Rattle.step_book.specs.Agreement.{IsBuffer, row};
 ghost use Rattle.step_book.specs.Causes.{IdleCause};
 ghost use Rattle.step_book.specs.Causes.{IsReceiveFit, IsSendFit, ReceiveCause, SendCause};
+ghost use Rattle.step_book.specs.Effects.{Idles, Receives, Sends};
 ghost use Rattle.step_book.specs.Flight.{IsFlight, IsFlightBefore};
 ghost use Rattle.step_book.specs.History.{answers_of, copied, counted};
 ghost use Rattle.step_book.specs.History.{handed_of, spoken};
 ghost use Rattle.step_book.specs.Log.{CanCopy, HasNoCopy, IsDue, IsFaithful, IsFlying, IsLeastCopy};
-ghost use Rattle.step_book.specs.Log.{HasBook, IsReceive, SameMarks};
-ghost use Rattle.step_book.specs.Log.{SameMarksBut, SameWaiting, SameWaitingBut, count_of};
-ghost use Rattle.step_book.specs.Log.{happened, history, mark_in, opened, round_of};
-ghost use Rattle.step_book.specs.Log.{states_of, waiting_in, world_of};
+ghost use Rattle.step_book.specs.Log.{HasBook, IsReceive, count_of, history, mark_in, opened};
+ghost use Rattle.step_book.specs.Log.{round_of, states_of, waiting_in, world_of};
 ghost use Rattle.step_book.specs.Moments.{MomentsAgree};
 ghost use Rattle.step_book.specs.Names.{IsName};
 ghost use Rattle.step_book.specs.Serials.{AreSent, HasSerial};
@@ -40,7 +39,7 @@ use slot_plans::{Plan, Slot};
 use std::alloc::Global;
 use std::marker::Model;
 use std::sync::Arc;
-use step_machine::{Event, InFlight, MAX_COPY, Name, Prepared, StoredState};
+use step_machine::{InFlight, MAX_COPY, Name, Prepared, StoredState};
 use stored_events::{StoredEvent, StoredName};
 
 /// The record of a run: its events, the steps of each node, the states of its closed rounds, what
@@ -471,20 +470,8 @@ impl<P: Plan> Book<P> {
         requires work { IsPrepared
             (algorithm_of self.old.log.program self.old.log.setup) prepared.now }
         requires fit { IsSendFit (P.start self.old.plan) self.old.log prepared.now }
-        ensures ok { OnOk result (self.new
-            ≡ record self.old { log = happened self.old.log (Event.Step prepared.now.name.from) }) }
+        ensures ok { OnOk result (Sends P.start prepared.now self.old self.new) }
         ensures err { OnErr result (self.new ≡ self.old) }
-        ensures round { OnOk result
-            (round_of self.old.log prepared.now.name.from ≡ prepared.now.name.round) }
-        ensures unsent { OnOk result
-            (mark_in (P.start self.old.plan) self.old.log prepared.now.name ≡ Mark.Unsent) }
-        ensures sent { OnOk result (mark_in (P.start self.old.plan) self.new.log prepared.now.name
-            ≡ spoken prepared.now.message) }
-        ensures marks { OnOk result
-            (SameMarksBut (P.start self.old.plan) prepared.now.name self.old.log self.new.log) }
-        ensures waiting { OnOk result
-            (SameWaiting (P.start self.old.plan) self.old.log self.new.log) }
-        ensures kept { OnOk result (KeepsClosed (P.start self.old.plan) self.old.log self.new.log) }
     {
         let name = prepared.name();
         let place = self.place(name);
@@ -504,18 +491,9 @@ impl<P: Plan> Book<P> {
     /// A receive step: what waits for the node is handed out.
     pub fn receive(&mut self, node: u32) -> Result<(), ReceiveFault>
         requires { node < self.old.log.setup.nodes }
-        ensures ok { OnOk result
-            (self.new ≡ record self.old { log = happened self.old.log (Event.Step node) }) }
+        ensures ok { OnOk result (Receives P.start node self.old self.new) }
         ensures err { OnErr result (self.new ≡ self.old) }
         ensures cause { IfErr result (ReceiveCause (P.start self.old.plan) self.old.log node) }
-        ensures fit { OnOk result (IsReceiveFit (P.start self.old.plan) self.old.log node) }
-        ensures once { OnOk result (IsBuffer (world_of (P.start self.old.plan) self.old.log)
-            (history self.old.log) node (waiting_in (P.start self.old.plan) self.old.log node)) }
-        ensures marks { OnOk result (SameMarks (P.start self.old.plan) self.old.log self.new.log) }
-        ensures taken { OnOk result (waiting_in (P.start self.old.plan) self.new.log node ≡ []) }
-        ensures waiting { OnOk result
-            (SameWaitingBut (P.start self.old.plan) node self.old.log self.new.log) }
-        ensures kept { OnOk result (KeepsClosed (P.start self.old.plan) self.old.log self.new.log) }
     {
         if let Some(fault) = self.refuses_receive(node) {
             return Err(fault);
@@ -545,16 +523,8 @@ impl<P: Plan> Book<P> {
     pub fn record_receive(&mut self, node: u32) -> Result<(), NoMemory>
         requires node { node < self.old.log.setup.nodes }
         requires fit { IsReceiveFit (P.start self.old.plan) self.old.log node }
-        ensures ok { OnOk result
-            (self.new ≡ record self.old { log = happened self.old.log (Event.Step node) }) }
+        ensures ok { OnOk result (Receives P.start node self.old self.new) }
         ensures err { OnErr result (self.new ≡ self.old) }
-        ensures once { OnOk result (IsBuffer (world_of (P.start self.old.plan) self.old.log)
-            (history self.old.log) node (waiting_in (P.start self.old.plan) self.old.log node)) }
-        ensures marks { OnOk result (SameMarks (P.start self.old.plan) self.old.log self.new.log) }
-        ensures taken { OnOk result (waiting_in (P.start self.old.plan) self.new.log node ≡ []) }
-        ensures waiting { OnOk result
-            (SameWaitingBut (P.start self.old.plan) node self.old.log self.new.log) }
-        ensures kept { OnOk result (KeepsClosed (P.start self.old.plan) self.old.log self.new.log) }
     {
         note_receive(
             &mut self.trace,
@@ -568,15 +538,9 @@ impl<P: Plan> Book<P> {
     /// A step after the last round.
     pub fn idle_step(&mut self, node: u32) -> Result<(), IdleFault>
         requires { node < self.old.log.setup.nodes }
-        ensures ok { OnOk result
-            (self.new ≡ record self.old { log = happened self.old.log (Event.Step node) }) }
+        ensures ok { OnOk result (Idles P.start node self.old self.new) }
         ensures err { OnErr result (self.new ≡ self.old) }
         ensures cause { IfErr result (IdleCause self.old.log node) }
-        ensures fit { OnOk result (self.old.log.setup.rounds < round_of self.old.log node) }
-        ensures marks { OnOk result (SameMarks (P.start self.old.plan) self.old.log self.new.log) }
-        ensures waiting { OnOk result
-            (SameWaiting (P.start self.old.plan) self.old.log self.new.log) }
-        ensures kept { OnOk result (KeepsClosed (P.start self.old.plan) self.old.log self.new.log) }
     {
         if self.round_of(node) <= self.setup.rounds {
             return Err(IdleFault::NotPast);
@@ -589,13 +553,8 @@ impl<P: Plan> Book<P> {
     pub fn record_idle_step(&mut self, node: u32) -> Result<(), NoMemory>
         requires node { node < self.old.log.setup.nodes }
         requires past { self.old.log.setup.rounds < round_of self.old.log node }
-        ensures ok { OnOk result
-            (self.new ≡ record self.old { log = happened self.old.log (Event.Step node) }) }
+        ensures ok { OnOk result (Idles P.start node self.old self.new) }
         ensures err { OnErr result (self.new ≡ self.old) }
-        ensures marks { OnOk result (SameMarks (P.start self.old.plan) self.old.log self.new.log) }
-        ensures waiting { OnOk result
-            (SameWaiting (P.start self.old.plan) self.old.log self.new.log) }
-        ensures kept { OnOk result (KeepsClosed (P.start self.old.plan) self.old.log self.new.log) }
     {
         note_step(&mut self.trace, &mut self.steps, node)?;
         Ok(())

@@ -2,10 +2,9 @@
 ghost use Rattle.std.specs.Arc.{arc_value};
 ghost use Rattle.std.specs.Prelude.{◌≡◌, ◌-◌, ◌<◌, ◌≤◌, ◌↔◌, IfErr, IsTrue, MatchOption, OnErr};
 ghost use Rattle.std.specs.Prelude.{OnOk, Some, length, option_map};
-ghost use Rattle.step_book.specs.Agreed.{KeepsClosed};
 ghost use Rattle.step_book.specs.Causes.{CloseCause, IsDueIn, EndsAsRecorded};
-ghost use Rattle.step_book.specs.Log.{IsDue, closed, history, mark_in, round_of, state_before};
-ghost use Rattle.step_book.specs.Log.{world_of};
+ghost use Rattle.step_book.specs.Effects.{Closes};
+ghost use Rattle.step_book.specs.Log.{IsDue, history, mark_in, round_of, state_before, world_of};
 ghost use Rattle.step_book.specs.Names.{IsName};
 ghost use Rattle.step_book.specs.Work.{AreCarried, any_within, heard_from, is_within, tag_of};
 
@@ -23,15 +22,10 @@ impl<P: Plan> Book<P> {
     pub fn close(&mut self, finished: &Finished<'_>) -> Result<(), CloseFault>
         requires program { finished.now.node.now.program ≡ self.old.log.program }
         requires setup { finished.now.node.now.setup ≡ self.old.log.setup }
-        ensures ok { OnOk result
-            (self.new ≡ record self.old { log = closed self.old.log finished.now.node.now }) }
+        ensures ok { OnOk result (Closes P.start finished.now.node.now self.old self.new) }
         ensures err { OnErr result (self.new ≡ self.old) }
         ensures cause { IfErr result
             (CloseCause (P.start self.old.plan) self.old.log finished.now.node.now) }
-        ensures fit { OnOk result
-            (IsDueIn (P.start self.old.plan) self.old.log finished.now.node.now
-            × EndsAsRecorded (P.start self.old.plan) self.old.log finished.now.node.now) }
-        ensures kept { OnOk result (KeepsClosed (P.start self.old.plan) self.old.log self.new.log) }
     {
         if let Some(fault) = self.refuses_close(finished) {
             return Err(fault);
@@ -72,10 +66,8 @@ impl<P: Plan> Book<P> {
         requires state { Some (arc_value state) ≡ finished.now.node.now.next }
         requires due { IsDueIn (P.start self.old.plan) self.old.log finished.now.node.now }
         requires ended { EndsAsRecorded (P.start self.old.plan) self.old.log finished.now.node.now }
-        ensures ok { OnOk result
-            (self.new ≡ record self.old { log = closed self.old.log finished.now.node.now }) }
+        ensures ok { OnOk result (Closes P.start finished.now.node.now self.old self.new) }
         ensures err { OnErr result (self.new ≡ self.old) }
-        ensures kept { OnOk result (KeepsClosed (P.start self.old.plan) self.old.log self.new.log) }
     {
         // Nothing at run time: what is known of the frames that the node folded.
         let _frames = finished.frames();

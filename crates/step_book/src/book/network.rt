@@ -1,10 +1,6 @@
 //! What the network does to a copy of a message, as a book records it.
-ghost use Rattle.std.specs.Prelude.{◌≡◌, ◌+◌, ◌-◌, ◌<◌, ◌++◌, ◌↔◌, IfOk, IsTrue, OnErr, OnOk};
-ghost use Rattle.step_machine.specs.Sealed.{original};
-ghost use Rattle.step_book.specs.Agreed.{KeepsClosed};
-ghost use Rattle.step_book.specs.History.{arrival, copied, counted, dropped, let_go};
-ghost use Rattle.step_book.specs.Log.{CanCopy, IsFlying, SameMarksBut, SameWaiting, SameWaitingBut};
-ghost use Rattle.step_book.specs.Log.{count_of, happened, mark_in, waiting_in, world_of};
+ghost use Rattle.std.specs.Prelude.{◌≡◌, ◌<◌, IfOk, OnErr};
+ghost use Rattle.step_book.specs.Effects.{Drops, MakesCopy, Releases};
 ghost use Rattle.step_book.specs.Names.{IsName};
 
 use crate::book::Book;
@@ -19,22 +15,8 @@ impl<P: Plan> Book<P> {
     #[inline(always)]
     pub fn release(&mut self, name: Name) -> Result<bool, NoMemory>
         requires { IsName self.old.log.setup name }
-        ensures ok { OnOk result
-            (self.new ≡ record self.old { log = happened self.old.log (Event.Release name) }) }
+        ensures ok { IfOk result (λ moved. Releases P.start name moved self.old self.new) }
         ensures err { OnErr result (self.new ≡ self.old) }
-        ensures moved { IfOk result (λ moved. IsTrue moved
-            ↔ IsFlying (P.start self.old.plan) self.old.log name) }
-        ensures released { OnOk result (mark_in (P.start self.old.plan) self.new.log name
-            ≡ let_go (counted (world_of (P.start self.old.plan) self.old.log)
-            (count_of self.old.log name.to)) (mark_in (P.start self.old.plan) self.old.log name)) }
-        ensures marks { OnOk result
-            (SameMarksBut (P.start self.old.plan) name self.old.log self.new.log) }
-        ensures arrived { OnOk result (waiting_in (P.start self.old.plan) self.new.log name.to
-            ≡ waiting_in (P.start self.old.plan) self.old.log name.to
-            ++ arrival name (mark_in (P.start self.old.plan) self.old.log name)) }
-        ensures waiting { OnOk result
-            (SameWaitingBut (P.start self.old.plan) name.to self.old.log self.new.log) }
-        ensures kept { OnOk result (KeepsClosed (P.start self.old.plan) self.old.log self.new.log) }
     {
         let place = self.place(name);
         if self.is_flying(name) {
@@ -60,18 +42,8 @@ impl<P: Plan> Book<P> {
     /// A drop by the network: true if a copy was in flight; it's lost.
     pub fn drop_copy(&mut self, name: Name) -> Result<bool, NoMemory>
         requires { IsName self.old.log.setup name }
-        ensures ok { OnOk result
-            (self.new ≡ record self.old { log = happened self.old.log (Event.Drop name) }) }
+        ensures ok { IfOk result (λ lost. Drops P.start name lost self.old self.new) }
         ensures err { OnErr result (self.new ≡ self.old) }
-        ensures lost { IfOk result (λ lost. IsTrue lost
-            ↔ IsFlying (P.start self.old.plan) self.old.log name) }
-        ensures dropped { OnOk result (mark_in (P.start self.old.plan) self.new.log name
-            ≡ dropped (mark_in (P.start self.old.plan) self.old.log name)) }
-        ensures marks { OnOk result
-            (SameMarksBut (P.start self.old.plan) name self.old.log self.new.log) }
-        ensures waiting { OnOk result
-            (SameWaiting (P.start self.old.plan) self.old.log self.new.log) }
-        ensures kept { OnOk result (KeepsClosed (P.start self.old.plan) self.old.log self.new.log) }
     {
         let place = self.place(name);
         if self.is_flying(name) {
@@ -88,19 +60,8 @@ impl<P: Plan> Book<P> {
     pub fn make_copy(&mut self, name: Name) -> Result<bool, NoMemory>
         requires name { IsName self.old.log.setup name }
         requires other { 0 < name.copy }
-        ensures ok { OnOk result
-            (self.new ≡ record self.old { log = happened self.old.log (Event.Copy name) }) }
+        ensures ok { IfOk result (λ made. MakesCopy P.start name made self.old self.new) }
         ensures err { OnErr result (self.new ≡ self.old) }
-        ensures made { IfOk result (λ made. IsTrue made
-            ↔ CanCopy (P.start self.old.plan) self.old.log name) }
-        ensures copied { OnOk result (mark_in (P.start self.old.plan) self.new.log name
-            ≡ copied (mark_in (P.start self.old.plan) self.old.log (original name))
-            (mark_in (P.start self.old.plan) self.old.log name)) }
-        ensures marks { OnOk result
-            (SameMarksBut (P.start self.old.plan) name self.old.log self.new.log) }
-        ensures waiting { OnOk result
-            (SameWaiting (P.start self.old.plan) self.old.log self.new.log) }
-        ensures kept { OnOk result (KeepsClosed (P.start self.old.plan) self.old.log self.new.log) }
     {
         let place = self.place(name);
         if self.can_copy(name) {

@@ -1,13 +1,10 @@
-use Rattle.std.proofs.Common.{sym, subst, ap, ◌∙◌, refl}
+use Rattle.std.proofs.Common.{refl}
 use Rattle.step_machine.specs.declared.event.Event.TheVariants.{Copy}
 use Rattle.step_book.specs.declared.mark.Mark.TheVariants.{Flying, Unsent}
+use Rattle.step_book.proofs.Effects.{makes_copy}
 use Rattle.step_book.proofs.Events.{kept, made, not_made, to_fields}
-use Rattle.step_book.specs.Agreed.{KeepsClosed}
-use Rattle.step_book.specs.Log.{Log, SameMarksBut, SameWaiting, mark_in}
-use Rattle.step_book.proofs.Later.{kept_happened}
-use Rattle.step_book.proofs.Leaves.{copied_mark, copied_others, copied_waiting}
 use Rattle.step_book.proofs.Names.{storable_name}
-use Rattle.step_book.proofs.Reading.{log_view, of_view, trace_view}
+use Rattle.step_book.proofs.Reading.{of_view, trace_view}
 use Rattle.step_book.proofs.Tables.{puts_after}
 use Rattle.step_book.proofs.book.Book.make_copy.Goals as goal
 
@@ -38,73 +35,17 @@ invariant_of-self-in_err-note_answer g c =
     kept c.self.invariant _ _ _ _ _ _ _ c.in_err-note_answer.ensures.trace_kept refl
     c.in_ok-reserve.ensures.same refl refl c.in_err-note_answer.ensures.answers_kept refl
 
-pub returns-then-can_copy-clause-copied : goal.returns-then-can_copy-clause-copied
-returns-then-can_copy-clause-copied g c =
-    let v = c.args.self.now in
-    let n = c.args.name in
-    ap (λ (z : Log). mark_in (g.P.Plan.start v.plan) z n)
-    (log_view (Copy n) _ c.self.view_is c.in_ok-note_answer.ensures.trace)
-    ∙ copied_mark (of_view g.P.Plan.start g.P.Plan.nodes c.self.view_is c.self.invariant) n
-    c.requires.name c.requires.other
-
-pub returns-then-can_copy-clause-marks : goal.returns-then-can_copy-clause-marks
-returns-then-can_copy-clause-marks g c =
-    let v = c.args.self.now in
-    let n = c.args.name in
-    subst (λ (z : Log). SameMarksBut (g.P.Plan.start v.plan) n v.log z)
-    (sym (log_view (Copy n) _ c.self.view_is c.in_ok-note_answer.ensures.trace))
-    (copied_others (of_view g.P.Plan.start g.P.Plan.nodes c.self.view_is c.self.invariant) n)
-
-pub returns-then-can_copy-clause-waiting : goal.returns-then-can_copy-clause-waiting
-returns-then-can_copy-clause-waiting g c =
-    let v = c.args.self.now in
-    let n = c.args.name in
-    subst (λ (z : Log). SameWaiting (g.P.Plan.start v.plan) v.log z)
-    (sym (log_view (Copy n) _ c.self.view_is c.in_ok-note_answer.ensures.trace))
-    (copied_waiting (of_view g.P.Plan.start g.P.Plan.nodes c.self.view_is c.self.invariant) n)
-
-pub returns-then-can_copy-clause-kept : goal.returns-then-can_copy-clause-kept
-returns-then-can_copy-clause-kept g c =
-    let v = c.args.self.now in
-    let n = c.args.name in
-    subst (λ (z : Log). KeepsClosed (g.P.Plan.start v.plan) v.log z)
-    (sym (log_view (Copy n) _ c.self.view_is c.in_ok-note_answer.ensures.trace))
-    (kept_happened (of_view g.P.Plan.start g.P.Plan.nodes c.self.view_is c.self.invariant) (Copy n))
-
-pub returns-clause-copied : goal.returns-clause-copied
-returns-clause-copied g c =
-    let v = c.args.self.now in
-    let n = c.args.name in
-    ap (λ (z : Log). mark_in (g.P.Plan.start v.plan) z n)
-    (log_view (Copy n) _ c.self.view_is c.in_ok-note_answer-2.ensures.trace)
-    ∙ copied_mark (of_view g.P.Plan.start g.P.Plan.nodes c.self.view_is c.self.invariant) n
-    c.requires.name c.requires.other
-
-pub returns-clause-marks : goal.returns-clause-marks
-returns-clause-marks g c =
-    let v = c.args.self.now in
-    let n = c.args.name in
-    subst (λ (z : Log). SameMarksBut (g.P.Plan.start v.plan) n v.log z)
-    (sym (log_view (Copy n) _ c.self.view_is c.in_ok-note_answer-2.ensures.trace))
-    (copied_others (of_view g.P.Plan.start g.P.Plan.nodes c.self.view_is c.self.invariant) n)
-
-pub returns-clause-waiting : goal.returns-clause-waiting
-returns-clause-waiting g c =
-    let v = c.args.self.now in
-    let n = c.args.name in
-    subst (λ (z : Log). SameWaiting (g.P.Plan.start v.plan) v.log z)
-    (sym (log_view (Copy n) _ c.self.view_is c.in_ok-note_answer-2.ensures.trace))
-    (copied_waiting (of_view g.P.Plan.start g.P.Plan.nodes c.self.view_is c.self.invariant) n)
-
-pub returns-clause-kept : goal.returns-clause-kept
-returns-clause-kept g c =
-    let v = c.args.self.now in
-    let n = c.args.name in
-    subst (λ (z : Log). KeepsClosed (g.P.Plan.start v.plan) v.log z)
-    (sym (log_view (Copy n) _ c.self.view_is c.in_ok-note_answer-2.ensures.trace))
-    (kept_happened (of_view g.P.Plan.start g.P.Plan.nodes c.self.view_is c.self.invariant) (Copy n))
-
 pub note_answer-requires : goal.note_answer-requires
 note_answer-requires g c =
     storable_name _ (of_view g.P.Plan.start g.P.Plan.nodes c.self.view_is
     c.self.invariant).lawful.sized c.args.name c.requires.name
+
+pub returns-then-can_copy-clause-ok : goal.returns-then-can_copy-clause-ok
+returns-then-can_copy-clause-ok g c =
+    makes_copy g.P.Plan.start g.P.Plan.nodes c.self.view_is c.self.invariant c.args.name _ _ _
+    c.requires.name c.requires.other c.can_copy.ensures (cc) c.in_ok-note_answer.ensures.trace
+
+pub returns-clause-ok : goal.returns-clause-ok
+returns-clause-ok g c =
+    makes_copy g.P.Plan.start g.P.Plan.nodes c.self.view_is c.self.invariant c.args.name _ _ _
+    c.requires.name c.requires.other c.can_copy.ensures (cc) c.in_ok-note_answer-2.ensures.trace

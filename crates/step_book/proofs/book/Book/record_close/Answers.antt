@@ -1,13 +1,11 @@
-use Rattle.step_book.specs.Agreed.{KeepsClosed}
-use Rattle.step_book.specs.Log.{Recorded}
-use Rattle.step_book.proofs.Later.{kept_closed}
 use Rattle.std.proofs.Common.{arith, sym, ap, subst, ◌∙◌, length, List, Option}
 use Rattle.step_machine.specs.Sealed.{Frame}
 use Rattle.step_machine.specs.Nodes.{IsHeld, algorithm_in}
 use Rattle.round_meaning.specs.declared.setup.Setup.{Setup}
 use Rattle.step_book.specs.Log.{end_state}
-use Rattle.step_book.proofs.Closing.{close, closed_view, ended_grown, on_err}
+use Rattle.step_book.proofs.Closing.{close, ended_grown, on_err}
 use Rattle.step_book.proofs.Closing.{rows_closed, same_rows, same_view, to_rows}
+use Rattle.step_book.proofs.Effects.{closes}
 use Rattle.step_book.proofs.Reading.{of_view, rows_view, rows_len, rows_of_len}
 use Rattle.step_book.proofs.Vectors.{rows_grow, rows_same}
 use Rattle.step_book.proofs.book.Book.record_close.Goals as goal
@@ -78,31 +76,12 @@ returns-clause-ok g c =
     let long = rows_of_len c.self.inside.states.items in
     let view = ap length (rows_view c.self.view_is) in
     let one = c.node-node.ensures.one in
+    let me = c.node-node.ensures.value in
     let nodes = ap (λ (x : Setup). x.nodes) c.requires.setup in
-    closed_view n _ c.self.view_is
-    (rows_closed n c.node-node.result _ c.self.view_is c.node-node.ensures.value
+    closes g.P.Plan.start g.P.Plan.nodes c.self.view_is c.self.invariant n _ (omega arith)
+    c.requires.due c.requires.ended
+    (rows_closed n c.node-node.result _ c.self.view_is me
     (rows_grow c.self.inside.states.items c.node-node.result c.index_mut.result.now
     c.note_close.new.states (end_state n) (omega arith) c.index_mut.ensures.value
     (ended_grown n _ _ _ c.args.finished.now.ended c.requires.state
     c.in_ok-note_close.ensures.ok)))
-
-pub returns-clause-kept : goal.returns-clause-kept
-returns-clause-kept g c =
-    let v = c.args.self.now in
-    let n = c.args.finished.now.node.now in
-    let size = rows_len (of_view g.P.Plan.start g.P.Plan.nodes c.self.view_is c.self.invariant) in
-    let long = rows_of_len c.self.inside.states.items in
-    let seen = ap length (rows_view c.self.view_is) in
-    let one = c.node-node.ensures.one in
-    let me = c.node-node.ensures.value in
-    let nodes = ap (λ (x : Setup). x.nodes) c.requires.setup in
-    subst (λ (z : Recorded _). KeepsClosed (g.P.Plan.start v.plan) v.log z.log)
-    (sym
-    (closed_view n _ c.self.view_is
-    (rows_closed n c.node-node.result _ c.self.view_is c.node-node.ensures.value
-    (rows_grow c.self.inside.states.items c.node-node.result c.index_mut.result.now
-    c.note_close.new.states (end_state n) (omega arith) c.index_mut.ensures.value
-    (ended_grown n _ _ _ c.args.finished.now.ended c.requires.state
-    c.in_ok-note_close.ensures.ok)))))
-    (kept_closed (of_view g.P.Plan.start g.P.Plan.nodes c.self.view_is c.self.invariant) n
-    (omega arith))

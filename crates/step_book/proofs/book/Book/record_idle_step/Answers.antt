@@ -1,11 +1,8 @@
-use Rattle.step_book.specs.Agreed.{KeepsClosed}
-use Rattle.step_book.proofs.Later.{kept_happened}
-use Rattle.std.proofs.Common.{arith, sym, subst}
+use Rattle.std.proofs.Common.{arith}
 use Rattle.step_machine.specs.declared.event.Event.TheVariants.{Step}
-use Rattle.step_book.specs.Log.{Log, SameMarks, SameWaiting}
+use Rattle.step_book.proofs.Effects.{idles}
 use Rattle.step_book.proofs.Events.{count_le, idle, to_fields}
-use Rattle.step_book.proofs.Leaves.{idle_marks, idle_waiting}
-use Rattle.step_book.proofs.Reading.{storable_node, log_view, nodes_view, of_view, trace_view}
+use Rattle.step_book.proofs.Reading.{storable_node, nodes_view, of_view, trace_view}
 use Rattle.step_book.proofs.book.Book.record_idle_step.Goals as goal
 
 pub note_step-requires-clause-counted : goal.note_step-requires-clause-counted
@@ -23,31 +20,12 @@ invariant_of-self-2 g c =
     (trace_view (Step c.args.node) _ c.self.view_is c.in_ok-note_step.ensures.trace)
     c.in_ok-note_step.ensures.steps)
 
-pub returns-clause-marks : goal.returns-clause-marks
-returns-clause-marks g c =
-    let v = c.args.self.now in
-    subst (λ (z : Log). SameMarks (g.P.Plan.start v.plan) v.log z)
-    (sym (log_view (Step c.args.node) _ c.self.view_is c.in_ok-note_step.ensures.trace))
-    (idle_marks (of_view g.P.Plan.start g.P.Plan.nodes c.self.view_is c.self.invariant) c.args.node
-    c.requires.past)
-
-pub returns-clause-waiting : goal.returns-clause-waiting
-returns-clause-waiting g c =
-    let v = c.args.self.now in
-    subst (λ (z : Log). SameWaiting (g.P.Plan.start v.plan) v.log z)
-    (sym (log_view (Step c.args.node) _ c.self.view_is c.in_ok-note_step.ensures.trace))
-    (idle_waiting (of_view g.P.Plan.start g.P.Plan.nodes c.self.view_is c.self.invariant)
-    c.args.node c.requires.node c.requires.past)
-
-pub returns-clause-kept : goal.returns-clause-kept
-returns-clause-kept g c =
-    let v = c.args.self.now in
-    subst (λ (z : Log). KeepsClosed (g.P.Plan.start v.plan) v.log z)
-    (sym (log_view (Step c.args.node) _ c.self.view_is c.in_ok-note_step.ensures.trace))
-    (kept_happened (of_view g.P.Plan.start g.P.Plan.nodes c.self.view_is c.self.invariant)
-    (Step c.args.node))
-
 pub note_step-requires-clause-storable : goal.note_step-requires-clause-storable
 note_step-requires-clause-storable g c =
     storable_node (of_view g.P.Plan.start g.P.Plan.nodes c.self.view_is c.self.invariant)
     c.args.node c.requires.node
+
+pub returns-clause-ok : goal.returns-clause-ok
+returns-clause-ok g c =
+    idles g.P.Plan.start g.P.Plan.nodes c.self.view_is c.self.invariant c.args.node _
+    c.requires.node c.requires.past c.in_ok-note_step.ensures.trace

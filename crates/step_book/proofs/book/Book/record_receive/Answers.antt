@@ -1,19 +1,9 @@
-use Rattle.step_book.specs.Agreed.{KeepsClosed}
-use Rattle.step_book.proofs.Later.{kept_happened}
-use Rattle.std.proofs.Common.{arith, sym, subst, ap, ◌∙◌, refl}
+use Rattle.std.proofs.Common.{arith, sym, ap, refl}
 use Rattle.step_machine.specs.declared.event.Event.TheVariants.{Step}
 use Rattle.step_book.specs.Mailing.{Mailed}
-use Rattle.step_book.specs.Log.{Log, SameMarks, SameWaitingBut, waiting_in}
+use Rattle.step_book.proofs.Effects.{receives}
 use Rattle.step_book.proofs.Events.{count_le, kept, received, to_fields}
-use Rattle.step_book.proofs.Leaves.{received_marks, received_own, received_others}
-use Rattle.step_book.proofs.Reading.{
-  storable_node,
-  buffer_once,
-  of_view,
-  nodes_view,
-  trace_view,
-  log_view,
-}
+use Rattle.step_book.proofs.Reading.{storable_node, of_view, nodes_view, trace_view}
 use Rattle.step_book.proofs.Reading.{counts_len, handed_len, waiting_len, lists_len, waits_len}
 use Rattle.step_book.proofs.Reading.{waits_read}
 use Rattle.step_book.proofs.Vectors.{waits_set, waits_same, lists_push, lists_same}
@@ -77,43 +67,12 @@ invariant_of-self-2 g c =
     (omega (arith, c.requires.node)) c.index_mut.ensures.value
     c.in_ok-note_receive.ensures.handed))
 
-pub returns-clause-marks : goal.returns-clause-marks
-returns-clause-marks g c =
-    let v = c.args.self.now in
-    subst (λ (z : Log). SameMarks (g.P.Plan.start v.plan) v.log z)
-    (sym (log_view (Step c.args.node) _ c.self.view_is c.in_ok-note_receive.ensures.trace))
-    (received_marks (of_view g.P.Plan.start g.P.Plan.nodes c.self.view_is c.self.invariant)
-    c.args.node c.requires.fit.1)
-
-pub returns-clause-taken : goal.returns-clause-taken
-returns-clause-taken g c =
-    let v = c.args.self.now in
-    ap (λ (z : Log). waiting_in (g.P.Plan.start v.plan) z c.args.node)
-    (log_view (Step c.args.node) _ c.self.view_is c.in_ok-note_receive.ensures.trace)
-    ∙ received_own (of_view g.P.Plan.start g.P.Plan.nodes c.self.view_is c.self.invariant)
-    c.args.node c.requires.fit.1
-
-pub returns-clause-waiting : goal.returns-clause-waiting
-returns-clause-waiting g c =
-    let v = c.args.self.now in
-    subst (λ (z : Log). SameWaitingBut (g.P.Plan.start v.plan) c.args.node v.log z)
-    (sym (log_view (Step c.args.node) _ c.self.view_is c.in_ok-note_receive.ensures.trace))
-    (received_others (of_view g.P.Plan.start g.P.Plan.nodes c.self.view_is c.self.invariant)
-    c.args.node)
-
-pub returns-clause-once : goal.returns-clause-once
-returns-clause-once g c =
-    buffer_once (of_view g.P.Plan.start g.P.Plan.nodes c.self.view_is c.self.invariant) c.args.node
-
-pub returns-clause-kept : goal.returns-clause-kept
-returns-clause-kept g c =
-    let v = c.args.self.now in
-    subst (λ (z : Log). KeepsClosed (g.P.Plan.start v.plan) v.log z)
-    (sym (log_view (Step c.args.node) _ c.self.view_is c.in_ok-note_receive.ensures.trace))
-    (kept_happened (of_view g.P.Plan.start g.P.Plan.nodes c.self.view_is c.self.invariant)
-    (Step c.args.node))
-
 pub note_receive-requires-clause-storable : goal.note_receive-requires-clause-storable
 note_receive-requires-clause-storable g c =
     storable_node (of_view g.P.Plan.start g.P.Plan.nodes c.self.view_is c.self.invariant)
     c.args.node c.requires.node
+
+pub returns-clause-ok : goal.returns-clause-ok
+returns-clause-ok g c =
+    receives g.P.Plan.start g.P.Plan.nodes c.self.view_is c.self.invariant c.args.node _
+    c.requires.fit c.in_ok-note_receive.ensures.trace

@@ -1,16 +1,13 @@
-use Rattle.step_book.specs.Agreed.{KeepsClosed}
-use Rattle.step_book.proofs.Later.{kept_happened}
-use Rattle.std.proofs.Common.{◌≡◌, ◌+◌, ◌-◌, ◌*◌, [], ◌∷◌, ◌++◌, get_or, set, arith, refl, sym}
-use Rattle.std.proofs.Common.{subst, ap, ◌∙◌}
+use Rattle.std.proofs.Common.{◌≡◌, ◌+◌, ◌-◌, ◌*◌, [], ◌∷◌, ◌++◌, get_or, set, arith, sym}
+use Rattle.std.proofs.Common.{subst, ap, ◌∙◌, refl}
 use Rattle.step_machine.specs.declared.event.Event.TheVariants.{Step}
 use Rattle.step_machine.specs.declared.event.Name.{Name}
 use Rattle.step_book.specs.History.{arrival}
 use Rattle.stored_events.specs.Stored.{IsStorableName}
-use Rattle.step_book.specs.Log.{Log, SameMarksBut, SameWaiting, mark_in}
-use Rattle.step_book.proofs.Events.{count_le, kept, send_round, sent, to_fields}
-use Rattle.step_book.proofs.Leaves.{unsent, sent_mark, sent_others, sent_waiting}
+use Rattle.step_book.proofs.Effects.{sends}
+use Rattle.step_book.proofs.Events.{count_le, kept, sent, to_fields}
 use Rattle.step_book.proofs.Names.{storable_name}
-use Rattle.step_book.proofs.Reading.{of_view, nodes_view, trace_view, log_view}
+use Rattle.step_book.proofs.Reading.{of_view, nodes_view, trace_view}
 use Rattle.step_book.proofs.book.Book.record_send.Goals as goal
 
 pub note_send-requires-clause-counted : goal.note_send-requires-clause-counted
@@ -51,68 +48,17 @@ invariant_of-self-2 g c =
     ∙ ap (λ (n : Name). c.self.inside.messages.items ++ arrival n c.spoken-mark.result)
     c.name-name.ensures.value))
 
-pub returns-clause-sent : goal.returns-clause-sent
-returns-clause-sent g c =
-    let v = c.args.self.now in
-    let p = c.args.prepared.now in
-    let more = c.in_ok-note_send.ensures.trace
-    ∙ ap (λ (n : Name). c.self.inside.trace.items ++ Step n.from ∷ [])
-    c.name-name.ensures.value in
-    ap (λ (z : Log). mark_in (g.P.Plan.start v.plan) z p.name)
-    (log_view (Step p.name.from) _ c.self.view_is more)
-    ∙ sent_mark (of_view g.P.Plan.start g.P.Plan.nodes c.self.view_is c.self.invariant) p
-    c.requires.name (sym (ap (λ (n : Name). n.copy) c.name-name.ensures.value)
-    ∙ c.name-name.ensures.original) c.requires.work c.requires.fit
-
-pub returns-clause-marks : goal.returns-clause-marks
-returns-clause-marks g c =
-    let v = c.args.self.now in
-    let p = c.args.prepared.now in
-    let more = c.in_ok-note_send.ensures.trace
-    ∙ ap (λ (n : Name). c.self.inside.trace.items ++ Step n.from ∷ [])
-    c.name-name.ensures.value in
-    subst (λ (z : Log). SameMarksBut (g.P.Plan.start v.plan) p.name v.log z)
-    (sym (log_view (Step p.name.from) _ c.self.view_is more))
-    (sent_others (of_view g.P.Plan.start g.P.Plan.nodes c.self.view_is c.self.invariant) p.name
-    c.requires.name (sym (ap (λ (n : Name). n.copy) c.name-name.ensures.value)
-    ∙ c.name-name.ensures.original) c.requires.fit.0 c.requires.fit.1)
-
-pub returns-clause-waiting : goal.returns-clause-waiting
-returns-clause-waiting g c =
-    let v = c.args.self.now in
-    let p = c.args.prepared.now in
-    let more = c.in_ok-note_send.ensures.trace
-    ∙ ap (λ (n : Name). c.self.inside.trace.items ++ Step n.from ∷ [])
-    c.name-name.ensures.value in
-    subst (λ (z : Log). SameWaiting (g.P.Plan.start v.plan) v.log z)
-    (sym (log_view (Step p.name.from) _ c.self.view_is more))
-    (sent_waiting (of_view g.P.Plan.start g.P.Plan.nodes c.self.view_is c.self.invariant) p.name
-    c.requires.name c.requires.fit.1)
-
-pub returns-clause-round : goal.returns-clause-round
-returns-clause-round g c =
-    send_round (of_view g.P.Plan.start g.P.Plan.nodes c.self.view_is c.self.invariant)
-    c.args.prepared.now.name c.requires.name c.requires.fit.0 c.requires.fit.1
-
-pub returns-clause-unsent : goal.returns-clause-unsent
-returns-clause-unsent g c =
-    unsent (of_view g.P.Plan.start g.P.Plan.nodes c.self.view_is c.self.invariant)
-    c.args.prepared.now.name c.requires.fit.1
-
-pub returns-clause-kept : goal.returns-clause-kept
-returns-clause-kept g c =
-    let v = c.args.self.now in
-    let p = c.args.prepared.now in
-    let more = c.in_ok-note_send.ensures.trace
-    ∙ ap (λ (n : Name). c.self.inside.trace.items ++ Step n.from ∷ [])
-    c.name-name.ensures.value in
-    subst (λ (z : Log). KeepsClosed (g.P.Plan.start v.plan) v.log z)
-    (sym (log_view (Step p.name.from) _ c.self.view_is more))
-    (kept_happened (of_view g.P.Plan.start g.P.Plan.nodes c.self.view_is c.self.invariant)
-    (Step p.name.from))
-
 pub note_send-requires-clause-storable : goal.note_send-requires-clause-storable
 note_send-requires-clause-storable g c =
     let h = of_view g.P.Plan.start g.P.Plan.nodes c.self.view_is c.self.invariant in
     subst (λ n. IsStorableName n) (sym c.name-name.ensures.value)
     (storable_name _ h.lawful.sized c.args.prepared.now.name c.requires.name)
+
+pub returns-clause-ok : goal.returns-clause-ok
+returns-clause-ok g c =
+    let name = c.name-name.ensures.value in
+    sends g.P.Plan.start g.P.Plan.nodes c.self.view_is c.self.invariant c.args.prepared.now _
+    c.requires.name (sym (ap (λ (n : Name). n.copy) name) ∙ c.name-name.ensures.original)
+    c.requires.work c.requires.fit
+    (c.in_ok-note_send.ensures.trace
+    ∙ ap (λ (n : Name). c.self.inside.trace.items ++ Step n.from ∷ []) name)

@@ -1,16 +1,13 @@
-use Rattle.step_book.specs.Agreed.{KeepsClosed}
-use Rattle.step_book.proofs.Later.{kept_happened}
-use Rattle.std.proofs.Common.{arith, sym, subst, ap, ◌∙◌, refl}
+use Rattle.std.proofs.Common.{arith, subst, ap, refl}
 use Rattle.step_machine.specs.declared.event.Event.TheVariants.{Release}
 use Rattle.step_book.specs.declared.mark.Mark.TheVariants.{Released, Unsent}
 use Rattle.step_book.specs.Tables.{Puts}
 use Rattle.step_book.specs.Mailing.{Mailed}
-use Rattle.step_book.specs.Log.{Log, IsFlying, SameMarksBut, SameWaitingBut, mark_in, waiting_in}
+use Rattle.step_book.specs.Log.{IsFlying}
+use Rattle.step_book.proofs.Effects.{releases}
 use Rattle.step_book.proofs.Events.{kept, moved, let_be, to_fields}
-use Rattle.step_book.proofs.Leaves.{released_mark, released_others, released_waiting}
-use Rattle.step_book.proofs.Leaves.{released_waiting_others}
 use Rattle.step_book.proofs.Names.{storable_name}
-use Rattle.step_book.proofs.Reading.{of_view, trace_view, log_view}
+use Rattle.step_book.proofs.Reading.{of_view, trace_view}
 use Rattle.step_book.proofs.Reading.{flying_in, handed_len}
 use Rattle.step_book.proofs.Reading.{lists_len, waiting_len, waits_len}
 use Rattle.step_book.proofs.Vectors.{lists_same, waits_push, waits_same}
@@ -68,74 +65,6 @@ invariant_of-self-then-is_flying g c =
     c.in_ok-note_release.ensures.handed)
     c.in_ok-note_release.ensures.answers)
 
-pub returns-then-is_flying-clause-released : goal.returns-then-is_flying-clause-released
-returns-then-is_flying-clause-released g c =
-    let v = c.args.self.now in
-    let n = c.args.name in
-    ap (λ (z : Log). mark_in (g.P.Plan.start v.plan) z n)
-    (log_view (Release n) _ c.self.view_is c.in_ok-note_release.ensures.trace)
-    ∙ released_mark (of_view g.P.Plan.start g.P.Plan.nodes c.self.view_is c.self.invariant) n
-    c.requires
-
-pub returns-then-is_flying-clause-marks : goal.returns-then-is_flying-clause-marks
-returns-then-is_flying-clause-marks g c =
-    let v = c.args.self.now in
-    let n = c.args.name in
-    subst (λ (z : Log). SameMarksBut (g.P.Plan.start v.plan) n v.log z)
-    (sym (log_view (Release n) _ c.self.view_is c.in_ok-note_release.ensures.trace))
-    (released_others (of_view g.P.Plan.start g.P.Plan.nodes c.self.view_is c.self.invariant) n)
-
-pub returns-then-is_flying-clause-arrived : goal.returns-then-is_flying-clause-arrived
-returns-then-is_flying-clause-arrived g c =
-    let v = c.args.self.now in
-    let n = c.args.name in
-    ap (λ (z : Log). waiting_in (g.P.Plan.start v.plan) z n.to)
-    (log_view (Release n) _ c.self.view_is c.in_ok-note_release.ensures.trace)
-    ∙ released_waiting (of_view g.P.Plan.start g.P.Plan.nodes c.self.view_is c.self.invariant) n
-
-pub returns-then-is_flying-clause-waiting : goal.returns-then-is_flying-clause-waiting
-returns-then-is_flying-clause-waiting g c =
-    let v = c.args.self.now in
-    let n = c.args.name in
-    subst (λ (z : Log). SameWaitingBut (g.P.Plan.start v.plan) n.to v.log z)
-    (sym (log_view (Release n) _ c.self.view_is c.in_ok-note_release.ensures.trace))
-    (released_waiting_others
-    (of_view g.P.Plan.start g.P.Plan.nodes c.self.view_is c.self.invariant) n)
-
-pub returns-clause-released : goal.returns-clause-released
-returns-clause-released g c =
-    let v = c.args.self.now in
-    let n = c.args.name in
-    ap (λ (z : Log). mark_in (g.P.Plan.start v.plan) z n)
-    (log_view (Release n) _ c.self.view_is c.in_ok-note_answer.ensures.trace)
-    ∙ released_mark (of_view g.P.Plan.start g.P.Plan.nodes c.self.view_is c.self.invariant) n
-    c.requires
-
-pub returns-clause-marks : goal.returns-clause-marks
-returns-clause-marks g c =
-    let v = c.args.self.now in
-    let n = c.args.name in
-    subst (λ (z : Log). SameMarksBut (g.P.Plan.start v.plan) n v.log z)
-    (sym (log_view (Release n) _ c.self.view_is c.in_ok-note_answer.ensures.trace))
-    (released_others (of_view g.P.Plan.start g.P.Plan.nodes c.self.view_is c.self.invariant) n)
-
-pub returns-clause-arrived : goal.returns-clause-arrived
-returns-clause-arrived g c =
-    let v = c.args.self.now in
-    let n = c.args.name in
-    ap (λ (z : Log). waiting_in (g.P.Plan.start v.plan) z n.to)
-    (log_view (Release n) _ c.self.view_is c.in_ok-note_answer.ensures.trace)
-    ∙ released_waiting (of_view g.P.Plan.start g.P.Plan.nodes c.self.view_is c.self.invariant) n
-
-pub returns-clause-waiting : goal.returns-clause-waiting
-returns-clause-waiting g c =
-    let v = c.args.self.now in
-    let n = c.args.name in
-    subst (λ (z : Log). SameWaitingBut (g.P.Plan.start v.plan) n.to v.log z)
-    (sym (log_view (Release n) _ c.self.view_is c.in_ok-note_answer.ensures.trace))
-    (released_waiting_others
-    (of_view g.P.Plan.start g.P.Plan.nodes c.self.view_is c.self.invariant) n)
-
 pub invariant_of-self-2 : goal.invariant_of-self-2
 invariant_of-self-2 g c =
     let v = c.args.self.now in
@@ -146,24 +75,6 @@ invariant_of-self-2 g c =
     (trace_view (Release n) _ c.self.view_is c.in_ok-note_answer.ensures.trace)
     c.in_ok-note_answer.ensures.answers)
 
-pub returns-then-is_flying-clause-kept : goal.returns-then-is_flying-clause-kept
-returns-then-is_flying-clause-kept g c =
-    let v = c.args.self.now in
-    let n = c.args.name in
-    subst (λ (z : Log). KeepsClosed (g.P.Plan.start v.plan) v.log z)
-    (sym (log_view (Release n) _ c.self.view_is c.in_ok-note_release.ensures.trace))
-    (kept_happened (of_view g.P.Plan.start g.P.Plan.nodes c.self.view_is c.self.invariant)
-    (Release n))
-
-pub returns-clause-kept : goal.returns-clause-kept
-returns-clause-kept g c =
-    let v = c.args.self.now in
-    let n = c.args.name in
-    subst (λ (z : Log). KeepsClosed (g.P.Plan.start v.plan) v.log z)
-    (sym (log_view (Release n) _ c.self.view_is c.in_ok-note_answer.ensures.trace))
-    (kept_happened (of_view g.P.Plan.start g.P.Plan.nodes c.self.view_is c.self.invariant)
-    (Release n))
-
 pub note_release-requires : goal.note_release-requires
 note_release-requires g c =
     storable_name _ (of_view g.P.Plan.start g.P.Plan.nodes c.self.view_is
@@ -173,3 +84,13 @@ pub note_answer-requires : goal.note_answer-requires
 note_answer-requires g c =
     storable_name _ (of_view g.P.Plan.start g.P.Plan.nodes c.self.view_is
     c.self.invariant).lawful.sized c.args.name c.requires
+
+pub returns-then-is_flying-clause-ok : goal.returns-then-is_flying-clause-ok
+returns-then-is_flying-clause-ok g c =
+    releases g.P.Plan.start g.P.Plan.nodes c.self.view_is c.self.invariant c.args.name _ _ _
+    c.requires c.is_flying.ensures (cc) c.in_ok-note_release.ensures.trace
+
+pub returns-clause-ok : goal.returns-clause-ok
+returns-clause-ok g c =
+    releases g.P.Plan.start g.P.Plan.nodes c.self.view_is c.self.invariant c.args.name _ _ _
+    c.requires c.is_flying.ensures (cc) c.in_ok-note_answer.ensures.trace
