@@ -14,11 +14,12 @@ use Rattle.step_machine.specs.Sealed.{Frame, sent_under}
 use Rattle.step_book.specs.declared.mark.Mark.{Mark}
 use Rattle.step_book.specs.declared.mark.Mark.TheVariants.{Unsent, Silent, Flying, Released, Lost}
 use Rattle.step_book.specs.Agreed.{IsSaid}
-use Rattle.step_book.specs.Agreement.{Row, row}
+use Rattle.step_book.specs.Agreement.{IsBuffer, Row, row}
 use Rattle.step_book.specs.History.{arrival, arrived, buffer_of}
-use Rattle.step_book.specs.Log.{IsFaithful, Log, Recorded, history, world_of}
+use Rattle.step_book.specs.Log.{IsFaithful, Log, Recorded, history, waiting_in, world_of}
 use Rattle.step_book.specs.Buffers.{IsGenuine, IsMail, BufferView, names_in}
 use Rattle.step_journal.specs.Fits.{Fits, buffer_at}
+use Rattle.step_journal.specs.HandedOut.{AreHandedOut}
 use Rattle.step_book.specs.Fates.{is_take}
 use Rattle.step_book.specs.World.{World}
 use Rattle.step_journal.proofs.BufferViews.{buffer_read}
@@ -126,16 +127,6 @@ module _ {P : Type 0} {s v : Recorded P} {bs : List BufferView} (start : P → �
       All-same (IsGenuine (algorithm_of s.log.program s.log.setup) s.log.rows) frames _
       (there i b frames l h d) (f.genuine i l)
 
-  -- name their senders' recorded states, and say what these send
-  pub waiting_genuine : (i : ℕ) (b : BufferView) (frames : List Frame) → i < v.log.setup.nodes
-      → b ≡ get_or bs i b → frames ≡ b.waiting
-      → All (IsGenuine (algorithm_of v.log.program v.log.setup) v.log.rows) frames
-  waiting_genuine i b frames l h d =
-      let own : i < s.log.setup.nodes =
-      subst (λ (z : Recorded P). i < z.log.setup.nodes) (sym e) l in
-      subst (λ (z : Recorded P). All (IsGenuine (algorithm_of z.log.program z.log.setup) z.log.rows)
-      frames) e (genuine_there i b frames own h d)
-
   -- are what the run in rounds says
   pub waiting_said : (i : ℕ) (b : BufferView) (frames : List Frame) → i < v.log.setup.nodes
       → b ≡ get_or bs i b → frames ≡ b.waiting → All (IsSaid (start v.plan) v.log) frames
@@ -145,15 +136,23 @@ module _ {P : Type 0} {s v : Recorded P} {bs : List BufferView} (start : P → �
       subst (λ (z : Recorded P). All (IsSaid (start z.plan) z.log) frames) e
       (all_said (start s.plan) s.log frames is (genuine_there i b frames own h d))
 
-  -- and are for the node
-  pub waiting_mail : (i : ℕ) (b : BufferView) (frames : List Frame) → i < v.log.setup.nodes
+  -- and are what a receive hands out
+  pub waiting_out : (i : ℕ) (b : BufferView) (frames : List Frame) → i < v.log.setup.nodes
       → b ≡ get_or bs i b → frames ≡ b.waiting
-      → All (IsMail (algorithm_of v.log.program v.log.setup) v.log.setup.nodes i) frames
-  waiting_mail i b frames l h d =
+      → IsBuffer (world_of (start s.plan) s.log) (history s.log) i
+      (waiting_in (start s.plan) s.log i) → AreHandedOut (start v.plan) v.log i frames
+  waiting_out i b frames l h d once =
+      let w = world_of (start s.plan) s.log in
       let own : i < s.log.setup.nodes =
       subst (λ (z : Recorded P). i < z.log.setup.nodes) (sym e) l in
-      subst (λ (z : Recorded P). All
-      (IsMail (algorithm_of z.log.program z.log.setup) z.log.setup.nodes i) frames) e
-      (mail_of (world_of (start s.plan) s.log) (history s.log)
-      (algorithm_of s.log.program s.log.setup) s.log.rows s.log.setup.nodes i frames is.rowed
-      (ap names_in (there i b frames own h d) ∙ f.waiting i own) (genuine_there i b frames own h d))
+      let genuine = genuine_there i b frames own h d in
+      let names : names_in frames ≡ waiting_in (start s.plan) s.log i =
+      ap names_in (there i b frames own h d) ∙ f.waiting i own in
+      subst (λ (z : Recorded P). AreHandedOut (start z.plan) z.log i frames) e (record {
+        names = names;
+        once = subst (IsBuffer w (history s.log) i) (sym names) once;
+        genuine = genuine;
+        mail = mail_of w (history s.log) (algorithm_of s.log.program s.log.setup) s.log.rows
+            s.log.setup.nodes i frames is.rowed names genuine;
+        said = all_said (start s.plan) s.log frames is genuine;
+      })

@@ -14,6 +14,8 @@ pub use Rattle.step_book.specs.Causes
 pub use Rattle.step_book.specs.Buffers
 pub use Rattle.step_book.specs.Places
 pub use Rattle.step_book.specs.Agreed
+pub use Rattle.step_book.specs.Effects
 pub use Rattle.step_book.specs.Taking
 pub mod Fits
 pub mod Fitting
+pub mod HandedOut

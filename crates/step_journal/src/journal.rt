@@ -1,21 +1,20 @@
 //! The record of a run with the frames that it names.
-ghost use Rattle.std.specs.Prelude.{◌≡◌, ◌+◌, ◌-◌, ◌*◌, ◌<◌, ◌++◌, ◌↔◌, [], All, IfErr, IfOk};
-ghost use Rattle.std.specs.Prelude.{IfSome, IsSome, IsTrue, OnErr, OnOk};
+ghost use Rattle.std.specs.Prelude.{◌≡◌, ◌<◌, ◌↔◌, All, IfErr, IfOk, IfSome, IsSome, IsTrue};
+ghost use Rattle.std.specs.Prelude.{OnErr, OnOk};
 ghost use Rattle.round_meaning.specs.Rounds.{algorithm_of};
 ghost use Rattle.round_meaning.specs.Setups.{IsLawful};
-ghost use Rattle.step_machine.specs.Sealed.{IsPrepared, copied_as, original};
-ghost use Rattle.step_book.specs.Agreed.{IsSaid, JournalAgrees, KeepsClosed};
-ghost use Rattle.step_book.specs.Agreement.{IsBuffer};
+ghost use Rattle.step_machine.specs.Sealed.{IsPrepared, original};
+ghost use Rattle.step_book.specs.Agreed.{IsSaid, JournalAgrees};
 ghost use Rattle.step_book.specs.Causes.{CloseCause, IdleCause, IsDueIn, EndsAsRecorded};
 ghost use Rattle.step_book.specs.Causes.{IsReceiveFit, IsSendFit, ReceiveCause, SendCause};
+ghost use Rattle.step_book.specs.Effects.{Closes, Drops, Idles, MakesCopy, Receives, Releases};
+ghost use Rattle.step_book.specs.Effects.{Sends};
 ghost use Rattle.step_book.specs.Flight.{IsFlight};
-ghost use Rattle.step_book.specs.History.{arrival, copied, counted, dropped, let_go, spoken};
-ghost use Rattle.step_book.specs.Log.{CanCopy, IsFlying, SameMarks, SameMarksBut, SameWaiting};
-ghost use Rattle.step_book.specs.Log.{SameWaitingBut, closed, count_of, happened, history, mark_in};
-ghost use Rattle.step_book.specs.Log.{opened, round_of, waiting_in, world_of};
+ghost use Rattle.step_book.specs.Log.{IsFlying, mark_in, opened, round_of, waiting_in};
 ghost use Rattle.step_book.specs.Names.{IsName};
-ghost use Rattle.step_book.specs.Buffers.{IsGenuine, IsMail, names_in};
+ghost use Rattle.step_book.specs.Buffers.{IsGenuine, names_in};
 ghost use Rattle.step_journal.specs.Fits.{AreEmpty, Fits, place_among};
+ghost use Rattle.step_journal.specs.HandedOut.{AreHandedOut};
 
 use crate::fitting::{fits, place};
 use round_check::Checked;
@@ -25,7 +24,7 @@ use slot_plans::Plan;
 use std::alloc::Global;
 use std::marker::Model;
 use step_book::{Book, Buffer, CloseFault, IdleFault, ReceiveFault, Refused, Waiting};
-use step_machine::{Event, Finished, InFlight, Name, Prepared, Sealed, SealedView};
+use step_machine::{Finished, InFlight, Name, Prepared, Sealed, SealedView};
 
 /// What a receive handed out, in the order of the releases.
 #[derive(Drop)]
@@ -182,20 +181,11 @@ impl<P: Plan> Journal<P> {
     pub fn send(&mut self, prepared: Prepared) -> Result<(), Refused>
         requires name { IsName self.old.log.setup prepared.name }
         requires work { IsPrepared (algorithm_of self.old.log.program self.old.log.setup) prepared }
-        ensures ok { OnOk result (self.new
-            ≡ record self.old { log = happened self.old.log (Event.Step prepared.name.from) }) }
+        ensures ok { OnOk result (Sends P.start prepared self.old self.new) }
         ensures err { OnErr result (self.new ≡ self.old) }
         ensures cause { IfErr result
             (λ refused. SendCause (P.start self.old.plan) self.old.log prepared refused.fault) }
         ensures back { IfErr result (λ refused. refused.prepared ≡ prepared) }
-        ensures fit { OnOk result (IsSendFit (P.start self.old.plan) self.old.log prepared) }
-        ensures sent { OnOk result
-            (mark_in (P.start self.old.plan) self.new.log prepared.name ≡ spoken prepared.message) }
-        ensures marks { OnOk result
-            (SameMarksBut (P.start self.old.plan) prepared.name self.old.log self.new.log) }
-        ensures waiting { OnOk result
-            (SameWaiting (P.start self.old.plan) self.old.log self.new.log) }
-        ensures kept { OnOk result (KeepsClosed (P.start self.old.plan) self.old.log self.new.log) }
     {
         if let Some(fault) = self.book.refuses_send(&prepared) {
             return Err(Refused { fault, prepared });
@@ -213,17 +203,9 @@ impl<P: Plan> Journal<P> {
         requires name { IsName self.old.log.setup prepared.name }
         requires work { IsPrepared (algorithm_of self.old.log.program self.old.log.setup) prepared }
         requires fit { IsSendFit (P.start self.old.plan) self.old.log prepared }
-        ensures ok { OnOk result (self.new
-            ≡ record self.old { log = happened self.old.log (Event.Step prepared.name.from) }) }
+        ensures ok { OnOk result (Sends P.start prepared self.old self.new) }
         ensures err { OnErr result (self.new ≡ self.old) }
         ensures back { IfErr result (λ p. p ≡ prepared) }
-        ensures sent { OnOk result
-            (mark_in (P.start self.old.plan) self.new.log prepared.name ≡ spoken prepared.message) }
-        ensures marks { OnOk result
-            (SameMarksBut (P.start self.old.plan) prepared.name self.old.log self.new.log) }
-        ensures waiting { OnOk result
-            (SameWaiting (P.start self.old.plan) self.old.log self.new.log) }
-        ensures kept { OnOk result (KeepsClosed (P.start self.old.plan) self.old.log self.new.log) }
     {
         let name = prepared.name();
         let place = self.place(name);
@@ -249,27 +231,11 @@ impl<P: Plan> Journal<P> {
     /// A receive step: every frame that was released to the node and not yet taken.
     pub fn receive(&mut self, node: u32) -> Result<Took, ReceiveFault>
         requires { node < self.old.log.setup.nodes }
-        ensures ok { OnOk result
-            (self.new ≡ record self.old { log = happened self.old.log (Event.Step node) }) }
+        ensures ok { OnOk result (Receives P.start node self.old self.new) }
+        ensures took { IfOk result (λ took.
+            AreHandedOut (P.start self.old.plan) self.old.log node took.frames.items) }
         ensures err { OnErr result (self.new ≡ self.old) }
         ensures cause { IfErr result (ReceiveCause (P.start self.old.plan) self.old.log node) }
-        ensures fit { OnOk result (IsReceiveFit (P.start self.old.plan) self.old.log node) }
-        ensures names { IfOk result (λ took. names_in took.frames.items
-            ≡ waiting_in (P.start self.old.plan) self.old.log node) }
-        ensures once { IfOk result (λ took. IsBuffer (world_of (P.start self.old.plan) self.old.log)
-            (history self.old.log) node (names_in took.frames.items)) }
-        ensures genuine { IfOk result (λ took.
-            All (IsGenuine (algorithm_of self.old.log.program self.old.log.setup) self.old.log.rows)
-            took.frames.items) }
-        ensures mail { IfOk result (λ took. All (IsMail (algorithm_of self.old.log.program
-            self.old.log.setup) self.old.log.setup.nodes node) took.frames.items) }
-        ensures said { IfOk result
-            (λ took. All (IsSaid (P.start self.old.plan) self.old.log) took.frames.items) }
-        ensures marks { OnOk result (SameMarks (P.start self.old.plan) self.old.log self.new.log) }
-        ensures taken { OnOk result (waiting_in (P.start self.old.plan) self.new.log node ≡ []) }
-        ensures waiting { OnOk result
-            (SameWaitingBut (P.start self.old.plan) node self.old.log self.new.log) }
-        ensures kept { OnOk result (KeepsClosed (P.start self.old.plan) self.old.log self.new.log) }
     {
         if let Some(fault) = self.book.refuses_receive(node) {
             return Err(fault);
@@ -283,25 +249,10 @@ impl<P: Plan> Journal<P> {
     pub fn record_receive(&mut self, node: u32) -> Result<Took, NoMemory>
         requires node { node < self.old.log.setup.nodes }
         requires fit { IsReceiveFit (P.start self.old.plan) self.old.log node }
-        ensures ok { OnOk result
-            (self.new ≡ record self.old { log = happened self.old.log (Event.Step node) }) }
+        ensures ok { OnOk result (Receives P.start node self.old self.new) }
+        ensures took { IfOk result (λ took.
+            AreHandedOut (P.start self.old.plan) self.old.log node took.frames.items) }
         ensures err { OnErr result (self.new ≡ self.old) }
-        ensures names { IfOk result (λ took. names_in took.frames.items
-            ≡ waiting_in (P.start self.old.plan) self.old.log node) }
-        ensures once { IfOk result (λ took. IsBuffer (world_of (P.start self.old.plan) self.old.log)
-            (history self.old.log) node (names_in took.frames.items)) }
-        ensures genuine { IfOk result (λ took.
-            All (IsGenuine (algorithm_of self.old.log.program self.old.log.setup) self.old.log.rows)
-            took.frames.items) }
-        ensures mail { IfOk result (λ took. All (IsMail (algorithm_of self.old.log.program
-            self.old.log.setup) self.old.log.setup.nodes node) took.frames.items) }
-        ensures said { IfOk result
-            (λ took. All (IsSaid (P.start self.old.plan) self.old.log) took.frames.items) }
-        ensures marks { OnOk result (SameMarks (P.start self.old.plan) self.old.log self.new.log) }
-        ensures taken { OnOk result (waiting_in (P.start self.old.plan) self.new.log node ≡ []) }
-        ensures waiting { OnOk result
-            (SameWaitingBut (P.start self.old.plan) node self.old.log self.new.log) }
-        ensures kept { OnOk result (KeepsClosed (P.start self.old.plan) self.old.log self.new.log) }
     {
         self.book.agrees();
         self.book.record_receive(node)?;
@@ -314,22 +265,8 @@ impl<P: Plan> Journal<P> {
     #[inline(always)]
     pub fn release(&mut self, name: Name) -> Result<bool, NoMemory>
         requires { IsName self.old.log.setup name }
-        ensures ok { OnOk result
-            (self.new ≡ record self.old { log = happened self.old.log (Event.Release name) }) }
+        ensures ok { IfOk result (λ moved. Releases P.start name moved self.old self.new) }
         ensures err { OnErr result (self.new ≡ self.old) }
-        ensures moved { IfOk result (λ moved. IsTrue moved
-            ↔ IsFlying (P.start self.old.plan) self.old.log name) }
-        ensures released { OnOk result (mark_in (P.start self.old.plan) self.new.log name
-            ≡ let_go (counted (world_of (P.start self.old.plan) self.old.log)
-            (count_of self.old.log name.to)) (mark_in (P.start self.old.plan) self.old.log name)) }
-        ensures marks { OnOk result
-            (SameMarksBut (P.start self.old.plan) name self.old.log self.new.log) }
-        ensures arrived { OnOk result (waiting_in (P.start self.old.plan) self.new.log name.to
-            ≡ waiting_in (P.start self.old.plan) self.old.log name.to
-            ++ arrival name (mark_in (P.start self.old.plan) self.old.log name)) }
-        ensures waiting { OnOk result
-            (SameWaitingBut (P.start self.old.plan) name.to self.old.log self.new.log) }
-        ensures kept { OnOk result (KeepsClosed (P.start self.old.plan) self.old.log self.new.log) }
     {
         let place = self.place(name);
         let buffer = &mut self.buffers[name.to as usize];
@@ -346,18 +283,8 @@ impl<P: Plan> Journal<P> {
     /// A drop: true if a copy was in flight; its frame is gone.
     pub fn drop_frame(&mut self, name: Name) -> Result<bool, NoMemory>
         requires { IsName self.old.log.setup name }
-        ensures ok { OnOk result
-            (self.new ≡ record self.old { log = happened self.old.log (Event.Drop name) }) }
+        ensures ok { IfOk result (λ lost. Drops P.start name lost self.old self.new) }
         ensures err { OnErr result (self.new ≡ self.old) }
-        ensures lost { IfOk result (λ lost. IsTrue lost
-            ↔ IsFlying (P.start self.old.plan) self.old.log name) }
-        ensures dropped { OnOk result (mark_in (P.start self.old.plan) self.new.log name
-            ≡ dropped (mark_in (P.start self.old.plan) self.old.log name)) }
-        ensures marks { OnOk result
-            (SameMarksBut (P.start self.old.plan) name self.old.log self.new.log) }
-        ensures waiting { OnOk result
-            (SameWaiting (P.start self.old.plan) self.old.log self.new.log) }
-        ensures kept { OnOk result (KeepsClosed (P.start self.old.plan) self.old.log self.new.log) }
     {
         let place = self.place(name);
         let lost = self.book.drop_copy(name)?;
@@ -374,19 +301,8 @@ impl<P: Plan> Journal<P> {
     pub fn copy_frame(&mut self, name: Name) -> Result<bool, NoMemory>
         requires name { IsName self.old.log.setup name }
         requires other { 0 < name.copy }
-        ensures ok { OnOk result
-            (self.new ≡ record self.old { log = happened self.old.log (Event.Copy name) }) }
+        ensures ok { IfOk result (λ made. MakesCopy P.start name made self.old self.new) }
         ensures err { OnErr result (self.new ≡ self.old) }
-        ensures made { IfOk result (λ made. IsTrue made
-            ↔ CanCopy (P.start self.old.plan) self.old.log name) }
-        ensures copied { OnOk result (mark_in (P.start self.old.plan) self.new.log name
-            ≡ copied (mark_in (P.start self.old.plan) self.old.log (original name))
-            (mark_in (P.start self.old.plan) self.old.log name)) }
-        ensures marks { OnOk result
-            (SameMarksBut (P.start self.old.plan) name self.old.log self.new.log) }
-        ensures waiting { OnOk result
-            (SameWaiting (P.start self.old.plan) self.old.log self.new.log) }
-        ensures kept { OnOk result (KeepsClosed (P.start self.old.plan) self.old.log self.new.log) }
     {
         let Some(frame) = self.copy_of(name)? else {
             let made = self.book.make_copy(name)?;
@@ -424,15 +340,10 @@ impl<P: Plan> Journal<P> {
     pub fn close(&mut self, finished: &Finished<'_>) -> Result<(), CloseFault>
         requires program { finished.now.node.now.program ≡ self.old.log.program }
         requires setup { finished.now.node.now.setup ≡ self.old.log.setup }
-        ensures ok { OnOk result
-            (self.new ≡ record self.old { log = closed self.old.log finished.now.node.now }) }
+        ensures ok { OnOk result (Closes P.start finished.now.node.now self.old self.new) }
         ensures err { OnErr result (self.new ≡ self.old) }
         ensures cause { IfErr result
             (CloseCause (P.start self.old.plan) self.old.log finished.now.node.now) }
-        ensures fit { OnOk result
-            (IsDueIn (P.start self.old.plan) self.old.log finished.now.node.now
-            × EndsAsRecorded (P.start self.old.plan) self.old.log finished.now.node.now) }
-        ensures kept { OnOk result (KeepsClosed (P.start self.old.plan) self.old.log self.new.log) }
     {
         self.book.agrees();
         let _one = finished.node();
@@ -446,10 +357,8 @@ impl<P: Plan> Journal<P> {
         requires setup { finished.now.node.now.setup ≡ self.old.log.setup }
         requires due { IsDueIn (P.start self.old.plan) self.old.log finished.now.node.now }
         requires ended { EndsAsRecorded (P.start self.old.plan) self.old.log finished.now.node.now }
-        ensures ok { OnOk result
-            (self.new ≡ record self.old { log = closed self.old.log finished.now.node.now }) }
+        ensures ok { OnOk result (Closes P.start finished.now.node.now self.old self.new) }
         ensures err { OnErr result (self.new ≡ self.old) }
-        ensures kept { OnOk result (KeepsClosed (P.start self.old.plan) self.old.log self.new.log) }
     {
         self.book.agrees();
         let _one = finished.node();
@@ -461,15 +370,9 @@ impl<P: Plan> Journal<P> {
     /// A step after the last round.
     pub fn idle_step(&mut self, node: u32) -> Result<(), IdleFault>
         requires { node < self.old.log.setup.nodes }
-        ensures ok { OnOk result
-            (self.new ≡ record self.old { log = happened self.old.log (Event.Step node) }) }
+        ensures ok { OnOk result (Idles P.start node self.old self.new) }
         ensures err { OnErr result (self.new ≡ self.old) }
         ensures cause { IfErr result (IdleCause self.old.log node) }
-        ensures fit { OnOk result (self.old.log.setup.rounds < round_of self.old.log node) }
-        ensures marks { OnOk result (SameMarks (P.start self.old.plan) self.old.log self.new.log) }
-        ensures waiting { OnOk result
-            (SameWaiting (P.start self.old.plan) self.old.log self.new.log) }
-        ensures kept { OnOk result (KeepsClosed (P.start self.old.plan) self.old.log self.new.log) }
     {
         self.book.idle_step(node)?;
         Ok(())
@@ -479,13 +382,8 @@ impl<P: Plan> Journal<P> {
     pub fn record_idle_step(&mut self, node: u32) -> Result<(), NoMemory>
         requires node { node < self.old.log.setup.nodes }
         requires past { self.old.log.setup.rounds < round_of self.old.log node }
-        ensures ok { OnOk result
-            (self.new ≡ record self.old { log = happened self.old.log (Event.Step node) }) }
+        ensures ok { OnOk result (Idles P.start node self.old self.new) }
         ensures err { OnErr result (self.new ≡ self.old) }
-        ensures marks { OnOk result (SameMarks (P.start self.old.plan) self.old.log self.new.log) }
-        ensures waiting { OnOk result
-            (SameWaiting (P.start self.old.plan) self.old.log self.new.log) }
-        ensures kept { OnOk result (KeepsClosed (P.start self.old.plan) self.old.log self.new.log) }
     {
         self.book.record_idle_step(node)?;
         Ok(())

@@ -1,8 +1,9 @@
-use Rattle.std.proofs.Common.{◌≡◌, Option, ap, subst, sym, ◌∙◌}
+use Rattle.std.proofs.Common.{◌≡◌, Option, subst, sym}
 use Rattle.std.specs.Prelude.{IfSome, IsSome}
 use Rattle.round_meaning.specs.Rounds.{algorithm_of}
 use Rattle.step_machine.specs.Sealed.{Frame, IsHonest, original}
-use Rattle.step_book.specs.Log.{IsFlying, Recorded, SameMarksBut, SameWaiting, mark_in}
+use Rattle.step_book.specs.Effects.{MakesCopy}
+use Rattle.step_book.specs.Log.{IsFlying, Recorded}
 use Rattle.step_book.specs.Buffers.{IsGenuine}
 use Rattle.step_journal.proofs.BufferViews.{
   fits_kept,
@@ -18,14 +19,9 @@ pub invariant_of-self-in_default : goal.invariant_of-self-in_default
 invariant_of-self-in_default g c =
     let s = c.self.inside.book in
     let n = c.args.name in
-    let start = g.P.Plan.start s.plan in
-    let ok = c.in_ok-made.ensures.ok in
-    let mark = ap (λ (z : Recorded _). mark_in start z.log n) (sym ok)
-    ∙ c.in_ok-made.ensures.copied in
-    let marks = subst (λ (z : Recorded _). SameMarksBut start n s.log z.log) ok
-    c.in_ok-made.ensures.marks in
-    let waits = subst (λ (z : Recorded _). SameWaiting start s.log z.log) ok
-    c.in_ok-made.ensures.waiting in
+    let ok = c.in_ok-made.ensures.ok.recorded in
+    let done = subst (λ (z : Recorded _). MakesCopy g.P.Plan.start n c.in_ok-made.made s z) ok
+    c.in_ok-made.ensures.ok in
     fits_view g.P.Plan.start ok
     (fits_not_made c.self.invariant n
     (λ fit.
@@ -34,7 +30,7 @@ invariant_of-self-in_default g c =
     c.self.view_is fit.0) in
     let none = subst (λ (o : Option Frame). IsSome o) c.in_default.is some in
     cc)
-    mark marks waits)
+    done.mark done.marks done.waiting)
 
 pub invariant_of-self-in_err-reserve_flying : goal.invariant_of-self-in_err-reserve_flying
 invariant_of-self-in_err-reserve_flying g c =
@@ -47,14 +43,9 @@ pub invariant_of-self-then-made : goal.invariant_of-self-then-made
 invariant_of-self-then-made g c =
     let s = c.self.inside.book in
     let n = c.args.name in
-    let start = g.P.Plan.start s.plan in
-    let ok = c.in_ok-made-2.ensures.ok in
-    let mark = ap (λ (z : Recorded _). mark_in start z.log n) (sym ok)
-    ∙ c.in_ok-made-2.ensures.copied in
-    let marks = subst (λ (z : Recorded _). SameMarksBut start n s.log z.log) ok
-    c.in_ok-made-2.ensures.marks in
-    let waits = subst (λ (z : Recorded _). SameWaiting start s.log z.log) ok
-    c.in_ok-made-2.ensures.waiting in
+    let ok = c.in_ok-made-2.ensures.ok.recorded in
+    let done = subst (λ (z : Recorded _). MakesCopy g.P.Plan.start n c.in_ok-made-2.made s z) ok
+    c.in_ok-made-2.ensures.ok in
     let named = subst (λ (o : Option Frame). IfSome o (λ frame. frame.name ≡ n)) c.in-Some.is
     c.in_ok-frame.ensures.named in
     let genuine =
@@ -64,34 +55,30 @@ invariant_of-self-then-made g c =
     fits_view g.P.Plan.start ok
     (fits_made c.self.invariant n c.in-Some.frame c.place-place.result c.index_mut-buffer.result.now
     c.reserve_flying.new.self c.index_mut-buffer-then-made.result.now c.put.new.self
-    (name_view n c.self.view_is c.requires.name) (c.in_ok-made-2.ensures.made.0 (cc)) named
+    (name_view n c.self.view_is c.requires.name) (c.in_ok-made-2.ensures.ok.made.0 (cc)) named
     (subst (λ (z : Recorded _). IsGenuine (algorithm_of z.log.program z.log.setup) z.log.rows
     c.in-Some.frame) (sym c.self.view_is) genuine)
     (place_view n c.place-place.result c.self.view_is c.place-place.ensures)
     c.index_mut-buffer.ensures.value c.reserve_flying.ensures.run
     c.in_ok-reserve_flying.ensures.flying c.in_ok-reserve_flying.ensures.waiting
     c.index_mut-buffer-then-made.ensures.value c.put.ensures.run c.put.ensures.flying
-    c.put.ensures.waiting mark marks waits)
+    c.put.ensures.waiting done.mark done.marks done.waiting)
 
 pub invariant_of-self-else-made : goal.invariant_of-self-else-made
 invariant_of-self-else-made g c =
     let s = c.self.inside.book in
     let n = c.args.name in
-    let start = g.P.Plan.start s.plan in
-    let ok = c.in_ok-made-2.ensures.ok in
+    let ok = c.in_ok-made-2.ensures.ok.recorded in
     let a = name_view n c.self.view_is c.requires.name in
-    let mark = ap (λ (z : Recorded _). mark_in start z.log n) (sym ok)
-    ∙ c.in_ok-made-2.ensures.copied in
-    let marks = subst (λ (z : Recorded _). SameMarksBut start n s.log z.log) ok
-    c.in_ok-made-2.ensures.marks in
-    let waits = subst (λ (z : Recorded _). SameWaiting start s.log z.log) ok
-    c.in_ok-made-2.ensures.waiting in
+    let done = subst (λ (z : Recorded _). MakesCopy g.P.Plan.start n c.in_ok-made-2.made s z) ok
+    c.in_ok-made-2.ensures.ok in
     fits_view g.P.Plan.start ok
     (fits_not_made
     (fits_kept c.self.invariant n.to c.index_mut-buffer.result.now c.reserve_flying.new.self a.to
     c.index_mut-buffer.ensures.value c.reserve_flying.ensures.run
     c.in_ok-reserve_flying.ensures.flying c.in_ok-reserve_flying.ensures.waiting)
-    n (λ fit. (let on = c.in_ok-made-2.ensures.made.1 fit in cc)) mark marks waits)
+    n (λ fit. (let on = c.in_ok-made-2.ensures.ok.made.1 fit in cc)) done.mark done.marks
+    done.waiting)
 
 pub invariant_of-self-in_err-made-2 : goal.invariant_of-self-in_err-made-2
 invariant_of-self-in_err-made-2 g c =
@@ -115,18 +102,3 @@ put-requires-clause-honest g c =
     c.index_mut-buffer-then-made.ensures.value
     (subst (λ (z : Recorded _). IsHonest (algorithm_of z.log.program z.log.setup) c.in-Some.frame)
     (sym c.self.view_is) genuine.honest)
-
-pub returns-then-made-clause-marks : goal.returns-then-made-clause-marks
-returns-then-made-clause-marks g c =
-    subst (λ (z : Recorded _). SameMarksBut (g.P.Plan.start z.plan) c.args.name z.log
-    c.make_copy-2.new.self.log) c.self.view_is c.in_ok-made-2.ensures.marks
-
-pub returns-clause-marks : goal.returns-clause-marks
-returns-clause-marks g c =
-    subst (λ (z : Recorded _). SameMarksBut (g.P.Plan.start z.plan) c.args.name z.log
-    c.make_copy-2.new.self.log) c.self.view_is c.in_ok-made-2.ensures.marks
-
-pub returns-clause-waiting : goal.returns-clause-waiting
-returns-clause-waiting g c =
-    subst (λ (z : Recorded _). SameWaiting (g.P.Plan.start z.plan) z.log c.make_copy-2.new.self.log)
-    c.self.view_is c.in_ok-made-2.ensures.waiting

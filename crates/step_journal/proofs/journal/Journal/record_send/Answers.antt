@@ -1,7 +1,8 @@
-use Rattle.std.proofs.Common.{◌<◌, sym, subst, ap, ◌∙◌}
+use Rattle.std.proofs.Common.{◌<◌, sym, subst}
 use Rattle.round_meaning.specs.Rounds.{algorithm_of}
 use Rattle.step_machine.specs.declared.event.Name.{Name}
-use Rattle.step_book.specs.Log.{Recorded, SameMarksBut, SameWaiting, mark_in}
+use Rattle.step_book.specs.Effects.{Sends}
+use Rattle.step_book.specs.Log.{Recorded}
 use Rattle.step_journal.proofs.BufferViews.{fit_view, fits_hushed, fits_kept, fits_sent, fits_view}
 use Rattle.step_journal.proofs.BufferViews.{name_view, place_view, prepared_spells}
 use Rattle.step_journal.proofs.BufferViews.{run_honest_kept, work_view}
@@ -11,46 +12,36 @@ pub invariant_of-self-in-Some : goal.invariant_of-self-in-Some
 invariant_of-self-in-Some g c =
     let s = c.self.inside.book in
     let p = c.args.prepared in
-    let start = g.P.Plan.start s.plan in
-    let ok = c.in-Ok-record_send.ensures.ok in
-    let mark = ap (λ (z : Recorded _). mark_in start z.log p.name) (sym ok)
-    ∙ c.in-Ok-record_send.ensures.sent in
-    let marks = subst (λ (z : Recorded _). SameMarksBut start p.name s.log z.log) ok
-    c.in-Ok-record_send.ensures.marks in
-    let waits = subst (λ (z : Recorded _). SameWaiting start s.log z.log) ok
-    c.in-Ok-record_send.ensures.waiting in
+    let ok = c.in-Ok-record_send.ensures.ok.recorded in
+    let done = subst (λ (z : Recorded _). Sends g.P.Plan.start p s z) ok
+    c.in-Ok-record_send.ensures.ok in
     let name = name_view p.name c.self.view_is c.requires.name in
     fits_view g.P.Plan.start ok
     (fits_sent c.self.invariant p c.name-name.result c.into_sealed.result c.in-Some.frame
     c.place-place.result c.index_mut-buffer.result.now c.reserve_flying.new.self
     c.index_mut-buffer-in-Some.result.now c.put.new.self
     c.name-name.ensures.value name (work_view p c.self.view_is c.requires.work)
-    (fit_view g.P.Plan.start p c.self.view_is c.requires.fit) c.in-Ok-record_send.ensures.round
+    (fit_view g.P.Plan.start p c.self.view_is c.requires.fit) done.round
     (place_view c.name-name.result c.place-place.result c.self.view_is c.place-place.ensures)
     c.index_mut-buffer.ensures.value c.reserve_flying.ensures.run c.in-Ok.ensures.flying
     c.in-Ok.ensures.waiting c.into_sealed.ensures c.in-Some.is
     c.index_mut-buffer-in-Some.ensures.value c.put.ensures.run c.put.ensures.flying
-    c.put.ensures.waiting mark marks waits)
+    c.put.ensures.waiting done.sent done.marks done.waiting)
 
 pub invariant_of-self-in-None : goal.invariant_of-self-in-None
 invariant_of-self-in-None g c =
     let s = c.self.inside.book in
     let p = c.args.prepared in
-    let start = g.P.Plan.start s.plan in
-    let ok = c.in-Ok-record_send.ensures.ok in
-    let mark = ap (λ (z : Recorded _). mark_in start z.log p.name) (sym ok)
-    ∙ c.in-Ok-record_send.ensures.sent in
-    let marks = subst (λ (z : Recorded _). SameMarksBut start p.name s.log z.log) ok
-    c.in-Ok-record_send.ensures.marks in
-    let waits = subst (λ (z : Recorded _). SameWaiting start s.log z.log) ok
-    c.in-Ok-record_send.ensures.waiting in
+    let ok = c.in-Ok-record_send.ensures.ok.recorded in
+    let done = subst (λ (z : Recorded _). Sends g.P.Plan.start p s z) ok
+    c.in-Ok-record_send.ensures.ok in
     let name = name_view p.name c.self.view_is c.requires.name in
     fits_view g.P.Plan.start ok
     (fits_hushed c.self.invariant p c.name-name.result c.into_sealed.result
     c.index_mut-buffer.result.now c.reserve_flying.new.self
     c.name-name.ensures.value name c.index_mut-buffer.ensures.value c.reserve_flying.ensures.run
     c.in-Ok.ensures.flying c.in-Ok.ensures.waiting c.into_sealed.ensures c.in-None.is
-    c.in-Ok-record_send.ensures.unsent mark marks waits)
+    done.unsent done.sent done.marks done.waiting)
 
 pub invariant_of-self : goal.invariant_of-self
 invariant_of-self g c =
@@ -70,16 +61,6 @@ invariant_of-self-in-Err-record_send g c =
     (fits_kept c.self.invariant c.name-name.result.to c.index_mut-buffer.result.now
     c.reserve_flying.new.self to c.index_mut-buffer.ensures.value c.reserve_flying.ensures.run
     c.reserve_flying.ensures.flying c.reserve_flying.ensures.waiting)
-
-pub returns-in-Some-clause-marks : goal.returns-in-Some-clause-marks
-returns-in-Some-clause-marks g c =
-    subst (λ (z : Recorded _). SameMarksBut (g.P.Plan.start z.plan) c.args.prepared.name z.log
-    c.record_send.new.self.log) c.self.view_is c.in-Ok-record_send.ensures.marks
-
-pub returns-in-None-clause-marks : goal.returns-in-None-clause-marks
-returns-in-None-clause-marks g c =
-    subst (λ (z : Recorded _). SameMarksBut (g.P.Plan.start z.plan) c.args.prepared.name z.log
-    c.record_send.new.self.log) c.self.view_is c.in-Ok-record_send.ensures.marks
 
 pub put-requires-clause-honest : goal.put-requires-clause-honest
 put-requires-clause-honest g c =
