@@ -11,7 +11,7 @@ returns-clause-node g c =
     let e = c.settle.ensures in
     let kept = c.finish.follows.holds-at-none in
     subst (λ (z : Recorded _). IsNodeOf (g.P.Plan.start z.plan) z.log c.args.node.now.me
-    c.settle.new.self) (sym c.in_ok-record_close.ensures.ok)
+    c.settle.new.self) (sym c.in_ok-record_close.ensures.ok.recorded)
     (node_closed start j.log c.args.node.now c.finish.result.node.now c.finish.ensures.ended
     c.requires.node c.requires.first c.requires.due
     c.finish.follows.lender-at-none c.settle.new.self kept.0 kept.1 e)

@@ -14,7 +14,7 @@ take_all-requires-clause-mail g c =
     let program = is.program in
     let setup = is.setup in
     let me = is.me in
-    rw (program, setup, me) c.in_ok-took.ensures.mail
+    rw (program, setup, me) c.in_ok-took.ensures.took.mail
 
 pub take_all-requires-clause-places : goal.take_all-requires-clause-places
 take_all-requires-clause-places g c =
@@ -38,8 +38,8 @@ returns-clause-node g c =
     (g.met.P.Plan.laws j.plan) c.requires.nodes in
     let got = c.in_ok-took.ensures in
     subst (λ (z : Recorded _). IsNodeOf (g.P.Plan.start z.plan) z.log me c.take_all.new.node)
-    (sym got.ok)
+    (sym got.ok.recorded)
     (node_received start j.log (happened j.log (Step me)) me c.args.node.now c.take_all.new.node
     c.in_ok-took.took.frames.items plan (noted j.log me (Step me))
-    c.requires.round (receive_fit start j.log me plan c.requires.round c.requires.sent) got.once
-    got.mail got.said c.take_all.ensures c.requires.node)
+    c.requires.round (receive_fit start j.log me plan c.requires.round c.requires.sent)
+    got.took.once got.took.mail got.took.said c.take_all.ensures c.requires.node)

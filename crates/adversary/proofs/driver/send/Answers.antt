@@ -18,7 +18,7 @@ returns-clause-node g c =
     let from : c.in_ok-prepared.prepared.name.from ≡ me =
     ap (λ (p : Ready). p.name.from) c.in_ok-prepared.ensures.ready ∙ c.requires.node.me in
     let is : c.record_send.new.self ≡ record { plan = j.plan; log = happened j.log (Step me) } =
-    c.in-Ok.ensures.ok
+    c.in-Ok.ensures.ok.recorded
     ∙ ap (λ k. record { plan = j.plan; log = happened j.log (Step k) }) from in
     let sent = node_sent start j.log (happened j.log (Step me)) me c.args.dest c.args.node.now plan
     (noted j.log me (Step me)) c.requires.dest c.requires.round c.requires.slot
