@@ -1,26 +1,6 @@
 -- Where a seat stands in its rounds.
 use Rattle.std.specs.Option.{ForSome, unwrap_or}
-use Rattle.std.proofs.Common.{
-  subst,
-  Option,
-  Some,
-  ◌≡◌,
-  ℕ,
-  zero,
-  suc,
-  ◌+◌,
-  ◌-◌,
-  ◌<◌,
-  ◌≤◌,
-  ◌⊎◌,
-  inl,
-  inr,
-  length,
-  ap,
-  ◌∙◌,
-  arith,
-  sym,
-}
+use Rattle.std.proofs.Common.{subst, Option, Some, ◌≡◌, ℕ, zero, suc, ◌+◌, ◌-◌, ◌<◌, ◌≤◌, inl, inr, length, ap, ◌∙◌, arith, sym}
 use Rattle.slot_plans.specs.Plan.{PlanLaws}
 use Rattle.locked_buffers.specs.Seats.{Account, IsDueBy, round_by}
 use Rattle.node_threads.specs.declared.body.Halt.{Halt}

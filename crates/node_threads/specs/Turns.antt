@@ -1,5 +1,5 @@
 -- A turn of the network: a chain of questions to its policy, each after it has learnt what was sent.
-use Rattle.std.specs.Prelude.{◌≡◌, ℕ, zero, suc, ◌+◌, ◌-◌, ◌^◌, ◌++◌, Bool, List, drop, length, min}
+use Rattle.std.specs.Prelude.{◌≡◌, ℕ, zero, suc, ◌-◌, ◌^◌, ◌++◌, Bool, List, drop, length, min}
 use Rattle.std.specs.Prelude.{Option, None, Some}
 use Rattle.adversary.specs.Asking.{Chooses}
 use Rattle.locked_buffers.specs.Commits.{told_with}
