@@ -1,5 +1,5 @@
 -- A turn of the network: a chain of questions to its policy, each after it has learnt what was sent.
-use Rattle.std.specs.Prelude.{◌≡◌, ℕ, zero, suc, ◌-◌, ◌^◌, ◌++◌, Bool, List, drop, length, min}
+use Rattle.std.specs.Prelude.{◌≡◌, ℕ, zero, suc, ◌-◌, ◌^◌, ◌++◌, Bool, List, [], drop, length, min}
 use Rattle.std.specs.Prelude.{Option, None, Some}
 use Rattle.adversary.specs.Asking.{Chooses}
 use Rattle.locked_buffers.specs.Commits.{told_with}
@@ -20,6 +20,10 @@ pub record Known : Type 0 where
   pub flight : List InFlight
   pub count : ℕ
   pub told : Told
+
+-- what the network goes by before its first turn: it knows of no message, and was told nothing
+abbrev pub nothing_known : Known
+nothing_known = record { flight = []; count = 0; told = record { events = []; answers = [] } }
 
 -- it learnt of the messages that were sent by the events of some record and that it didn't know,
 -- which are in flight behind the others, and how many events that has
