@@ -1,4 +1,4 @@
--- A turn of the network: a chain of questions to its policy, each after it has learnt what was sent.
+-- A turn of the network: questions to its policy, each after it has learnt what was sent.
 use Rattle.std.specs.Prelude.{◌≡◌, ℕ, zero, suc, ◌-◌, ◌^◌, ◌++◌, Bool, List, [], drop, length, min}
 use Rattle.std.specs.Prelude.{Option, None, Some}
 use Rattle.adversary.specs.Asking.{Chooses}
