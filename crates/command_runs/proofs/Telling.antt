@@ -1,5 +1,5 @@
 -- From what the parts of a command answer to what the command does.
-use Rattle.std.proofs.Common.{Bool, Bor, ◌≡◌, inl, inr, ℕ, List, [], Option, Some, None}
+use Rattle.std.proofs.Common.{Bool, Bor, ◌≡◌, ◌≢◌, inl, inr, ℕ, List, [], Option, Some, None}
 use Rattle.std.proofs.Common.{Result, Ok, Err, ap, refl, sym, subst}
 use Rattle.std.specs.Prelude.{IfErr, IfSome}
 use Rattle.std.specs.Global.{Vec}
@@ -7,7 +7,7 @@ use Rattle.std.specs.Io.KnownBytes.{Keeps}
 use Rattle.adversary.specs.declared.fault.RunFault.TheVariants as run
 use Rattle.command_runs.specs.Refused.{IsNoOffer, IsNoProgram, IsNotOffered, IsNotRun}
 use Rattle.command_runs.specs.Refused.{IsLeft, IsLeftBy, IsOpened, IsRefusedCommand}
-use Rattle.command_runs.specs.Refused.{IsRefusedInTurn, IsSilent}
+use Rattle.command_runs.specs.Refused.{IsRefusedInTurn, IsSilent, LeftByThreads}
 use Rattle.command_runs.specs.Refused.{IsUnanswered, IsUnrealised}
 use Rattle.command_runs.specs.Refused.{Fault, HasNoText, Later, fault_in}
 use Rattle.command_runs.specs.Served.{AnswersRun, IsCheckedSource, JudgesRun, NamesColumns, Opens}
@@ -68,6 +68,13 @@ pub silent_write : {A : Type 0} (result : Result A Refusal) (old new : Option (L
     → IfErr result (λ r. r ≡ refusal.Write) → IfErr result (IsSilent old new)
 silent_write (Ok x) old new h = tt
 silent_write (Err r) old new h = subst (IsSilent old new) (sym h) tt
+
+-- nothing was written, and it isn't told that the thread of a node had no memory
+pub left_same : (source : Source) (files : Files) (file after : Option (List ℕ)) (told : Bool)
+    (x : Option (List ℕ)) (r : Refusal) → r ≢ refusal.NodeNoMemory
+    → LeftByThreads source files file after told x x r
+left_same source files file after told x refusal.NodeNoMemory other = absurd (other refl)
+left_same source files file after told x r other = silent_same x r
 
 -- what a command leaves, the words leave that mean it
 pub left_by : (ws : List (List ℕ)) (w : Words) (files after : Files) (old new : Option (List ℕ))

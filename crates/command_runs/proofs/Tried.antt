@@ -1,5 +1,5 @@
 -- From a file that is tried, and work that begins then, to what the command does.
-use Rattle.std.proofs.Common.{◌≡◌, ◌⊎◌, inl, inr, List, ℕ, Option, Result, Ok, Err, sym, subst}
+use Rattle.std.proofs.Common.{◌≡◌, ◌≢◌, ◌⊎◌, inl, inr, List, ℕ, Option, Result, Ok, Err, sym, subst}
 use Rattle.std.specs.Prelude.{IfErr, IsSome, OnOk}
 use Rattle.std.specs.Borrow.{Bor}
 use Rattle.command_runs.proofs.Telling.{last_no_thread, last_nodes, last_unmatched, last_write}
@@ -79,6 +79,13 @@ module _ (source : Source) (files : Files) (file : Option (List ℕ)) where
       not_in_turn kinds.Threads (λ p s k t r. IsUnfitForThreads p s k t.1 r) source files file
       (refusal.Run run.Unmatched) last_unmatched (λ p s k t none. none) h
   unfit_first r h of = absurd of
+
+  -- only of joined threads it's told that one had no memory
+  pub unfit_other : (r : Refusal) → IsUnfit source files file r → r ≢ refusal.NodeNoMemory
+  unfit_other r h is =
+      not_in_turn kinds.Threads (λ p s k t r. IsUnfitForThreads p s k t.1 r) source files file
+      refusal.NodeNoMemory last_nodes (λ p s k t none. none)
+      (subst (IsUnfit source files file) is h)
 
   -- why threads don't run is why the report isn't told
   pub threads_refused : (r : Refusal) → IsUnthreaded source files file r

@@ -76,6 +76,7 @@ impl<'a> Threaded<'a> {
             (IsApart self.now.trace.now self.now.source self.now.setup.now) }
         ensures refused { IfErr result (IsRefusedThreads self.now.source (D.files desk.old)
             (D.files desk.old self.now.setup.now)) }
+        ensures other { IfErr result (λ r. r ≢ Refusal.NodeNoMemory) }
         ensures first_tried { IfErr result
             (λ r. IsAfterStart r → D.can_write desk.new self.now.trace.now) }
         ensures written { D.written desk.new ≡ D.written desk.old }

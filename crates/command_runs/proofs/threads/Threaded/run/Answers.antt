@@ -1,10 +1,12 @@
-use Rattle.std.proofs.Common.{◌≡◌, sym, subst}
+use Rattle.std.proofs.Common.{◌≡◌, ◌≢◌, sym, subst}
 use Rattle.std.proofs.lemmas.Result.{IfErr-weaker, IfOk-weaker}
+use Rattle.command_runs.specs.Refused.{IsNotThreaded}
 use Rattle.command_runs.specs.Stages.{IsAfterStart, IsRefusedThreads}
+use Rattle.command_runs.specs.declared.refusal.Refusal.TheVariants.{NodeNoMemory}
 use Rattle.command_runs.proofs.Refusing.{err_then}
 use Rattle.command_runs.proofs.Threaded.{reports_threads}
 use Rattle.command_runs.proofs.Tried.{if_err_always, on_ok_always, ready_starts, threads_refused}
-use Rattle.command_runs.proofs.Tried.{unfit_first}
+use Rattle.command_runs.proofs.Tried.{unfit_first, unfit_other}
 use Rattle.command_runs.proofs.Tried.{unfit_unthreaded, unthreaded, untried_first, untried_threads}
 use Rattle.command_runs.proofs.threads.Threaded.run.Goals as goal
 
@@ -86,3 +88,19 @@ returns-in_err-try_trace-clause-first_tried g c =
     (λ r. IsAfterStart r → g.D.Desk.can_write c.try_trace.new.desk c.args.self.now.trace.now)
     c.from_residual-in_err-try_trace.ensures.1 (λ r is of. absurd (untried_first fault
     c.in_err-try_trace.ensures.refused (subst IsAfterStart is of)))
+
+pub returns-clause-other : goal.returns-clause-other
+returns-clause-other g c =
+    let t = c.in_ok-program.setup in
+    IfErr-weaker c.run_by.result _ _ (λ r none is. subst (IsNotThreaded
+    c.in_ok-program.program t.setup t.plan t.stops.items) is none) c.run_by.ensures.refused
+
+pub returns-in_err-program-clause-other : goal.returns-in_err-program-clause-other
+returns-in_err-program-clause-other g c =
+    let threaded = c.args.self.now in
+    let files = g.D.Desk.files c.args.desk.now in
+    let fault = c.in_err-program.field-0.0 in
+    err_then c.from_residual.result (λ r. r ≡ fault) (λ r. r ≢ NodeNoMemory)
+    c.from_residual.ensures.1 (λ r is. subst (λ r. r ≢ NodeNoMemory) (sym is)
+    (unfit_other threaded.source files (files threaded.setup.now) fault
+    c.in_err-program.ensures.refused))
