@@ -35,12 +35,13 @@ pub(crate) fn tell_rounds<O: Write>(
     let Some(header) = files.header(alloc)? else {
         return Ok(false);
     };
+    let plan = header.plan;
     let setup = &header.setup;
     let program = program_for(alloc, source, files, setup.nodes, setup.faults);
     let Some(program) = unless_refused(program)? else {
         return Ok(false);
     };
-    let run = match header.plan {
+    let run = match plan {
         PlanKind::Known(delta) => match Known::new(setup.nodes, delta) {
             Some(plan) => rounds_omitting(alloc, &program, setup, plan, &omissions),
             None => return Ok(false),
