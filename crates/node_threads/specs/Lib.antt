@@ -4,5 +4,4 @@ pub mod Choices
 pub mod Ends
 pub mod Faults
 pub mod Flights
-pub mod Following
 pub mod Turns

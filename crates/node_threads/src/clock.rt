@@ -1,5 +1,5 @@
 //! What the threads of a run wait by.
-ghost use Rattle.std.specs.Prelude.{◌≡◌, IfOk};
+ghost use Rattle.std.specs.Prelude.{◌≡◌};
 
 use crate::body::Beat;
 use crate::progress::Progress;
@@ -59,9 +59,7 @@ pub(crate) struct Clock {
 
 impl Clock {
     /// A clock for so many nodes, before their first step.
-    pub(crate) fn new(alloc: Global, pace: Pace, nodes: u32) -> Result<Clock, NoMemory>
-        ensures { IfOk result (λ clock. clock.pace ≡ pace) }
-    {
+    pub(crate) fn new(alloc: Global, pace: Pace, nodes: u32) -> Result<Clock, NoMemory> {
         let progress = Progress::new(alloc, nodes)?;
         Ok(Clock {
             pace,

@@ -10,7 +10,6 @@ mod job;
 mod laws;
 mod network;
 mod progress;
-mod promise;
 mod run;
 mod stops;
 
