@@ -546,24 +546,24 @@ def check_forms(command, source, options):
     has_report = command in ("run", "rounds")
     formats = ["text", "json"] + ["table", "summary"] * has_report
     if has_report and options.get("format", "text") not in formats:
-        raise BadWords("error: FORMAT is `text`, `json`, `table` or `summary`")
+        raise BadWords("error: `--format` is `text`, `json`, `table` or `summary`")
     if options.get("by", "round") not in ("round", "node"):
-        raise BadWords("error: BY is `round` or `node`")
+        raise BadWords("error: `--by` is `round` or `node`")
     if not is_list(options.get("correct", "0")):
         raise BadWords(NO_LIST)
     delta = options.get("delta", "1")
     if not is_number(delta) or not 1 <= int(delta) <= DELTA:
-        raise BadWords("error: D is a number of 1 to 1024")
+        raise BadWords("error: `--delta` is a number of 1 to 1024")
     if not is_number(options.get("gst", "0")):
-        raise BadWords("error: G is a number of 0 to 4294967295")
+        raise BadWords("error: `--gst` is a number of 0 to 4294967295")
     if not is_list(options.get("delays", "0")) or not is_list(options.get("orders", "0")):
         raise BadWords(NO_LIST)
     if not is_number(options.get("ticks", "0")):
-        raise BadWords("error: T is a number of 0 to 4294967295")
+        raise BadWords("error: `--ticks` is a number of 0 to 4294967295")
     if not all(is_number(it) for use in changes_in(options) for it in use):
         raise BadWords("error: `--stop` and `--delay` have numbers of 0 to 4294967295")
     if options.get("format", "text") not in formats:
-        raise BadWords("error: FORMAT is `text` or `json`")
+        raise BadWords("error: `--format` is `text` or `json`")
 
 
 def changes_in(options):

@@ -525,6 +525,14 @@ def told_of_served(source, options, files):
     return "".join(f"{it}\n" for it in out)
 
 
+def told_of_rounds(source, options, files):
+    """Returns what is told of a run in rounds: the report, and which rows show its decisions."""
+    checked, setup, omissions = reading.program_and_run("rounds", source, options, files)
+    run = reading.Rounds(reading.Algorithm(checked, setup), omissions)
+    report, told = run.report().splitlines(), run.told(options).splitlines()
+    return "".join(f"{it}\n" for it in [*report, *told, *decision_lines(run)])
+
+
 def told_of_judged(source, options, files):
     """Returns what is told of a run that is judged: the verdict, and what breaks it."""
     checked, setup, events = reading.program_and_run("judge", source, options, files)
@@ -549,6 +557,8 @@ def answer(words, files):
         return reading.Answer(0, b"nothing hinders these threads from starting\n", b"")
     if command == "judge":
         return reading.Answer(0, told_of_judged(source, options, files).encode(), b"")
+    if command == "rounds" and "decided" in options:
+        return reading.Answer(0, told_of_rounds(source, options, files).encode(), b"")
     if command != "run":
         return plain
     return reading.Answer(0, told_of_served(source, options, files).encode(), b"")

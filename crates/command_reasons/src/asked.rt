@@ -13,6 +13,7 @@ use crate::options::tell_option;
 use crate::parts::tell_together;
 use crate::program::program_for;
 use crate::refusals::unless_refused;
+use crate::round_reasons::tell_rounds;
 use crate::run_causes::{tell_correct_crash, tell_unknown};
 use crate::run_reasons::{RunQuestion, tell_run};
 use crate::source::{tell_check, tell_source};
@@ -97,7 +98,7 @@ impl<'w, 'a> AskedCommand<'w, 'a> {
         out.write_all(printed).map_err(unwritten)
     }
 
-    /// Tells what the run of a schedule came to and why, if that is asked and the run is served.
+    /// Tells what a run came to and why, if that is asked and the run is served.
     fn tell_reasons<O: Write>(&self, out: &mut O) -> Result<bool, Refusal> {
         if has_unknown_column(self.alloc, self.command, self.files) {
             return Ok(false);
@@ -119,6 +120,9 @@ impl<'w, 'a> AskedCommand<'w, 'a> {
                 delta: *delta,
                 gst: *gst,
             }),
+            Words::Rounds { form, .. } if form.decided => {
+                return tell_rounds(self.alloc, source, self.files, out);
+            }
             _ => return Ok(false),
         };
         tell_run(self.alloc, source, self.files, question, out)

@@ -1,17 +1,20 @@
 //! Why EXPR of `explore --always` is no condition.
+use crate::condition_program::{AfterCondition, BeforeCondition, name_of};
 use crate::files::CommandFiles;
 use crate::located::Located;
 use crate::nesting::{Reading, too_deep_at};
 use crate::program::program_for;
+use crate::refusals::unless_refused;
 use crate::sentence::Sentence;
 use crate::source::limit_sentence;
 use command_runs::Refusal;
 use command_words::{Source, Words};
 use exploration_texts::ConditionFault;
-use fault_places::{Expected, TokenKind, expected_at};
+use fault_places::{Expected, FaultPlace, TokenKind, expected_at, fault_place};
 use round_check::{CheckFault, Checked};
-use round_lang::{LangFault, Mark, Span, Token, Word, tokens};
+use round_lang::{LangFault, Program, Span, parse};
 use std::alloc::Global;
+use std::fmt;
 use std::io::Write;
 
 /// What stands before an expression in a program, so that it can be asked what goes on with one.
@@ -109,61 +112,67 @@ impl Condition<'_> {
         }
     }
 
+    /// Tells what is wrong with an expression of the program's names.
     fn tell_check<O: Write>(
         &self,
         fault: CheckFault,
         program: Option<&Checked>,
         out: &mut O,
     ) -> Result<(), Refusal> {
+        if let Some(program) = program {
+            if self.tell_in_program(fault, program.program(), out)? {
+                return Ok(());
+            }
+        }
         match fault {
-            CheckFault::UnknownName => match self.unknown_name(program) {
-                Some(span) => self
-                    .located(span)
-                    .tell(self.alloc, &Sentence::NoVariable, out),
-                None => self.whole().tell(self.alloc, &Sentence::NoVariable, out),
-            },
+            CheckFault::UnknownName => self.whole().tell(self.alloc, &Sentence::NoVariable, out),
             CheckFault::NoMemory => Err(Refusal::NoMemory),
             _ => self.whole().tell(self.alloc, &Sentence::NoCondition, out),
         }
     }
 
-    /// The first name that isn't a variable's, nor the v of a `{v : ..}` or `[v : ..]`.
-    fn unknown_name(&self, program: Option<&Checked>) -> Option<Span> {
-        let variables = program?.program().variables();
-        let tokens = tokens(self.alloc, self.text.as_bytes()).ok()?;
-        let tokens = tokens.as_slice();
-        for token in tokens {
-            if let Word::Name(name) = token.word {
-                let is_variable = variables
-                    .iter()
-                    .any(|variable| variable.name.as_str() == name.text);
-                if !is_variable && !is_bound(tokens, name.text) {
-                    return Some(token.span);
-                }
-            }
-        }
-        None
-    }
-}
-
-/// Whether a name stands before a colon somewhere, and so stands for each value in turn.
-fn is_bound(tokens: &[Token<'_>], text: &str) -> bool {
-    for (place, token) in tokens.iter().enumerate() {
-        let is_named = match token.word {
-            Word::Name(name) => name.text == text,
-            _ => false,
+    /// Tells where EXPR is at fault by a program in which it stands, and whether that can be told.
+    fn tell_in_program<O: Write>(
+        &self,
+        fault: CheckFault,
+        program: &Program,
+        out: &mut O,
+    ) -> Result<bool, Refusal> {
+        let before = self.written(&BeforeCondition(program))?;
+        let after = self.written(&AfterCondition(program))?;
+        let Ok(text) = format!(in self.alloc; "{before}{}{after}", self.text) else {
+            return Err(Refusal::NoMemory);
         };
-        if is_named && is_colon(tokens.get(place.saturating_add(1))) {
-            return true;
+        let Some(framed) = unless_refused(parse(self.alloc, text.as_str()))? else {
+            return Ok(false);
+        };
+        let Some(found) = fault_place(self.alloc, text.as_str(), &framed, fault)? else {
+            return Ok(false);
+        };
+        match (self.span_behind(before.len(), found.span()), &found) {
+            (Some(span), _) => self.located(span).tell(self.alloc, &found, out)?,
+            (None, FaultPlace::WrongType { found, .. }) => {
+                self.whole()
+                    .tell(self.alloc, &Sentence::NoBool(name_of(*found)), out)?;
+            }
+            (None, _) => return Ok(false),
+        }
+        Ok(true)
+    }
+
+    fn written<T: fmt::Display>(&self, part: &T) -> Result<String, Refusal> {
+        match format!(in self.alloc; "{part}") {
+            Ok(text) => Ok(text),
+            Err(_) => Err(Refusal::NoMemory),
         }
     }
-    false
-}
 
-fn is_colon(token: Option<&Token<'_>>) -> bool {
-    match token {
-        Some(token) => matches!(token.word, Word::Mark(Mark::Colon)),
-        None => false,
+    /// A part of EXPR, by its place in a text that has EXPR behind so many bytes; `None` if it's no
+    /// part of EXPR alone.
+    fn span_behind(&self, bytes: usize, span: Span) -> Option<Span> {
+        let first = span.first.checked_sub(bytes)?;
+        let after = span.after.checked_sub(bytes)?;
+        (after <= self.text.len()).then_some(Span { first, after })
     }
 }
 

@@ -14,7 +14,8 @@ the setup is read and no thread is started.
                 the part that is wrong, and what could stand there or what's wrong with it
   run           behind each row of the report that omits messages, what became of each copy; behind
                 the report the releases, drops and copies that did nothing, 100 at most
-  run --decided the two rows that decided differently, or the nodes that took a decision back
+  --decided     of run and rounds: the two rows that decided differently, or the nodes that took a
+                decision back
   explore       of each property that fails the run in which it does: inputs, nodes that fail, who
                 misses whom, and which decisions show it
   judge         the first step that breaks lockstep, the first receive that comes before a message

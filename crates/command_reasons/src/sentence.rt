@@ -9,6 +9,8 @@ pub(crate) enum Sentence<'a> {
     Unread(Option<ErrorKind>),
     /// The file can't be written, for what the system said, if it's known.
     Unwritable(Option<ErrorKind>),
+    /// How a header is given by its numbers.
+    HeaderNumbers,
     /// A trace would be written over a file that is read.
     TraceIsRead,
     /// The bytes from here on are no UTF-8.
@@ -88,6 +90,8 @@ pub(crate) enum Sentence<'a> {
     NoVariable,
     /// An expression is no condition on a state.
     NoCondition,
+    /// An expression is no condition, since it has this type.
+    NoBool(&'a str),
     /// A number, a name or a list passes this limit.
     Limit(&'a str),
     /// Where a name that has to do with the fault is declared.
@@ -105,6 +109,12 @@ impl fmt::Display for Sentence<'_> {
         match self {
             Sentence::Unread(failure) => write_unread(*failure, f),
             Sentence::Unwritable(failure) => write_unwritable(*failure, f),
+            Sentence::HeaderNumbers => {
+                write!(
+                    f,
+                    "a header without a file is @N:T:R, its nodes, faults and rounds, as @3:1:8"
+                )
+            }
             Sentence::TraceIsRead => {
                 write!(
                     f,
@@ -197,6 +207,7 @@ impl fmt::Display for Sentence<'_> {
                 "this isn't a condition on a node's state: its types don't fit, it's no bool, or \
                  it says what only a message has"
             ),
+            Sentence::NoBool(ty) => write!(f, "a condition is a bool, and this is a {ty}"),
             Sentence::Limit(limit) => write!(f, "{limit}"),
             Sentence::DeclaredHere => write!(f, "this name is declared here"),
             Sentence::FirstMeaning => write!(f, "the name has its first meaning here"),

@@ -11,6 +11,9 @@ use round_lang::{LangFault, Span, parse};
 use std::alloc::Global;
 use std::io::Write;
 
+/// What some editors put before a text's first character.
+const BYTE_ORDER_MARK: &str = "\u{feff}";
+
 /// Tells where the text of the source goes wrong, and whether it can be told.
 pub(crate) fn tell_source<O: Write>(
     alloc: Global,
@@ -25,6 +28,10 @@ pub(crate) fn tell_source<O: Write>(
         return Ok(false);
     };
     match fault {
+        LangFault::BadToken(span) if text.starts_with(BYTE_ORDER_MARK) => {
+            file.located(text, span)
+                .tell(alloc, &Sentence::ByteOrderMark, out)?;
+        }
         LangFault::BadToken(span) | LangFault::Unexpected(span) => {
             let expected = expected_at(alloc, text, span.first)?;
             file.located(text, expected.place(span))

@@ -53,6 +53,9 @@ impl ReadFile<'_> {
     ) -> Result<bool, Refusal> {
         let Some(bytes) = &self.bytes else {
             self.tell_whole(&Sentence::Unread(self.failure), out)?;
+            if self.kind == FileKind::Header && self.name.starts_with('@') {
+                writeln!(out, "{}", Sentence::HeaderNumbers).map_err(unwritten)?;
+            }
             return Ok(true);
         };
         if self.text().is_some() {

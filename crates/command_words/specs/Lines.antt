@@ -16,27 +16,27 @@ words_line Missing = Some (codes "error: a value is missing\n")
 words_line Source = Some (codes "error: SOURCE is a file, or `@`, a name, `:` and digits\n")
 words_line BadList =
     Some (codes "error: LIST is numbers of 0 to 4294967295 with commas between them\n")
-words_line Delta = Some (codes "error: D is a number of 1 to 1024\n")
-words_line Gst = Some (codes "error: G is a number of 0 to 4294967295\n")
-words_line Ticks = Some (codes "error: T is a number of 0 to 4294967295\n")
+words_line Delta = Some (codes "error: `--delta` is a number of 1 to 1024\n")
+words_line Gst = Some (codes "error: `--gst` is a number of 0 to 4294967295\n")
+words_line Ticks = Some (codes "error: `--ticks` is a number of 0 to 4294967295\n")
 words_line Change =
     Some (codes "error: `--stop` and `--delay` have numbers of 0 to 4294967295\n")
-words_line Inputs = Some (codes "error: INPUTS is `header` or `any`\n")
-words_line Faults = Some (codes "error: FAULTS is `none`, `omission` or `crash`\n")
-words_line Clear = Some (codes "error: C is a number of 1 to 4294967295\n")
-words_line Hears = Some (codes "error: M is a number of 0 to 4294967295\n")
-words_line Checks = Some (codes
-    "error: LIST is `agreement`, `validity`, `final` or `termination` with commas between them\n")
+words_line Inputs = Some (codes "error: `--inputs` is `header` or `any`\n")
+words_line Faults = Some (codes "error: `--faults` is `none`, `omission` or `crash`\n")
+words_line Clear = Some (codes "error: `--clear` is a number of 1 to 4294967295\n")
+words_line Hears = Some (codes "error: `--hears` is a number of 0 to 4294967295\n")
+words_line Checks = Some (codes "error: `--check` is `agreement`, `validity`, `final` or "
+    ++ codes "`termination` with commas between them\n")
 words_line Part = Some (codes "error: `--part` is I/N with 1 <= I <= N <= 65536; it goes with "
     ++ codes "`--inputs any`, and not with `--sample`\n")
 words_line Jobs = Some (codes
-    "error: J is a number of 1 to 256; `--jobs` doesn't go with `--sample`\n")
-words_line Sample = Some (codes "error: COUNT is a number of 1 to 4294967295\n")
+    "error: `--jobs` is a number of 1 to 256, and doesn't go with `--sample`\n")
+words_line Sample = Some (codes "error: `--sample` is a number of 1 to 4294967295\n")
 words_line Seed = Some (codes
-    "error: S is a number of 0 to 4294967295; `--seed` goes with `--sample`\n")
+    "error: `--seed` is a number of 0 to 4294967295, and goes with `--sample`\n")
 words_line Range = Some (codes
-    "error: RANGE is A-B, two numbers of 1 to 4294967295 with A <= B\n")
-words_line Format = Some (codes "error: FORMAT is `text`, `json`, `table` or `summary`\n")
-words_line AnswerFormat = Some (codes "error: FORMAT is `text` or `json`\n")
-words_line Blocks = Some (codes "error: BY is `round` or `node`\n")
+    "error: `--rounds` is A-B, two numbers of 1 to 4294967295 with A <= B\n")
+words_line Format = Some (codes "error: `--format` is `text`, `json`, `table` or `summary`\n")
+words_line AnswerFormat = Some (codes "error: `--format` is `text` or `json`\n")
+words_line Blocks = Some (codes "error: `--by` is `round` or `node`\n")
 words_line NoMemory = Some (codes "no memory\n")

@@ -190,24 +190,26 @@ impl fmt::Display for WordsFault {
                     "error: LIST is numbers of 0 to 4294967295 with commas between them"
                 )
             }
-            WordsFault::Delta => writeln!(f, "error: D is a number of 1 to 1024"),
-            WordsFault::Gst => writeln!(f, "error: G is a number of 0 to 4294967295"),
-            WordsFault::Ticks => writeln!(f, "error: T is a number of 0 to 4294967295"),
+            WordsFault::Delta => writeln!(f, "error: `--delta` is a number of 1 to 1024"),
+            WordsFault::Gst => writeln!(f, "error: `--gst` is a number of 0 to 4294967295"),
+            WordsFault::Ticks => writeln!(f, "error: `--ticks` is a number of 0 to 4294967295"),
             WordsFault::Change => {
                 writeln!(
                     f,
                     "error: `--stop` and `--delay` have numbers of 0 to 4294967295"
                 )
             }
-            WordsFault::Inputs => writeln!(f, "error: INPUTS is `header` or `any`"),
-            WordsFault::Faults => { writeln!(f, "error: FAULTS is `none`, `omission` or `crash`") }
-            WordsFault::Clear => writeln!(f, "error: C is a number of 1 to 4294967295"),
-            WordsFault::Hears => writeln!(f, "error: M is a number of 0 to 4294967295"),
+            WordsFault::Inputs => writeln!(f, "error: `--inputs` is `header` or `any`"),
+            WordsFault::Faults => {
+                writeln!(f, "error: `--faults` is `none`, `omission` or `crash`")
+            }
+            WordsFault::Clear => writeln!(f, "error: `--clear` is a number of 1 to 4294967295"),
+            WordsFault::Hears => writeln!(f, "error: `--hears` is a number of 0 to 4294967295"),
             WordsFault::Checks => {
                 writeln!(
                     f,
-                    "error: LIST is `agreement`, `validity`, `final` or `termination` with commas \
-                     between them"
+                    "error: `--check` is `agreement`, `validity`, `final` or `termination` with \
+                     commas between them"
                 )
             }
             WordsFault::Part => {
@@ -220,27 +222,30 @@ impl fmt::Display for WordsFault {
             WordsFault::Jobs => {
                 writeln!(
                     f,
-                    "error: J is a number of 1 to 256; `--jobs` doesn't go with `--sample`"
+                    "error: `--jobs` is a number of 1 to 256, and doesn't go with `--sample`"
                 )
             }
-            WordsFault::Sample => writeln!(f, "error: COUNT is a number of 1 to 4294967295"),
+            WordsFault::Sample => writeln!(f, "error: `--sample` is a number of 1 to 4294967295"),
             WordsFault::Seed => {
                 writeln!(
                     f,
-                    "error: S is a number of 0 to 4294967295; `--seed` goes with `--sample`"
+                    "error: `--seed` is a number of 0 to 4294967295, and goes with `--sample`"
                 )
             }
             WordsFault::Range => {
                 writeln!(
                     f,
-                    "error: RANGE is A-B, two numbers of 1 to 4294967295 with A <= B"
+                    "error: `--rounds` is A-B, two numbers of 1 to 4294967295 with A <= B"
                 )
             }
             WordsFault::Format => {
-                writeln!(f, "error: FORMAT is `text`, `json`, `table` or `summary`")
+                writeln!(
+                    f,
+                    "error: `--format` is `text`, `json`, `table` or `summary`"
+                )
             }
-            WordsFault::AnswerFormat => writeln!(f, "error: FORMAT is `text` or `json`"),
-            WordsFault::Blocks => writeln!(f, "error: BY is `round` or `node`"),
+            WordsFault::AnswerFormat => writeln!(f, "error: `--format` is `text` or `json`"),
+            WordsFault::Blocks => writeln!(f, "error: `--by` is `round` or `node`"),
             WordsFault::NoMemory => writeln!(f, "no memory"),
         }
     }

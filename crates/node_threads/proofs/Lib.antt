@@ -4,5 +4,6 @@ pub mod Dropped
 pub mod Ending
 pub mod Crossing
 pub mod Chosen
+pub mod Joining
 mod Copies
 pub mod Turns

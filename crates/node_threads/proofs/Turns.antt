@@ -73,74 +73,42 @@ learnt_all starts r start old new events place before sent items adds none same 
       told = told;
     }
 
--- a turn that goes on: so many events are known of
+-- a turn that goes on
 pub record IsInTurn {Q P : Type 0} (chooses : Chooses Q) (starts : P → ℕ → ℕ) (start : ℕ → ℕ)
-    (tick : Option ℕ) (q : Q) (old : Known) (events : ℕ) (p : Q) (now : Known) : Type 0 where
-  pub first : ℕ
-  pub learnt : Known
-  pub learns : HasLearnt starts start old learnt first
+    (tick : Option ℕ) (q : Q) (old : Known) (p : Q) (now : Known) : Type 0 where
   pub times : ℕ
-  pub goes_on : GoesOnInTurn chooses starts tick first q learnt times p now
-  pub counted : min events (2 ^ 32 - 1) ≡ min (first + times) (2 ^ 32 - 1)
-
-same_time : (tick : Option ℕ) (a b : ℕ) → min a (2 ^ 32 - 1) ≡ min b (2 ^ 32 - 1)
-    → time_of tick a ≡ time_of tick b
-same_time None a b e = e
-same_time (Some t) a b e = refl
+  pub goes_on : GoesOnInTurn chooses starts start tick q old times p now
 
 module _ {Q P : Type 0} (chooses : Chooses Q) (starts : P → ℕ → ℕ) (start : ℕ → ℕ)
     (tick : Option ℕ) (q : Q) (old : Known) where
-  pub turn_first : (events : ℕ) (learnt : Known) → HasLearnt starts start old learnt events
-      → IsInTurn chooses starts start tick q old events q learnt
+  pub turn_first : IsInTurn chooses starts start tick q old q old
   unfolding GoesOnInTurn
-  turn_first events learnt h = record {
-    first = events;
-    learnt = learnt;
-    learns = h;
-    times = 0;
-    goes_on = (refl, refl);
-    counted = ap (λ n. min n (2 ^ 32 - 1)) (omega arith);
-  }
+  turn_first = record { times = 0; goes_on = (refl, refl) }
 
-  pub turn_next : (events : ℕ) (p r : Q) (w u : Known) (c : Choice) (e : Event)
-      → IsInTurn chooses starts start tick q old events p w
-      → IsAskedOnce chooses starts (time_of tick events) w.flight p r (Some c) (Some e)
-      → (answer : Bool) × IsDone c e answer w u
-      → IsInTurn chooses starts start tick q old (min (events + 1) (2 ^ 64 - 1)) r u
+  pub turn_next : (events : ℕ) (p r : Q) (w learnt u : Known) (c : Choice) (e : Event)
+      → IsInTurn chooses starts start tick q old p w → HasLearnt starts start w learnt events
+      → IsAskedOnce chooses starts (time_of tick events) learnt.flight p r (Some c) (Some e)
+      → (answer : Bool) × IsDone c e answer learnt u
+      → IsInTurn chooses starts start tick q old r u
   unfolding GoesOnInTurn
-  turn_next events p r w u c e h asked done = record {
-    first = h.first;
-    learnt = h.learnt;
-    learns = h.learns;
+  turn_next events p r w learnt u c e h learns asked done = record {
     times = suc h.times;
-    goes_on = (
-      p,
-      w,
-      c,
-      e,
-      done.0,
-      h.goes_on,
-      subst (λ n. IsAskedOnce chooses starts n w.flight p r (Some c) (Some e))
-          (same_time tick events (h.first + h.times) h.counted) asked,
-      done.1,
-    );
-    counted = omega (arith, h.counted);
+    goes_on = (p, w, learnt, events, c, e, done.0, h.goes_on, learns, asked, done.1);
   }
 
-  pub turn_ends : (events : ℕ) (p r : Q) (w : Known)
-      → IsInTurn chooses starts start tick q old events p w
-      → IsAskedFor chooses starts (time_of tick events) w.flight p r None
-      → IsTurn chooses starts start tick q old r w
-  turn_ends events p r w h asked = record {
-    events = h.first;
-    learnt = h.learnt;
-    learns = h.learns;
+  pub turn_ends : (events : ℕ) (p r : Q) (w learnt : Known)
+      → IsInTurn chooses starts start tick q old p w → HasLearnt starts start w learnt events
+      → IsAskedFor chooses starts (time_of tick events) learnt.flight p r None
+      → IsTurn chooses starts start tick q old r learnt
+  turn_ends events p r w learnt h learns asked = record {
     times = h.times;
     last = p;
+    reached = w;
     goes_on = h.goes_on;
+    events = events;
+    learns = learns;
     answer = asked.0;
-    ends = subst (λ n. IsAskedOnce chooses starts n w.flight p r asked.0 None)
-        (same_time tick events (h.first + h.times) h.counted) asked.1;
+    ends = asked.1;
   }
 
 -- so many turns were taken, and this is the tick of the next

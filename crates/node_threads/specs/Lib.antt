@@ -4,4 +4,5 @@ pub mod Choices
 pub mod Ends
 pub mod Faults
 pub mod Flights
+pub mod Following
 pub mod Turns

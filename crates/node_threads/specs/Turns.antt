@@ -1,5 +1,5 @@
--- A turn of the network: what it learns, and a chain of questions to its policy.
-use Rattle.std.specs.Prelude.{◌≡◌, ℕ, zero, suc, ◌+◌, ◌-◌, ◌^◌, ◌++◌, Bool, List, drop, length, min}
+-- A turn of the network: questions to its policy, each after it has learnt what was sent.
+use Rattle.std.specs.Prelude.{◌≡◌, ℕ, zero, suc, ◌-◌, ◌^◌, ◌++◌, Bool, List, [], drop, length, min}
 use Rattle.std.specs.Prelude.{Option, None, Some}
 use Rattle.adversary.specs.Asking.{Chooses}
 use Rattle.locked_buffers.specs.Commits.{told_with}
@@ -20,6 +20,10 @@ pub record Known : Type 0 where
   pub flight : List InFlight
   pub count : ℕ
   pub told : Told
+
+-- what the network goes by before its first turn: it knows of no message, and was told nothing
+abbrev pub nothing_known : Known
+nothing_known = record { flight = []; count = 0; told = record { events = []; answers = [] } }
 
 -- it learnt of the messages that were sent by the events of some record and that it didn't know,
 -- which are in flight behind the others, and how many events that has
@@ -59,28 +63,29 @@ pub record IsDone (choice : Choice) (e : Event) (answer : Bool) (old new : Known
   pub count : new.count ≡ old.count
   pub told : new.told ≡ told_with old.told e answer
 
--- the policy was asked so many times, each time after one event more, and what it chose was done
-unfoldable pub GoesOnInTurn : {Q P : Type 0} → Chooses Q → (P → ℕ → ℕ) → (tick : Option ℕ)
-    → (events : ℕ) → Q → Known → ℕ → Q → Known → Type 0
-GoesOnInTurn chooses starts tick events q v zero r u = (r ≡ q) × (u ≡ v)
-GoesOnInTurn {Q} chooses starts tick events q v (suc k) r u =
-    (p : Q) × (w : Known) × (c : Choice) × (e : Event) × (b : Bool)
-    × GoesOnInTurn chooses starts tick events q v k p w
-    × IsAskedOnce chooses starts (time_of tick (events + k)) w.flight p r (Some c) (Some e)
-    × IsDone c e b w u
+-- the policy was asked this many times, each time after the network had learnt what was sent; and
+-- what it chose was done
+unfoldable pub GoesOnInTurn : {Q P : Type 0} → Chooses Q → (P → ℕ → ℕ) → (start : ℕ → ℕ)
+    → (tick : Option ℕ) → Q → Known → ℕ → Q → Known → Type 0
+GoesOnInTurn chooses starts start tick q v zero r u = (r ≡ q) × (u ≡ v)
+GoesOnInTurn {Q} chooses starts start tick q v (suc k) r u =
+    (p : Q) × (w : Known) × (learnt : Known) × (events : ℕ) × (c : Choice) × (e : Event)
+    × (b : Bool) × GoesOnInTurn chooses starts start tick q v k p w
+    × HasLearnt starts start w learnt events
+    × IsAskedOnce chooses starts (time_of tick events) learnt.flight p r (Some c) (Some e)
+    × IsDone c e b learnt u
 
--- a turn: the network learnt what was sent, and then asked its policy until no event came of it
+-- a turn: the network learnt what was sent and asked its policy, until no event came of it
 pub record IsTurn {Q P : Type 0} (chooses : Chooses Q) (starts : P → ℕ → ℕ) (start : ℕ → ℕ)
     (tick : Option ℕ) (q : Q) (old : Known) (r : Q) (new : Known) : Type 0 where
-  pub events : ℕ
-  pub learnt : Known
-  pub learns : HasLearnt starts start old learnt events
   pub times : ℕ
   pub last : Q
-  pub goes_on : GoesOnInTurn chooses starts tick events q learnt times last new
+  pub reached : Known
+  pub goes_on : GoesOnInTurn chooses starts start tick q old times last reached
+  pub events : ℕ
+  pub learns : HasLearnt starts start reached new events
   pub answer : Option Choice
-  pub ends : IsAskedOnce chooses starts (time_of tick (events + times)) new.flight last r answer
-      None
+  pub ends : IsAskedOnce chooses starts (time_of tick events) new.flight last r answer None
 
 -- the tick of a turn, if there are ticks
 abbrev pub tick_in : Pace → ℕ → Option ℕ

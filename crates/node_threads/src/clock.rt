@@ -1,5 +1,5 @@
 //! What the threads of a run wait by.
-ghost use Rattle.std.specs.Prelude.{◌≡◌};
+ghost use Rattle.std.specs.Prelude.{◌≡◌, IfOk};
 
 use crate::body::Beat;
 use crate::progress::Progress;
@@ -59,7 +59,9 @@ pub(crate) struct Clock {
 
 impl Clock {
     /// A clock for so many nodes, before their first step.
-    pub(crate) fn new(alloc: Global, pace: Pace, nodes: u32) -> Result<Clock, NoMemory> {
+    pub(crate) fn new(alloc: Global, pace: Pace, nodes: u32) -> Result<Clock, NoMemory>
+        ensures { IfOk result (λ clock. clock.pace ≡ pace) }
+    {
         let progress = Progress::new(alloc, nodes)?;
         Ok(Clock {
             pace,

@@ -10,6 +10,7 @@ mod job;
 mod laws;
 mod network;
 mod progress;
+mod promise;
 mod run;
 mod stops;
 

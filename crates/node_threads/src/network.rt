@@ -11,12 +11,14 @@ ghost use Rattle.node_threads.specs.Turns.{RunsByTurns, tick_in, time_of};
 use crate::body::Halt;
 use crate::clock::Clock;
 use crate::flight::Flight;
+use crate::promise::NetworkRun;
 use locked_buffers::{Post, Relay, RelayFault};
 use policies::{Choice, Policy};
 use round_meaning::Setup;
 use schedule_text::Pace;
 use slot_plans::Plan;
 use std::alloc::Global;
+use std::snapshot::Snapshot;
 use std::sync::Wait;
 use step_book::is_name;
 use step_machine::{Event, InFlight, Name};
@@ -216,8 +218,8 @@ impl<'a, P: Plan> Network<'a, P> {
         Ok(())
     }
 
-    /// Asks the policy until it chooses nothing. Without a tick it's told how many events were
-    /// recorded when the network last looked, with its own since.
+    /// Asks the policy until it chooses nothing, each time after it has learnt what was sent.
+    /// Without a tick the policy is told how many events were recorded by then.
     fn take_turn<R: Wait, Q: Policy>(
         &mut self,
         rt: &R,
@@ -236,13 +238,12 @@ impl<'a, P: Plan> Network<'a, P> {
             })) }
         ensures plan { OnOk result (self.new.plan ≡ self.old.plan) }
     {
-        let mut events = self.learn(rt)?;
         for _ in rt.forever() {
+            let events = self.learn(rt)?;
             let Some((choice, event)) = self.ask(rt, policy, now_of(tick, events))? else {
                 return Ok(());
             };
             self.carry_out(rt, choice, event)?;
-            events = events.saturating_add(1);
         }
         unreachable!()
     }
@@ -275,6 +276,19 @@ impl<'a, P: Plan> Network<'a, P> {
             tick = tick.saturating_add(1);
         }
         unreachable!()
+    }
+
+    /// What its thread promises if it runs by this clock and policy.
+    pub(crate) fn promise<Q: Policy>(&self, clock: &Clock, policy: &Q) -> NetworkRun<P, Q>
+        ensures plan { result.plan ≡ self.now.plan }
+        ensures pace { result.pace ≡ clock.now.pace }
+        ensures policy { result.policy.value ≡ policy.now }
+    {
+        NetworkRun {
+            plan: self.plan,
+            pace: clock.pace(),
+            policy: Snapshot::of(policy),
+        }
     }
 
     /// The thread, which ends after the nodes, or if it can't go on.

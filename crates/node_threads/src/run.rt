@@ -1,7 +1,9 @@
 //! Runs by threads.
 ghost use Rattle.std.specs.Prelude.{◌≡◌, ◌≢◌, ◌+◌, ◌∷◌, ◌++◌, ◌⊎◌, ◌↔◌, [], All, Err, IfErr, IfOk};
-ghost use Rattle.std.specs.Prelude.{None, OnOk, Some};
+ghost use Rattle.std.specs.Prelude.{IfSome, None, OnOk, Some};
+ghost use Rattle.std.specs.Thread.{IsSend, IsSync};
 ghost use Rattle.adversary.specs.Driving.{ClosedAreDue};
+ghost use Rattle.locked_buffers.specs.Accounts.{IsTold};
 ghost use Rattle.locked_buffers.specs.Runs.{IsBookOfRun};
 ghost use Rattle.round_meaning.specs.Agreement.{RunsAlgorithm1};
 ghost use Rattle.round_meaning.specs.Setups.{IsLawful};
@@ -10,6 +12,8 @@ ghost use Rattle.step_book.specs.Log.{mark_in, waiting_in};
 ghost use Rattle.node_threads.specs.Bodies.{SeatsEnded};
 ghost use Rattle.node_threads.specs.Ends.{AreBehind, HasOneDecision, HaveEnded, IsFitForThreads};
 ghost use Rattle.node_threads.specs.Faults.{IsOfThreads, told_fault, with_least};
+ghost use Rattle.node_threads.specs.Following.{FollowsPolicy};
+ghost use Rattle.node_threads.specs.Turns.{HasRun, nothing_known};
 ghost use Rattle.node_threads.specs.declared.ended.Ended.TheVariants as ended;
 
 use crate::body::Halt;
@@ -18,6 +22,7 @@ use crate::ended::Ended;
 use crate::fault::ThreadFault;
 use crate::job::{Job, ThreadEnd};
 use crate::network::Network;
+use crate::promise::NetworkRun;
 use crate::stops::{are_stops, stop_of};
 use adversary::RunFault;
 use locked_buffers::{Gate, Post, Relay, Seat};
@@ -30,7 +35,7 @@ use slot_plans::Plan;
 use std::alloc::Global;
 use std::sync::Wait;
 use std::thread;
-use std::thread::Threads;
+use std::thread::{PromisedHandle, Threads};
 use step_journal::Journal;
 
 /// What the threads gave back.
@@ -79,7 +84,33 @@ fn with_fault(fault: Option<ThreadFault>, other: ThreadFault) -> Option<ThreadFa
     }
 }
 
-/// Starts a thread for each job and one for the network, and joins them all.
+/// What the network's thread gives back once it's joined; if it wasn't started, nothing, and the
+/// nodes go on without it.
+fn join_network<R, P, Q>(
+    rt: &R,
+    clock: &Clock,
+    handle: Option<PromisedHandle<(Relay, Option<Halt>), NetworkRun<P, Q>>>,
+) -> Option<(Relay, Option<Halt>)>
+where
+    R: Threads + Wait,
+    P: Plan,
+    Q: Policy,
+    ensures kept { IfSome handle (λ h. IfSome result (λ gave. gave.1 ≡ None → HasRun Q.chooses
+        P.start (P.start h.promise.plan) h.promise.pace h.promise.policy.value nothing_known
+        gave.0)) }
+    ensures none { handle ≡ None → result ≡ None }
+{
+    match handle {
+        Some(handle) => Some(handle.join(rt)),
+        None => {
+            clock.close(rt);
+            None
+        }
+    }
+}
+
+/// Starts a thread for each job and one for the network, and joins them all. The network is one
+/// that knows of no message.
 fn run_all<'x, R, P, Q, G>(
     rt: &'x R,
     alloc: Global,
@@ -94,40 +125,54 @@ where
     P: Plan + Send + Sync,
     Q: Policy + Send + Drop,
     G: Gate + Sync,
+    requires flight { network.flight ≡ [] }
+    requires known { network.known ≡ 0 }
+    requires relay { network.relay ≡ nothing_known.told }
+    ensures { IfOk result (λ joined. HasRun Q.chooses P.start (P.start network.entry.plan)
+        clock.now.pace policy nothing_known joined.relay) }
 {
-    thread::scope(thread::scope_env(), rt, move |scope| {
-        let network = scope.spawn(move || network.run(rt, clock, policy));
-        let mut handles = Vec::new(alloc);
-        let mut thread_ends = Vec::new(alloc);
-        let mut fault = None;
-        for job in jobs {
-            let node = job.node();
-            match scope.spawn(move || job.run(rt, gate, clock)) {
-                Ok(handle) => {
-                    if handles.push(handle).is_err() {
-                        fault = with_fault(fault, ThreadFault::NoMemory);
+    thread::scope(
+        thread::scope_env(),
+        rt,
+        move |scope| -> Result<Joined<P>, ThreadFault>
+            requires crosses { IsSend P.row × IsSend Q.row × IsSync R.row × IsSync P.row
+                × IsSync G.row }
+            requires flight { network.flight ≡ [] }
+            requires known { network.known ≡ 0 }
+            requires relay { network.relay ≡ nothing_known.told }
+            ensures { IfOk result (λ joined. HasRun Q.chooses P.start (P.start network.entry.plan)
+                clock.entry.now.pace policy nothing_known joined.relay) }
+        {
+            let promise = network.promise(clock, &policy);
+            let network = scope
+                .spawn_with(promise, move || network.run(rt, clock, policy))
+                .ok();
+            let mut handles = Vec::new(alloc);
+            let mut thread_ends = Vec::new(alloc);
+            let mut fault = None;
+            for job in jobs {
+                let node = job.node();
+                match scope.spawn(move || job.run(rt, gate, clock)) {
+                    Ok(handle) => {
+                        if handles.push(handle).is_err() {
+                            fault = with_fault(fault, ThreadFault::NoMemory);
+                        }
+                    }
+                    Err(_) => {
+                        clock.leave(rt, node);
+                        fault = with_fault(fault, ThreadFault::NoThread);
                     }
                 }
-                Err(_) => {
-                    clock.leave(rt, node);
-                    fault = with_fault(fault, ThreadFault::NoThread);
+            }
+            let network = join_network(rt, clock, network);
+            for handle in handles {
+                if thread_ends.push(handle.join(rt)).is_err() {
+                    fault = with_fault(fault, ThreadFault::NoMemory);
                 }
             }
-        }
-        let network = match network {
-            Ok(network) => Some(network.join(rt)),
-            Err(_) => {
-                clock.close(rt);
-                None
-            }
-        };
-        for handle in handles {
-            if thread_ends.push(handle.join(rt)).is_err() {
-                fault = with_fault(fault, ThreadFault::NoMemory);
-            }
-        }
-        told(fault, network, thread_ends)
-    })
+            told(fault, network, thread_ends)
+        },
+    )
 }
 
 /// What is told of joined threads, by the fault that came up meanwhile and by what the network gave
@@ -202,6 +247,7 @@ fn journal_of<P: Plan>(
     requires plan { post.plan ≡ plan }
     requires rounds { post.setup.rounds ≡ rounds }
     ensures run { IfOk result (λ o. IsBookOfRun post o.0) }
+    ensures told { IfOk result (λ o. IsTold (P.start post.plan) o.0.log joined.relay) }
     ensures ends { IfOk result (λ o. HaveEnded (P.start post.plan) o.0.log stops.now o.1.items) }
     ensures behind { IfOk result (λ o. AreBehind (P.start plan (rounds + 1)) stops.now o.1.items) }
     ensures agrees { IfOk result (λ o. JournalAgrees (P.start o.0.plan) o.0.log
@@ -245,6 +291,7 @@ where
     ensures ends { IfOk result (λ o. HaveEnded (P.start plan) o.0.log stops.now o.1.items) }
     ensures behind { IfOk result (λ o. AreBehind (P.start plan (setup.now.rounds + 1)) stops.now
         o.1.items) }
+    ensures follows { IfOk result (λ o. FollowsPolicy Q.chooses P.start plan pace policy o.0.log) }
     ensures agrees { IfOk result (λ o. JournalAgrees (P.start o.0.plan) o.0.log
         (mark_in (P.start o.0.plan) o.0.log) (waiting_in (P.start o.0.plan) o.0.log)) }
 {
@@ -262,7 +309,8 @@ where
 /// The network asks its policy at the beginning, and then in each tick, or under the free pace
 /// whenever a node took a step or ended, until the policy chooses nothing or something that comes
 /// to no event. `now` is the tick, or under the free pace the number of recorded events, as far as
-/// the network knows them.
+/// the network knows them. The releases, drops and copies in the journal's trace are the events
+/// that came of the policy's answers, in their order.
 ///
 /// `stops` names for a node the number of steps after which its thread ends; the last entry for a
 /// node counts. A gate sees the threads pass their points.
@@ -304,6 +352,7 @@ where
         o.1.items) }
     ensures closed { IfOk result (λ o. All (λ e. e ≢ ended.NoMemory) o.1.items
         → ClosedAreDue (P.start plan) o.0.log) }
+    ensures follows { IfOk result (λ o. FollowsPolicy Q.chooses P.start plan pace policy o.0.log) }
     ensures agreement { IfOk result (λ o. RunsAlgorithm1 program.now setup.now
         → HasOneDecision o.0.log) }
 {

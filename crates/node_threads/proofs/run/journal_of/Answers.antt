@@ -1,9 +1,15 @@
 use Rattle.std.proofs.Common.{ℕ, ◌∙◌, ap, subst, sym}
-use Rattle.locked_buffers.specs.Accounts.{AccountsAgree}
+use Rattle.locked_buffers.specs.Accounts.{AccountsAgree, IsTold}
 use Rattle.round_meaning.specs.declared.setup.Setup.{Setup}
 use Rattle.node_threads.specs.Bodies.{SeatsEnded}
 use Rattle.node_threads.proofs.Ending.{have_ended}
 use Rattle.node_threads.proofs.run.journal_of.Goals as goal
+
+pub returns-in-Ok-clause-told : goal.returns-in-Ok-clause-told
+returns-in-Ok-clause-told g c =
+    let log = c.in-Ok.journal.log in
+    subst (λ (p : g.row.P.Denot). IsTold (g.P.Plan.start p) log c.args.joined.relay)
+    c.in-Ok.ensures.run.plan c.in-Ok.ensures.agree.told
 
 pub returns-in-Ok-clause-ends : goal.returns-in-Ok-clause-ends
 returns-in-Ok-clause-ends g c =

@@ -10,6 +10,6 @@ invariant-loop g l = record {
   turn : IsInTurn g.Q.Policy.chooses g.P.Plan.start (g.P.Plan.start l.fn.self.plan) l.tick
       l.fn.policy
       (record { flight = l.fn.self.flight; count = l.fn.self.known; told = l.fn.self.relay })
-      l.events l.policy
+      l.policy
       (record { flight = l.self.flight; count = l.self.known; told = l.self.relay });
 }
