@@ -11,10 +11,9 @@ use Rattle.command_runs.proofs.Refusing.{bad_schedule, read_as}
 use Rattle.command_runs.proofs.Telling.{last_nodes, last_write, not_in_turn}
 use Rattle.command_runs.specs.Refused.{IsDrawable, IsMissing, IsNotDrawn, IsNotOffered}
 use Rattle.command_runs.specs.Refused.{IsOpened as IsSourceOpened, IsRefusedCommand}
-use Rattle.command_runs.specs.Within.{IsPlan}
 use Rattle.command_runs.specs.Refused.{IsUndrawn, of_read}
-use Rattle.command_runs.specs.Served.{DrawsRun, IsProgramOf, IsShownOf, start_of}
-use Rattle.command_runs.specs.Stages.{IsDrawnAs, IsNotDrawnAs, StopsSchedule}
+use Rattle.command_runs.specs.Served.{DrawsRun, IsProgramOf, IsShownOf}
+use Rattle.command_runs.specs.Stages.{IsDrawnAs, StopsSchedule}
 use Rattle.command_runs.specs.Texts.{Files}
 use Rattle.command_runs.specs.declared.refusal.Refusal.{Refusal}
 use Rattle.command_runs.specs.declared.refusal.Refusal.TheVariants as refusal
@@ -28,10 +27,10 @@ use Rattle.schedule_text.specs.Readers.{IsOpened, Reading}
 use Rattle.schedule_text.specs.declared.fault.ScheduleFault.TheVariants as schedule
 use Rattle.schedule_text.specs.declared.kind.Kind.TheVariants as kinds
 use Rattle.schedule_text.specs.declared.source.TextFault.TheVariants as fault
-use Rattle.slot_plans.specs.Plan.{IsDelta, IsNodeCount}
+use Rattle.slot_plans.specs.Plan.{IsNodeCount}
 use Rattle.slot_plans.specs.declared.kind.PlanKind.{PlanKind}
-use Rattle.slot_plans.specs.declared.kind.PlanKind.TheVariants.{Growing, Known}
 use Rattle.step_machine.specs.declared.event.Event.{Event}
+use Rattle.slot_plans.specs.Named.{IsPlan, start_of}
 
 -- the text that was opened is the file's
 pub opened_in : (file : Option (List ℕ)) (text : List ℕ) (s : Setup) (k : PlanKind) (r : Reading)
@@ -55,69 +54,48 @@ missing_in None text r same h = nowhere text r h
 missing_in (Some held) text r same h =
     subst (λ (t : List ℕ). IsMissing kinds.Schedule (Some t) r) same h
 
--- what a run that would be drawn refuses
-pub undrawn_read : (p : ProgramTree) (s : Setup) (r : Reading) (d : Drawing) (f : ReadFault)
-    → IsShownOf s d → IsNotRead (IsLawful p.values s) s r f
-    → StopsSchedule (λ events x. IsNotDrawnAs p s events d x) s r (of_read f)
-undrawn_read p s r d (read.Text e) shown none = inl (e, refl, none)
-undrawn_read p s r d (read.Run run.NoMemory) shown none =
-    inl (fault.Schedule schedule.NoMemory, refl, λ held k begun. tt)
-undrawn_read p s r d (read.Run run.BadSetup) shown none =
-    inr (none.0, none.2, λ both. none.1 both.0)
-undrawn_read p s r d (read.Run (run.UnknownNode k)) shown none =
-    inr (none.0, none.2, (λ bad. bad (none.1.0, shown), none.1.1))
-undrawn_read p s r d (read.Run (run.UnknownMessage k)) shown none =
-    inr (none.0, none.2, (λ bad. bad (none.1.0, shown), none.1.1))
-undrawn_read p s r d (read.Run run.NoThread) shown none = absurd none.1.1
-undrawn_read p s r d (read.Run run.Unmatched) shown none = absurd none.1.1
+-- what a run that would be drawn refuses, under a plan within its limits
+module _ (p : ProgramTree) (s : Setup) (k : PlanKind) (r : Reading) (d : Drawing) (plan : IsPlan k)
+    (shown : IsShownOf s d) where
+  drawable : IsLawful p.values s → IsDrawable p s k d
+  drawable lawful = record { setup = lawful; plan = plan; shown = shown }
 
--- a run that was made isn't drawn for want of memory, or for its many events
-pub undrawn_report : (p : ProgramTree) (s : Setup) (r : Reading) (d : Drawing) (x : Refusal)
-    → IsLawful p.values s → IsShownOf s d
-    → ((events : List Event) × IsReadAs s r events)
-    → (x ≡ refusal.NoMemory) ⊎ (x ≡ refusal.TooManyEvents)
-    → StopsSchedule (λ events y. IsNotDrawnAs p s events d y) s r x
-undrawn_report p s r d x lawful shown ran (inl same) = inr (
-  ran.0,
-  ran.1,
-  subst (λ (y : Refusal). IsNotDrawnAs p s ran.0 d y) (sym same) tt,
-)
-undrawn_report p s r d x lawful shown ran (inr same) = inr (
-  ran.0,
-  ran.1,
-  subst (λ (y : Refusal). IsNotDrawnAs p s ran.0 d y) (sym same) (lawful, shown),
-)
+  pub undrawn_read : (f : ReadFault) → IsNotRead (IsLawful p.values s) s r f
+      → StopsSchedule (λ events x. IsNotDrawn p s k events d x) s r (of_read f)
+  undrawn_read (read.Text e) none = inl (e, refl, none)
+  undrawn_read (read.Run run.NoMemory) none =
+      inl (fault.Schedule schedule.NoMemory, refl, λ held k begun. tt)
+  undrawn_read (read.Run run.BadSetup) none = inr (none.0, none.2, λ is. none.1 is.setup)
+  undrawn_read (read.Run (run.UnknownNode n)) none =
+      inr (none.0, none.2, (λ bad. bad (drawable none.1.0), none.1.1))
+  undrawn_read (read.Run (run.UnknownMessage n)) none =
+      inr (none.0, none.2, (λ bad. bad (drawable none.1.0), none.1.1))
+  undrawn_read (read.Run run.NoThread) none = absurd none.1.1
+  undrawn_read (read.Run run.Unmatched) none = absurd none.1.1
+
+  -- a run that was made isn't drawn for want of memory, or for its many events
+  pub undrawn_report : (x : Refusal) → IsLawful p.values s
+      → ((events : List Event) × IsReadAs s r events)
+      → (x ≡ refusal.NoMemory) ⊎ (x ≡ refusal.TooManyEvents)
+      → StopsSchedule (λ events y. IsNotDrawn p s k events d y) s r x
+  undrawn_report x lawful ran (inl same) =
+      inr (ran.0, ran.1, subst (λ (y : Refusal). IsNotDrawn p s k ran.0 d y) (sym same) tt)
+  undrawn_report x lawful ran (inr same) = inr (
+    ran.0,
+    ran.1,
+    subst (λ (y : Refusal). IsNotDrawn p s k ran.0 d y) (sym same) (drawable lawful),
+  )
 
 -- what holds whatever the answer is
 pub drawn_always : {T E P : Type 0} (r : Result T E) → P → IfOk r (λ _. P)
 drawn_always (Ok x) h = h
 drawn_always (Err e) h = tt
 
--- under a plan within its limits
-pub not_drawn : (p : ProgramTree) (s : Setup) (k : PlanKind) (events : List Event) (d : Drawing)
-    (r : Refusal) → IsPlan k → IsNotDrawnAs p s events d r → IsNotDrawn p s k events d r
-not_drawn p s k events d (refusal.Run run.BadSetup) plan none = λ is. none (is.setup, is.shown)
-not_drawn p s k events d (refusal.Run (run.UnknownNode n)) plan none =
-    (λ bad. none.0 (λ both. bad (record { setup = both.0; plan = plan; shown = both.1 })), none.1)
-not_drawn p s k events d (refusal.Run (run.UnknownMessage n)) plan none =
-    (λ bad. none.0 (λ both. bad (record { setup = both.0; plan = plan; shown = both.1 })), none.1)
-not_drawn p s k events d (refusal.Run run.NoMemory) plan none = absurd none.1
-not_drawn p s k events d (refusal.Run run.NoThread) plan none = absurd none.1
-not_drawn p s k events d (refusal.Run run.Unmatched) plan none = absurd none.1
-not_drawn p s k events d refusal.TooManyEvents plan none =
-    record { setup = none.0; plan = plan; shown = none.1 }
-not_drawn p s k events d refusal.NoMemory plan none = tt
-not_drawn p s k events d r plan none = absurd none
-
 -- if there is no plan, the setup is bad
-pub no_known_picture : (p : ProgramTree) (s : Setup) (delta : ℕ) (d : Drawing)
-    → ¬ (IsNodeCount s.nodes × IsDelta delta) → ¬ (IsDrawable p s (Known delta) d)
-no_known_picture p s delta d none is =
+pub no_picture : (p : ProgramTree) (s : Setup) (k : PlanKind) (d : Drawing)
+    → ¬ (IsNodeCount s.nodes × IsPlan k) → ¬ (IsDrawable p s k d)
+no_picture p s k d none is =
     none ((is.setup.sized.some_node, is.setup.sized.few_nodes), is.plan)
-
-pub no_growing_picture : (p : ProgramTree) (s : Setup) (d : Drawing) → ¬ (IsNodeCount s.nodes)
-    → ¬ (IsDrawable p s Growing d)
-no_growing_picture p s d none is = none (is.setup.sized.some_node, is.setup.sized.few_nodes)
 
 -- the run of a schedule that is read is that of its file
 pub draws_run : (source : Source) (files : Files) (p : ProgramTree) (s : Setup) (k : PlanKind)

@@ -15,7 +15,6 @@ use Rattle.command_runs.specs.InRounds.{outcome_of, shown_by, trace_of}
 use Rattle.command_runs.specs.Refused.{IsRefusedCommand}
 use Rattle.command_runs.specs.Refused.{IsUnexplored}
 use Rattle.command_runs.specs.Served.{FindsIn, HasTrace, IsHeader, IsProgramOf, TellsOfAll}
-use Rattle.command_runs.specs.Served.{receives_of, start_of}
 use Rattle.command_runs.specs.Within.{IsExplored}
 use Rattle.command_runs.specs.Stages.{HoldsText, WritesText}
 use Rattle.command_runs.specs.Texts.{Files}
@@ -50,6 +49,7 @@ use Rattle.schedule_text.proofs.Split.{is_plain, lines-first, plain-append, plai
 use Rattle.schedule_text.specs.declared.kind.Kind.TheVariants as kinds
 use Rattle.slot_plans.specs.declared.kind.PlanKind.{PlanKind}
 use Rattle.step_machine.specs.declared.event.Event.{Event}
+use Rattle.slot_plans.specs.Named.{receives_of, start_of}
 
 -- ---- the schedule that shows a failure
 

@@ -1,5 +1,5 @@
 -- What a program of the library is offered for is within its limits.
-use Rattle.std.proofs.Common.{ℕ, ◌<◌, ◌≤◌, ◌⊎◌, arith, inl, inr}
+use Rattle.std.proofs.Common.{ℕ, ◌≤◌, arith, inl, inr}
 use Rattle.std.proofs.lemmas.Bool.{cases_lt}
 use Rattle.algorithm_library.specs.Refusals.{IsWithin}
 use Rattle.round_meaning.specs.Setups.{max_faults, max_nodes}

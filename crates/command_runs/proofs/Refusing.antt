@@ -1,29 +1,28 @@
 -- From what each layer refuses to the causes of a command's refusal.
 use Rattle.std.proofs.Common.{◌≡◌, ◌≢◌, ◌⊎◌, inl, inr, ℕ, ◌+◌, ◌<◌, ◌≤◌, All, List, [], Option}
-use Rattle.std.proofs.Common.{Some, None, Result, Ok, Err, length, take, refl, sym, ap, ◌∙◌, subst}
+use Rattle.std.proofs.Common.{Some, None, Result, Ok, Err, length, refl, sym, ap, ◌∙◌, subst}
 use Rattle.std.proofs.Common.{arith}
 use Rattle.std.specs.Prelude.{◌++◌, IfErr, IfSome, IsErrAnd, true}
-use Rattle.std.specs.Str.{IsUtf8}
 use Rattle.adversary.specs.Reading.{IsNotRead, IsReadAs}
 use Rattle.adversary.specs.declared.fault.ReadFault.{ReadFault}
 use Rattle.adversary.specs.declared.fault.ReadFault.TheVariants as read
 use Rattle.adversary.specs.declared.fault.RunFault.TheVariants as run
 use Rattle.command_runs.specs.Refused.{Fault, HasNoText, IsBadText, IsMissing, IsNoProgram}
-use Rattle.command_runs.specs.Refused.{IsNoSource}
+use Rattle.command_runs.specs.Refused.{IsNoSource, no_fault}
 use Rattle.command_runs.specs.Refused.{IsNotOffered, IsOpened as IsSourceOpened, IsUnanswered}
 use Rattle.command_runs.specs.Refused.{IsNotRun, IsRunnable, of_check, of_read, of_schedule}
-use Rattle.command_runs.specs.Within.{IsPlan}
 use Rattle.command_runs.specs.Refused.{of_source, of_text}
-use Rattle.command_runs.specs.Served.{IsCheckedSource, IsOfKind, IsProgramOf, IsSchedule}
-use Rattle.command_runs.specs.Stages.{IsBadSchedule, IsNoProgramIn, IsNoProgramOf}
-use Rattle.command_runs.specs.Stages.{IsNoReadOf, IsNotRunAs, IsProgramIn, IsReadIn, IsToldAfter}
-use Rattle.command_runs.specs.Stages.{IsUnread, IsUnreadIn, StopsSchedule}
-use Rattle.command_runs.specs.Texts.{Files, IsTextOf}
+use Rattle.command_runs.specs.Served.{IsCheckedSource, IsOfKind, IsOmissionText, IsProgramOf}
+use Rattle.command_runs.specs.Served.{IsSchedule}
+use Rattle.omission_texts.specs.Texts.{Says as SaysOmissions}
+use Rattle.omission_texts.specs.declared.line.OmissionLine.{OmissionLine}
+use Rattle.command_runs.specs.Stages.{IsBadSchedule, IsNoProgramOf, IsNoReadOf}
+use Rattle.command_runs.specs.Stages.{IsToldAfter, IsUnread, StopsSchedule}
+use Rattle.command_runs.specs.Texts.{Files, HoldsWhole}
+use Rattle.command_runs.specs.Unshown.{HasNoSource}
 use Rattle.command_runs.specs.declared.refusal.Refusal.{Refusal}
 use Rattle.command_runs.specs.declared.refusal.Refusal.TheVariants as refusal
 use Rattle.command_words.specs.declared.values.Source.{Source}
-use Rattle.command_runs.specs.declared.texts.Text.{Text}
-use Rattle.command_runs.specs.declared.texts.Text.TheVariants as text
 use Rattle.round_check.proofs.Facts.{typed-none}
 use Rattle.round_check.specs.Causes.{fault_of, is_typed}
 use Rattle.round_check.specs.declared.fault.CheckFault.{CheckFault}
@@ -35,7 +34,7 @@ use Rattle.round_lang.specs.declared.fault.LangFault.{LangFault}
 use Rattle.round_lang.specs.declared.fault.LangFault.TheVariants as lang
 use Rattle.round_meaning.specs.Setups.{IsLawful, max_nodes}
 use Rattle.round_meaning.specs.declared.setup.Setup.{Setup}
-use Rattle.schedule_text.specs.Bytes.{BeginsUtf8, IsLongText, IsNoText, IsText}
+use Rattle.schedule_text.specs.Bytes.{IsLongText, IsNoText, IsText}
 use Rattle.schedule_text.specs.Outcome.{IsReadOf}
 use Rattle.schedule_text.specs.Readings.{IsReadingOf, ReadOf}
 use Rattle.schedule_text.specs.Texts.{SaysOf, Tail, max_text as max_schedule}
@@ -47,10 +46,10 @@ use Rattle.schedule_text.specs.declared.source.TextFault.{TextFault}
 use Rattle.schedule_text.specs.declared.source.TextFault.TheVariants as fault
 use Rattle.schedule_text.specs.declared.fault.ScheduleFault.{ScheduleFault}
 use Rattle.schedule_text.specs.declared.fault.ScheduleFault.TheVariants as schedule
-use Rattle.slot_plans.specs.Plan.{IsDelta, IsNodeCount}
+use Rattle.slot_plans.specs.Plan.{IsNodeCount}
 use Rattle.slot_plans.specs.declared.kind.PlanKind.{PlanKind}
-use Rattle.slot_plans.specs.declared.kind.PlanKind.TheVariants.{Growing, Known}
 use Rattle.step_machine.specs.declared.event.Event.{Event}
+use Rattle.slot_plans.specs.Named.{IsPlan}
 
 -- what follows from the error that a `?` hands on
 pub err_then : {T E : Type 0} (r : Result T E) (Q P : E → Type 0) → IsErrAnd r Q
@@ -58,110 +57,51 @@ pub err_then : {T E : Type 0} (r : Result T E) (Q P : E → Type 0) → IsErrAnd
 err_then (Ok x) Q P h f = tt
 err_then (Err y) Q P h f = f y h
 
--- a file that fits and isn't UTF-8 is no text, and neither is a longer one that doesn't begin as
--- one
-pub no_whole_text : (limit : ℕ) (held bytes : List ℕ) → length held ≤ limit → bytes ≡ held
-    → ¬ (IsUtf8 bytes) → IsNoText limit held
-no_whole_text limit held bytes short same none = (
-  λ t. none (subst IsUtf8 (sym same) t.utf8),
-  λ t. let long : limit < length held = t.long in
-      absurd (omega arith),
-)
-
-pub no_long_text : (limit : ℕ) (held bytes : List ℕ) → limit < length held
-    → bytes ≡ take (limit + 1) held → ¬ (BeginsUtf8 bytes) → IsNoText limit held
-no_long_text limit held bytes long same none = (
-  λ t. let short : length held ≤ limit = t.short in
-      absurd (omega arith),
-  λ t. none (subst BeginsUtf8 (sym same) t.utf8),
-)
-
-pub whole_text : (limit : ℕ) (held bytes : List ℕ) → length held ≤ limit → bytes ≡ held
-    → IsUtf8 bytes → IsText limit held
-whole_text limit held bytes short same utf8 =
-    record { short = short; utf8 = subst IsUtf8 same utf8 }
-
-pub long_text : (limit : ℕ) (held bytes : List ℕ) → limit < length held
-    → bytes ≡ take (limit + 1) held → BeginsUtf8 bytes → IsLongText limit held
-long_text limit held bytes long same utf8 =
-    record { long = long; utf8 = subst BeginsUtf8 same utf8 }
-
--- the program of what was read is the file's
-pub program_read : (t : Text) (held : List ℕ) (p : ProgramTree) → IsTextOf max_text t held
-    → IsProgramIn t p → IsCheckedSource held p
-program_read (text.Whole bytes) held p is has = record {
-  fits = whole_text max_text held bytes.items is.0 is.1 has.0;
-  source = subst (λ h. IsSource h p) is.1 has.1;
-  typed = has.2;
-}
-program_read (text.Longer bytes) held p is has = absurd has
-
-pub file_program : (file : Option (List ℕ)) (t : Text) (p : ProgramTree)
-    → IfSome file (IsTextOf max_text t) → IsProgramIn t p
+-- the program of the text that a file has is the file's
+pub file_program : (file : Option (List ℕ)) (text : List ℕ) (p : ProgramTree)
+    → HoldsWhole max_text file text → IsSource text p × (is_typed p ≡ true)
     → IfSome file (λ held. IsCheckedSource held p)
-file_program None t p is has = tt
-file_program (Some held) t p is has = program_read t held p is has
+file_program None text p has is = tt
+file_program (Some held) text p has is = record {
+  fits = has.0;
+  source = subst (λ h. IsSource h p) has.1 is.0;
+  typed = is.1;
+}
 
-source_read : (bytes held : List ℕ) (f : LangFault) → length held ≤ max_text → bytes ≡ held
-    → IsUtf8 bytes → IsNoProgramOf bytes (refusal.Source f) → IsNoSource held f
-source_read bytes held (lang.BadToken span) short same utf8 none = (
-  whole_text max_text held bytes short same utf8,
-  λ p is. none p
-      (subst (λ h. IsSource h p) (sym same) is),
-)
-source_read bytes held (lang.Unexpected span) short same utf8 none = (
-  whole_text max_text held bytes short same utf8,
-  λ p is. none p
-      (subst (λ h. IsSource h p) (sym same) is),
-)
-source_read bytes held lang.TooDeep short same utf8 none = (
-  whole_text max_text held bytes short same utf8,
-  λ p is. none p
-      (subst (λ h. IsSource h p) (sym same) is),
-)
-source_read bytes held lang.TooLong short same utf8 none =
-    let long : max_text < length held =
-    subst (λ h. max_text < length h) same none in absurd (omega arith)
-source_read bytes held (lang.LimitPassed span) short same utf8 none = (
-  whole_text max_text held bytes short same utf8,
-  λ p is. none p
-      (subst (λ h. IsSource h p) (sym same) is),
-)
-source_read bytes held lang.NoMemory short same utf8 none = absurd none
+-- and why there is none in it
+source_read : (text held : List ℕ) (f : LangFault) → IsText max_text held → text ≡ held
+    → IsNoProgramOf text (refusal.Source f) → IsNoSource held f
+source_read text held (lang.BadToken span) fits same none =
+    (fits, λ p is. none p (subst (λ h. IsSource h p) (sym same) is))
+source_read text held (lang.Unexpected span) fits same none =
+    (fits, λ p is. none p (subst (λ h. IsSource h p) (sym same) is))
+source_read text held lang.TooDeep fits same none =
+    (fits, λ p is. none p (subst (λ h. IsSource h p) (sym same) is))
+source_read text held lang.TooLong fits same none =
+    let long : max_text < length held = subst (λ h. max_text < length h) same none in
+    let short : length held ≤ max_text = fits.short in absurd (omega (arith, long, short))
+source_read text held (lang.LimitPassed span) fits same none =
+    (fits, λ p is. none p (subst (λ h. IsSource h p) (sym same) is))
+source_read text held lang.NoMemory fits same none = absurd none
 
--- why a file has no program, from why there is none in what was read of it
-pub no_file_program : (file : Option (List ℕ)) (t : Text) (r : Refusal)
-    → IfSome file (IsTextOf max_text t) → IsNoProgramIn t r → IsNoProgram file r
-no_file_program file (text.Whole bytes) (refusal.Words f) is none = absurd none.1
-no_file_program file (text.Whole bytes) (refusal.Condition f) is none = absurd none.1
-no_file_program file (text.Whole bytes) (refusal.Schedule f) is none = absurd none.1
-no_file_program file (text.Whole bytes) (refusal.Library f) is none = absurd none.1
-no_file_program file (text.Whole bytes) refusal.NoSuchProgram is none = absurd none.1
-no_file_program file (text.Whole bytes) (refusal.Part cause) is none = absurd none.1
-no_file_program file (text.Whole bytes) refusal.TooManyEvents is none = absurd none.1
-no_file_program file (text.Whole bytes) refusal.NoVariable is none = absurd none.1
-no_file_program file (text.Whole bytes) (refusal.Run f) is none = absurd none.1
-no_file_program file (text.Whole bytes) refusal.Write is none = absurd none.1
-no_file_program file (text.Whole bytes) refusal.NodeNoMemory is none = absurd none.1
-no_file_program file (text.Whole bytes) refusal.NoMemory is none = tt
-no_file_program None (text.Whole bytes) refusal.File is none = tt
-no_file_program (Some held) (text.Whole bytes) refusal.File is none =
-    no_whole_text max_text held bytes.items is.0 is.1 none
-no_file_program None (text.Whole bytes) (refusal.Source f) is none = tt
-no_file_program (Some held) (text.Whole bytes) (refusal.Source f) is none =
-    source_read bytes.items held f is.0 is.1 none.0 none.1
-no_file_program None (text.Whole bytes) (refusal.Check f) is none = tt
-no_file_program (Some held) (text.Whole bytes) (refusal.Check f) is none = (
-  whole_text max_text held bytes.items is.0 is.1 none.0,
-  (none.1.0, subst (λ h. IsSource h none.1.0) is.1 none.1.1, none.1.2),
-)
-no_file_program None (text.Longer bytes) refusal.File is none = tt
-no_file_program (Some held) (text.Longer bytes) refusal.File is none =
-    no_long_text max_text held bytes.items is.0 is.1 none
-no_file_program None (text.Longer bytes) (refusal.Source lang.TooLong) is none = tt
-no_file_program (Some held) (text.Longer bytes) (refusal.Source lang.TooLong) is none =
-    long_text max_text held bytes.items is.0 is.1 none
-no_file_program file (text.Longer bytes) r is none = absurd none
+pub no_file_program : (file : Option (List ℕ)) (text : List ℕ) (r : Refusal)
+    → HoldsWhole max_text file text → IsNoProgramOf text r → IsNoProgram file r
+no_file_program None text (refusal.Source f) has none = tt
+no_file_program (Some held) text (refusal.Source f) has none =
+    source_read text held f has.0 has.1 none
+no_file_program None text (refusal.Check f) has none = tt
+no_file_program (Some held) text (refusal.Check f) has none =
+    (has.0, (none.0, subst (λ h. IsSource h none.0) has.1 none.1, none.2))
+no_file_program file text refusal.NoMemory has none = tt
+no_file_program file text r has none = absurd none
+
+-- a file without a text has no program
+pub no_source_text : (file : Option (List ℕ)) (r : Refusal) → HasNoSource file r
+    → IsNoProgram file r
+no_source_text file refusal.File none = none
+no_source_text file (refusal.Source lang.TooLong) none = none
+no_source_text file refusal.NoMemory none = tt
+no_source_text file r none = absurd none
 
 -- what `parse` refuses
 pub no_source : (held : List ℕ) (f : LangFault)
@@ -201,65 +141,57 @@ pub no_check : (A : Type 0) (held : List ℕ) (p : ProgramTree) (f : CheckFault)
 no_check A held p f is same typed =
     untyped held p f is (check_fault A p f (fault_of p) refl same typed)
 
--- what was read as a text of a kind is what its file says
-pub file_text : (kind : Kind) (file : Option (List ℕ)) (t : Text) (s : Setup) (k : PlanKind)
-    (tail : Tail kind) → IfSome file (IsTextOf max_schedule t) → IsReadIn kind t s k tail
+-- what a text says as one of a kind is what its file says
+pub file_text : (kind : Kind) (file : Option (List ℕ)) (text : List ℕ) (s : Setup) (k : PlanKind)
+    (tail : Tail kind) → HoldsWhole max_schedule file text → SaysOf kind text s k tail
     → IfSome file (λ held. IsOfKind kind held s k tail)
-file_text kind None t s k tail is has = tt
-file_text kind (Some held) (text.Whole bytes) s k tail is has = record {
-  fits = whole_text max_schedule held bytes.items is.0 is.1 has.0;
-  says = subst (λ h. SaysOf kind h s k tail) is.1 has.1;
-}
-file_text kind (Some held) (text.Longer bytes) s k tail is has = absurd has
+file_text kind None text s k tail has says = tt
+file_text kind (Some held) text s k tail has says =
+    record { fits = has.0; says = subst (λ h. SaysOf kind h s k tail) has.1 says }
 
-text_read : (HasFault : Fault) (bytes held : List ℕ) (f : ScheduleFault)
-    → length held ≤ max_schedule → bytes ≡ held → IsUtf8 bytes
-    → IsUnread HasFault bytes (refusal.Schedule f)
+pub omission_text : (file : Option (List ℕ)) (text : List ℕ) (ls : List OmissionLine)
+    → HoldsWhole max_schedule file text → SaysOmissions text ls
+    → IfSome file (λ held. IsOmissionText held ls)
+omission_text None text ls has says = tt
+omission_text (Some held) text ls has says =
+    record { fits = has.0; says = subst (λ h. SaysOmissions h ls) has.1 says }
+
+-- and why it says nothing
+text_read : (HasFault : Fault) (text held : List ℕ) (f : ScheduleFault)
+    → IsText max_schedule held → text ≡ held → IsUnread HasFault text (refusal.Schedule f)
     → IsBadText HasFault held f
-text_read HasFault bytes held (schedule.BadLine n) short same utf8 none = (
-  whole_text max_schedule held bytes short same utf8,
-  subst
-      (λ h. HasFault h (schedule.BadLine n)) same none,
-)
-text_read HasFault bytes held (schedule.NumberTooLarge n) short same utf8 none = (
-  whole_text max_schedule held bytes short same utf8,
-  subst
-      (λ h. HasFault h (schedule.NumberTooLarge n)) same none,
-)
-text_read HasFault bytes held schedule.TooLong short same utf8 none =
-    let long : max_schedule < length held =
-    subst (λ h. max_schedule < length h) same none in absurd (omega arith)
-text_read HasFault bytes held schedule.NoMemory short same utf8 none = absurd none
+text_read HasFault text held (schedule.BadLine n) fits same none =
+    (fits, subst (λ h. HasFault h (schedule.BadLine n)) same none)
+text_read HasFault text held (schedule.NumberTooLarge n) fits same none =
+    (fits, subst (λ h. HasFault h (schedule.NumberTooLarge n)) same none)
+text_read HasFault text held schedule.TooLong fits same none =
+    let long : max_schedule < length held = subst (λ h. max_schedule < length h) same none in
+    let short : length held ≤ max_schedule = fits.short in absurd (omega (arith, long, short))
+text_read HasFault text held schedule.NoMemory fits same none = absurd none
 
--- why there is no text in a file, from why there is none in what was read of it
-pub no_text : (HasFault : Fault) (file : Option (List ℕ)) (t : Text) (r : Refusal)
-    → IfSome file (IsTextOf max_schedule t) → IsUnreadIn HasFault t r → HasNoText HasFault file r
-no_text HasFault file (text.Whole bytes) (refusal.Words f) is none = absurd none.1
-no_text HasFault file (text.Whole bytes) (refusal.Source f) is none = absurd none.1
-no_text HasFault file (text.Whole bytes) (refusal.Check f) is none = absurd none.1
-no_text HasFault file (text.Whole bytes) (refusal.Condition f) is none = absurd none.1
-no_text HasFault file (text.Whole bytes) (refusal.Library f) is none = absurd none.1
-no_text HasFault file (text.Whole bytes) refusal.NoSuchProgram is none = absurd none.1
-no_text HasFault file (text.Whole bytes) (refusal.Part cause) is none = absurd none.1
-no_text HasFault file (text.Whole bytes) refusal.TooManyEvents is none = absurd none.1
-no_text HasFault file (text.Whole bytes) refusal.NoVariable is none = absurd none.1
-no_text HasFault file (text.Whole bytes) (refusal.Run f) is none = absurd none.1
-no_text HasFault file (text.Whole bytes) refusal.Write is none = absurd none.1
-no_text HasFault file (text.Whole bytes) refusal.NodeNoMemory is none = absurd none.1
-no_text HasFault file (text.Whole bytes) refusal.NoMemory is none = tt
-no_text HasFault None (text.Whole bytes) refusal.File is none = tt
-no_text HasFault (Some held) (text.Whole bytes) refusal.File is none =
-    no_whole_text max_schedule held bytes.items is.0 is.1 none
-no_text HasFault None (text.Whole bytes) (refusal.Schedule f) is none = tt
-no_text HasFault (Some held) (text.Whole bytes) (refusal.Schedule f) is none =
-    text_read HasFault bytes.items held f is.0 is.1 none.0 none.1
-no_text HasFault None (text.Longer bytes) refusal.File is none = tt
-no_text HasFault (Some held) (text.Longer bytes) refusal.File is none =
-    no_long_text max_schedule held bytes.items is.0 is.1 none
-no_text HasFault None (text.Longer bytes) (refusal.Schedule schedule.TooLong) is none = tt
-no_text HasFault (Some held) (text.Longer bytes) (refusal.Schedule schedule.TooLong) is none =
-    long_text max_schedule held bytes.items is.0 is.1 none
-no_text HasFault file (text.Longer bytes) r is none = absurd none
+pub no_text : (HasFault : Fault) (file : Option (List ℕ)) (text : List ℕ) (r : Refusal)
+    → HoldsWhole max_schedule file text → IsUnread HasFault text r → HasNoText HasFault file r
+no_text HasFault None text (refusal.Schedule f) has none = tt
+no_text HasFault (Some held) text (refusal.Schedule f) has none =
+    text_read HasFault text held f has.0 has.1 none
+no_text HasFault file text refusal.NoMemory has none = tt
+no_text HasFault file text r has none = absurd none
+
+-- a file without a text has none of any kind
+no_bad_text : (HasFault : Fault) (held : List ℕ) (f : ScheduleFault) → IsBadText no_fault held f
+    → IsBadText HasFault held f
+no_bad_text HasFault held (schedule.BadLine n) none = absurd none.1
+no_bad_text HasFault held (schedule.NumberTooLarge n) none = absurd none.1
+no_bad_text HasFault held schedule.TooLong none = none
+no_bad_text HasFault held schedule.NoMemory none = none
+
+pub no_text_of : (HasFault : Fault) (file : Option (List ℕ)) (r : Refusal)
+    → HasNoText no_fault file r → HasNoText HasFault file r
+no_text_of HasFault file refusal.File none = none
+no_text_of HasFault None (refusal.Schedule f) none = tt
+no_text_of HasFault (Some held) (refusal.Schedule f) none = no_bad_text HasFault held f none
+no_text_of HasFault file refusal.NoMemory none = tt
+no_text_of HasFault file r none = absurd none
 
 -- why a file has no schedule, from why its reading piece by piece gave none
 pub no_schedule : (file left : Option (List ℕ)) (f : TextFault) → left ≡ file → IsNoSchedule left f
@@ -292,25 +224,31 @@ no_read kind show held (schedule.NumberTooLarge n) said long = said
 no_read kind show held schedule.TooLong said long = long refl
 no_read kind show held schedule.NoMemory said long = tt
 
--- what a run of a schedule that is read refuses, where Fits says that its numbers are within their
--- limits
-pub no_run : (Fits : Type 0) (p : ProgramTree) (s : Setup) (r : Reading) (correct : List ℕ)
-    (f : ReadFault)
+-- what a run of a schedule that is read refuses under a plan within its limits, where Fits says
+-- that its other numbers are
+pub no_run : (Fits : Type 0) (p : ProgramTree) (s : Setup) (k : PlanKind) (r : Reading)
+    (correct : List ℕ) (f : ReadFault) → IsPlan k
     → ((IsLawful p.values s × All (λ n. n < s.nodes) correct) → Fits)
     → (Fits → IsLawful p.values s × All (λ n. n < s.nodes) correct)
-    → IsNotRead Fits s r f → StopsSchedule (λ events x. IsNotRunAs p s events correct x) s r
+    → IsNotRead Fits s r f → StopsSchedule (λ events x. IsNotRun p s k events correct x) s r
     (of_read f)
-no_run Fits p s r correct (read.Text e) to from none = inl (e, refl, none)
-no_run Fits p s r correct (read.Run run.NoMemory) to from none =
+no_run Fits p s k r correct (read.Text e) plan to from none = inl (e, refl, none)
+no_run Fits p s k r correct (read.Run run.NoMemory) plan to from none =
     inl (fault.Schedule schedule.NoMemory, refl, λ held k begun. tt)
-no_run Fits p s r correct (read.Run run.BadSetup) to from none =
-    inr (none.0, none.2, λ both. none.1 (to both))
-no_run Fits p s r correct (read.Run (run.UnknownNode k)) to from none =
-    inr (none.0, none.2, (λ bad. bad (from none.1.0), none.1.1))
-no_run Fits p s r correct (read.Run (run.UnknownMessage k)) to from none =
-    inr (none.0, none.2, (λ bad. bad (from none.1.0), none.1.1))
-no_run Fits p s r correct (read.Run run.NoThread) to from none = absurd none.1.1
-no_run Fits p s r correct (read.Run run.Unmatched) to from none = absurd none.1.1
+no_run Fits p s k r correct (read.Run run.BadSetup) plan to from none =
+    inr (none.0, none.2, λ is. none.1 (to (is.setup, is.listed)))
+no_run Fits p s k r correct (read.Run (run.UnknownNode n)) plan to from none =
+    let both = from none.1.0 in
+    let is : IsRunnable p s k correct =
+    record { setup = both.0; plan = plan; listed = both.1 } in
+    inr (none.0, none.2, (λ bad. bad is, none.1.1))
+no_run Fits p s k r correct (read.Run (run.UnknownMessage n)) plan to from none =
+    let both = from none.1.0 in
+    let is : IsRunnable p s k correct =
+    record { setup = both.0; plan = plan; listed = both.1 } in
+    inr (none.0, none.2, (λ bad. bad is, none.1.1))
+no_run Fits p s k r correct (read.Run run.NoThread) plan to from none = absurd none.1.1
+no_run Fits p s k r correct (read.Run run.Unmatched) plan to from none = absurd none.1.1
 
 -- numbers that are within their limits in another way
 pub fits_as : (A B : Type 0) (s : Setup) (r : Reading) (f : ReadFault) → (A → B) → (B → A)
@@ -348,13 +286,6 @@ told_after Cause s r refused told cause (inl t) =
     )
 told_after Cause s r refused told cause (inr t) =
     inl (t.0, t.1, λ held k begun. t.2 held s k (last_events r) begun)
-
--- another cause of it
-pub stops_as : (Cause Other : List Event → Refusal → Type 0) (s : Setup) (r : Reading) (x : Refusal)
-    → ((events : List Event) → Cause events x → Other events x) → StopsSchedule Cause s r x
-    → StopsSchedule Other s r x
-stops_as Cause Other s r x turn (inl bad) = inl bad
-stops_as Cause Other s r x turn (inr h) = inr (h.0, h.1, turn h.0 h.2)
 
 -- and what a file's schedule is refused for
 pub bad_schedule : (file : Option (List ℕ)) (s : Setup) (k : PlanKind) (r : Reading) (x : Refusal)
@@ -402,41 +333,11 @@ unanswered_offer source files s k r correct x file opened begun (inl bad) =
 unanswered_offer source files s k r correct x file opened begun (inr h) =
     inr (inr (opened, (s, k, h.0, read_as file s k r h.0 begun h.1, inl h.2)))
 
--- under a plan within its limits
-pub not_run : (p : ProgramTree) (s : Setup) (k : PlanKind) (events : List Event) (correct : List ℕ)
-    (r : Refusal) → IsPlan k → IsNotRunAs p s events correct r → IsNotRun p s k events correct r
-not_run p s k events correct (refusal.Run run.BadSetup) plan none = λ is. none (is.setup, is.listed)
-not_run p s k events correct (refusal.Run (run.UnknownNode n)) plan none =
-    (λ bad. none.0 (λ both. bad (record { setup = both.0; plan = plan; listed = both.1 })), none.1)
-not_run p s k events correct (refusal.Run (run.UnknownMessage n)) plan none =
-    (λ bad. none.0 (λ both. bad (record { setup = both.0; plan = plan; listed = both.1 })), none.1)
-not_run p s k events correct (refusal.Run run.NoMemory) plan none = absurd none.1
-not_run p s k events correct (refusal.Run run.NoThread) plan none = absurd none.1
-not_run p s k events correct (refusal.Run run.Unmatched) plan none = absurd none.1
-not_run p s k events correct refusal.NoMemory plan none = tt
-not_run p s k events correct (refusal.Words f) plan none = absurd none
-not_run p s k events correct refusal.File plan none = absurd none
-not_run p s k events correct (refusal.Source f) plan none = absurd none
-not_run p s k events correct (refusal.Check f) plan none = absurd none
-not_run p s k events correct (refusal.Condition f) plan none = absurd none
-not_run p s k events correct (refusal.Schedule f) plan none = absurd none
-not_run p s k events correct (refusal.Library f) plan none = absurd none
-not_run p s k events correct refusal.NoSuchProgram plan none = absurd none
-not_run p s k events correct (refusal.Part cause) plan none = absurd none
-not_run p s k events correct refusal.TooManyEvents plan none = absurd none
-not_run p s k events correct refusal.NoVariable plan none = absurd none
-not_run p s k events correct refusal.Write plan none = absurd none
-not_run p s k events correct refusal.NodeNoMemory plan none = absurd none
-
 -- if there is no plan, the setup is bad
-pub no_known_plan : (p : ProgramTree) (s : Setup) (delta : ℕ) (correct : List ℕ)
-    → ¬ (IsNodeCount s.nodes × IsDelta delta) → ¬ (IsRunnable p s (Known delta) correct)
-no_known_plan p s delta correct none is =
+pub no_plan : (p : ProgramTree) (s : Setup) (k : PlanKind) (correct : List ℕ)
+    → ¬ (IsNodeCount s.nodes × IsPlan k) → ¬ (IsRunnable p s k correct)
+no_plan p s k correct none is =
     none ((is.setup.sized.some_node, is.setup.sized.few_nodes), is.plan)
-
-pub no_growing_plan : (p : ProgramTree) (s : Setup) (correct : List ℕ) → ¬ (IsNodeCount s.nodes)
-    → ¬ (IsRunnable p s Growing correct)
-no_growing_plan p s correct none is = none (is.setup.sized.some_node, is.setup.sized.few_nodes)
 
 -- a run for its report names no correct nodes
 pub report_to : (values : ℕ) (s : Setup) → (IsLawful values s × All (λ n. n < s.nodes) [])

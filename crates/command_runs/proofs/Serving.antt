@@ -11,8 +11,7 @@ use Rattle.round_lang.specs.Syntax.{ProgramTree}
 use Rattle.slot_plans.specs.declared.kind.PlanKind.{PlanKind}
 use Rattle.command_runs.specs.Library.{Offers}
 use Rattle.command_runs.specs.Served.{AnswersRun, HoldsProgram, IsCheckedSource, IsProgramOf}
-use Rattle.command_runs.specs.Served.{Opens, file_name, receives_of, start_of}
-use Rattle.command_runs.specs.Within.{IsPlan}
+use Rattle.command_runs.specs.Served.{Opens, file_name}
 use Rattle.command_runs.specs.Stages.{IsAnswered}
 use Rattle.command_runs.specs.Texts.{Files}
 use Rattle.command_runs.specs.declared.asking.Answer.{Answer}
@@ -22,6 +21,7 @@ use Rattle.command_runs.specs.declared.asking.Question.TheVariants as question
 use Rattle.command_runs.specs.declared.sources.Opened.{Opened}
 use Rattle.command_runs.specs.declared.sources.Opened.TheVariants as opened
 use Rattle.command_runs.proofs.Refusing.{read_as}
+use Rattle.slot_plans.specs.Named.{IsPlan, receives_of, start_of}
 
 -- the program of what was opened is the source's
 pub program_of : (s : Source) (files : Files) (o : Opened) (n t : ℕ) (p : ProgramTree)

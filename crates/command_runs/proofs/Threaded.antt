@@ -3,8 +3,7 @@ use Rattle.std.proofs.Common.{◌≡◌, ℕ, Bool, List, Option, Some, None, sy
 use Rattle.std.specs.Prelude.{IfSome, string_bytes}
 use Rattle.command_runs.specs.ByThreads.{IsRunOf}
 use Rattle.command_runs.specs.InLockstep.{IsWritten}
-use Rattle.command_runs.specs.Served.{IsProgramOf, IsThreadSetup, ReportsThreads, start_of}
-use Rattle.command_runs.specs.Within.{IsPlan}
+use Rattle.command_runs.specs.Served.{IsProgramOf, IsThreadSetup, ReportsThreads}
 use Rattle.node_threads.specs.Ends.{IsFitForThreads}
 use Rattle.command_runs.specs.Texts.{Files}
 use Rattle.command_runs.specs.declared.threads.ThreadRun.{ThreadRun}
@@ -15,6 +14,7 @@ use Rattle.round_meaning.specs.declared.setup.Setup.{Setup}
 use Rattle.schedule_text.specs.declared.reading.ThreadSetup.{ThreadSetup}
 use Rattle.slot_plans.specs.declared.kind.PlanKind.{PlanKind}
 use Rattle.step_machine.specs.declared.event.Event.{Event}
+use Rattle.slot_plans.specs.Named.{IsPlan, start_of}
 
 -- a run by threads of a setup that was read is one of its file
 pub reports_threads : (source : Source) (files : Files) (p : ProgramTree) (t : ThreadSetup)

@@ -7,12 +7,11 @@ use Rattle.adversary.specs.declared.fault.RunFault.TheVariants as run
 use Rattle.command_runs.specs.InChanges.{AreFitChanges, Terms}
 use Rattle.command_runs.specs.InLockstep.{AreTerms, LockstepCause}
 use Rattle.command_runs.specs.Refused.{HasNoLines, HasNoOmissions, IsNotMade}
-use Rattle.command_runs.specs.Within.{IsPlan}
 use Rattle.command_runs.specs.Refused.{IsRefusedCommand, IsUnmade, fault_in, of_run}
 use Rattle.command_runs.specs.Refused.{omission_fault}
 use Rattle.command_runs.specs.Served.{IsOmissionText, MakesLockstep, SaysLines, file_name}
-use Rattle.command_runs.specs.Served.{start_of, terms_by}
-use Rattle.command_runs.specs.Stages.{IsNotMadeAs, IsRefusedLockstep}
+use Rattle.command_runs.specs.Served.{terms_by}
+use Rattle.command_runs.specs.Stages.{IsRefusedLockstep}
 use Rattle.command_runs.specs.Texts.{Files}
 use Rattle.command_runs.specs.declared.refusal.Refusal.{Refusal}
 use Rattle.command_runs.specs.declared.refusal.Refusal.TheVariants as refusal
@@ -26,10 +25,9 @@ use Rattle.round_lang.specs.Syntax.{ProgramTree}
 use Rattle.round_meaning.specs.Setups.{max_nodes}
 use Rattle.round_meaning.specs.declared.setup.Setup.{Setup}
 use Rattle.schedule_text.specs.declared.kind.Kind.TheVariants as kinds
-use Rattle.slot_plans.specs.Plan.{IsDelta, IsNodeCount}
 use Rattle.slot_plans.specs.declared.kind.PlanKind.{PlanKind}
-use Rattle.slot_plans.specs.declared.kind.PlanKind.TheVariants.{Growing, Known}
 use Rattle.std.specs.Global.{Vec}
+use Rattle.slot_plans.specs.Named.{IsPlan, start_of}
 
 -- a node of the list isn't one of the run
 pub no_listed : (start : ℕ → ℕ) (p : ProgramTree) (s : Setup) (ls : List OmissionLine) (t : Terms)
@@ -51,55 +49,16 @@ no_run A Fits start p s ls t f bad (inl memory) unfit =
 no_run A Fits start p s ls t f bad (inr setup) unfit =
     subst (LockstepCause start p s ls t) (sym setup) (unfit (bad.0 (ap (λ g. Err g) setup)))
 
--- what making a run in lockstep refuses
-pub no_pacing : (start : ℕ → ℕ) (p : ProgramTree) (s : Setup) (ls : List OmissionLine) (t : Terms)
-    (f : RunFault) → LockstepCause start p s ls t f → IsNotMadeAs start p s ls t (of_run f)
-no_pacing start p s ls t run.BadSetup cause = cause
-no_pacing start p s ls t (run.UnknownNode n) cause = absurd cause
-no_pacing start p s ls t (run.UnknownMessage n) cause = cause
-no_pacing start p s ls t run.NoMemory cause = tt
-no_pacing start p s ls t run.NoThread cause = absurd cause
-no_pacing start p s ls t run.Unmatched cause = absurd cause
-
--- under a plan within its limits
+-- what making a run in lockstep refuses, under a plan within its limits
 pub not_made : (start : ℕ → ℕ) (p : ProgramTree) (s : Setup) (k : PlanKind)
-    (ls : List OmissionLine) (t : Terms) (r : Refusal) → start ≡ start_of k s.nodes → IsPlan k
-    → IsNotMadeAs start p s ls t r → IsNotMade p s k ls t r
-not_made start p s k ls t (refusal.Run run.BadSetup) same plan none = λ all.
-    none (all.0, subst (λ f. AreFitChanges f s ls t) (sym same) all.1)
-not_made start p s k ls t (refusal.Run (run.UnknownNode n)) same plan none = absurd none
-not_made start p s k ls t (refusal.Run (run.UnknownMessage n)) same plan none =
-    (none.0, none.1, plan, none.2)
-not_made start p s k ls t (refusal.Run run.NoMemory) same plan none = absurd none
-not_made start p s k ls t (refusal.Run run.NoThread) same plan none = absurd none
-not_made start p s k ls t (refusal.Run run.Unmatched) same plan none = absurd none
-not_made start p s k ls t refusal.NoMemory same plan none = tt
-not_made start p s k ls t (refusal.Words f) same plan none = absurd none
-not_made start p s k ls t refusal.File same plan none = absurd none
-not_made start p s k ls t (refusal.Source f) same plan none = absurd none
-not_made start p s k ls t (refusal.Check f) same plan none = absurd none
-not_made start p s k ls t (refusal.Condition f) same plan none = absurd none
-not_made start p s k ls t (refusal.Schedule f) same plan none = absurd none
-not_made start p s k ls t (refusal.Library f) same plan none = absurd none
-not_made start p s k ls t refusal.NoSuchProgram same plan none = absurd none
-not_made start p s k ls t (refusal.Part cause) same plan none = absurd none
-not_made start p s k ls t refusal.TooManyEvents same plan none = absurd none
-not_made start p s k ls t refusal.NoVariable same plan none = absurd none
-not_made start p s k ls t refusal.Write same plan none = absurd none
-not_made start p s k ls t refusal.NodeNoMemory same plan none = absurd none
-
--- if there is no plan, a number is past its limits
-pub no_known_pacing : (p : ProgramTree) (s : Setup) (delta : ℕ) (ls : List OmissionLine) (t : Terms)
-    → ¬ (IsNodeCount s.nodes × IsDelta delta) → ¬ (AreTerms p s t
-    × AreFitChanges (start_of (Known delta) s.nodes) s ls t × IsPlan (Known delta))
-no_known_pacing p s delta ls t none is =
-    none ((is.0.setup.sized.some_node, is.0.setup.sized.few_nodes), is.2)
-
-pub no_growing_pacing : (p : ProgramTree) (s : Setup) (ls : List OmissionLine) (t : Terms)
-    → ¬ (IsNodeCount s.nodes)
-    → ¬ (AreTerms p s t × AreFitChanges (start_of Growing s.nodes) s ls t × IsPlan Growing)
-no_growing_pacing p s ls t none is =
-    none (is.0.setup.sized.some_node, is.0.setup.sized.few_nodes)
+    (ls : List OmissionLine) (t : Terms) (f : RunFault) → start ≡ start_of k s.nodes → IsPlan k
+    → LockstepCause start p s ls t f → IsNotMade p s k ls t (of_run f)
+not_made start p s k ls t run.BadSetup same plan cause = λ all.
+    cause (all.0, subst (λ f. AreFitChanges f s ls t) (sym same) all.1)
+not_made start p s k ls t (run.UnknownMessage n) same plan cause =
+    (cause.0, cause.1, plan, cause.2)
+not_made start p s k ls t run.NoMemory same plan cause = tt
+not_made start p s k ls t f same plan cause = absurd cause
 
 -- what isn't told of a file, of the library or of a text doesn't refuse it, unless the run does
 not_last : (s : Source) (files : Files) (header : Option (List ℕ))

@@ -1,7 +1,8 @@
 -- The text that was read of a file is the file's, and why there is none.
-use Rattle.std.proofs.Common.{◌≡◌, ◌∙◌, ℕ, List, Option, None, Some}
+use Rattle.std.proofs.Common.{◌≡◌, ◌∙◌, ◌+◌, ◌<◌, ◌≤◌, ℕ, List, Option, None, Some, arith}
+use Rattle.std.proofs.Common.{length, subst, sym, take}
 use Rattle.std.specs.Prelude.{IfSome}
-use Rattle.command_runs.proofs.Refusing.{long_text, no_long_text, no_whole_text, whole_text}
+use Rattle.std.specs.Str.{IsUtf8}
 use Rattle.command_runs.specs.Refused.{IsRefusedCommand}
 use Rattle.command_runs.specs.Texts.{Files, HasNoTextIn, HoldsNoWhole, HoldsWhole, IsTextIn}
 use Rattle.command_runs.specs.Texts.{IsTextOf}
@@ -12,10 +13,40 @@ use Rattle.command_runs.specs.declared.texts.Text.{Text}
 use Rattle.command_runs.specs.declared.texts.Text.TheVariants as text
 use Rattle.command_runs.specs.declared.texts.Unfit.{Unfit}
 use Rattle.command_runs.specs.declared.texts.Unfit.TheVariants as unfit
+use Rattle.schedule_text.specs.Bytes.{BeginsUtf8, IsLongText, IsNoText, IsText}
 use Rattle.command_words.specs.declared.values.Source.{Source}
 use Rattle.command_words.specs.declared.values.Source.TheVariants as source
 use Rattle.command_words.specs.declared.words.Words.TheVariants as words
 
+-- a file that fits and isn't UTF-8 is no text, and neither is a longer one that doesn't begin as
+-- one
+no_whole_text : (limit : ℕ) (held bytes : List ℕ) → length held ≤ limit → bytes ≡ held
+    → ¬ (IsUtf8 bytes) → IsNoText limit held
+no_whole_text limit held bytes short same none = (
+  λ t. none (subst IsUtf8 (sym same) t.utf8),
+  λ t. let long : limit < length held = t.long in
+      absurd (omega arith),
+)
+
+no_long_text : (limit : ℕ) (held bytes : List ℕ) → limit < length held
+    → bytes ≡ take (limit + 1) held → ¬ (BeginsUtf8 bytes) → IsNoText limit held
+no_long_text limit held bytes long same none = (
+  λ t. let short : length held ≤ limit = t.short in
+      absurd (omega arith),
+  λ t. none (subst BeginsUtf8 (sym same) t.utf8),
+)
+
+whole_text : (limit : ℕ) (held bytes : List ℕ) → length held ≤ limit → bytes ≡ held
+    → IsUtf8 bytes → IsText limit held
+whole_text limit held bytes short same utf8 =
+    record { short = short; utf8 = subst IsUtf8 same utf8 }
+
+long_text : (limit : ℕ) (held bytes : List ℕ) → limit < length held
+    → bytes ≡ take (limit + 1) held → BeginsUtf8 bytes → IsLongText limit held
+long_text limit held bytes long same utf8 =
+    record { long = long; utf8 = subst BeginsUtf8 same utf8 }
+
+-- so what was read of a file is its text
 pub whole_held : (limit : ℕ) (file : Option (List ℕ)) (t : Text) (s : List ℕ)
     → IfSome file (IsTextOf limit t) → IsTextIn t s → HoldsWhole limit file s
 whole_held limit None t s is has = tt

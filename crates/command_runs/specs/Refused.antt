@@ -1,5 +1,5 @@
 -- Why a command is refused: the cause of each refusal, and the order in which they are told.
-use Rattle.std.specs.Prelude.{◌≡◌, ◌<◌, ◌≤◌, ◌⊎◌, ⊤, ℕ, All, Err, List, [], Option, IfSome, Some}
+use Rattle.std.specs.Prelude.{◌≡◌, ◌<◌, ◌⊎◌, ⊤, ℕ, All, Err, List, [], Option, IfSome, Some}
 use Rattle.std.specs.Prelude.{Bool, IsSome, None, codes, false}
 use Rattle.std.specs.Borrow.{Bor}
 use Rattle.std.specs.Io.KnownBytes.{Appends, Keeps}
@@ -18,11 +18,11 @@ use Rattle.command_runs.specs.Lines.{status_of}
 use Rattle.command_runs.specs.Served.{AsksForHelp, IsCheckedSource, IsHeader, IsOfKind}
 use Rattle.command_runs.specs.Served.{IsOmissionText, IsProgramOf, IsThreadSetup, Prints}
 use Rattle.command_runs.specs.Served.{IsPaced, IsShownOf, NamesColumns, ReportsRounds, ReportsRun}
-use Rattle.command_runs.specs.Served.{ReportsThreads, SaysLines, file_name, start_of, terms_by}
+use Rattle.command_runs.specs.Served.{ReportsThreads, SaysLines, file_name, terms_by}
 use Rattle.command_runs.specs.Served.{told_text}
 use Rattle.command_runs.specs.Texts.{Files}
 use Rattle.command_runs.specs.Unshown.{IsUnshown}
-use Rattle.command_runs.specs.Within.{IsExplorable, IsExplored, IsPlan}
+use Rattle.command_runs.specs.Within.{IsExplorable, IsExplored}
 use Rattle.schedule_text.specs.Bytes.{IsLongText, IsNoText, IsText}
 use Rattle.schedule_text.specs.declared.source.TextFault.{TextFault}
 use Rattle.schedule_text.specs.declared.source.TextFault.TheVariants as text
@@ -71,6 +71,7 @@ use Rattle.schedule_text.specs.declared.fault.ScheduleFault.{ScheduleFault}
 use Rattle.schedule_text.specs.declared.fault.ScheduleFault.TheVariants as schedule
 use Rattle.slot_plans.specs.declared.kind.PlanKind.{PlanKind}
 use Rattle.step_machine.specs.declared.event.Event.{Event}
+use Rattle.slot_plans.specs.Named.{IsPlan, start_of}
 
 -- the fault of a layer below as a refusal; out of memory is one of its own
 abbrev pub of_words : WordsFault → Refusal
@@ -167,6 +168,10 @@ HasNoText HasFault file (refusal.Schedule fault) =
     IfSome file (λ held. IsBadText HasFault held fault)
 HasNoText HasFault file refusal.NoMemory = ⊤
 HasNoText HasFault file _ = ⊥
+
+-- no line of a text is at fault
+abbrev pub no_fault : Fault
+no_fault held fault = ⊥
 
 -- the first line at fault of a text that is to be of this kind
 abbrev pub fault_in : Kind → Fault

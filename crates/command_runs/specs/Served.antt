@@ -33,7 +33,7 @@ use Rattle.command_runs.specs.InRounds.{IsFound, ShowsFailure, outcome_of}
 use Rattle.command_runs.specs.Library.{Offers}
 pub use Rattle.command_runs.specs.Sources.{ShowsSource, file_name}
 use Rattle.command_runs.specs.Texts.{Files}
-use Rattle.command_runs.specs.Within.{IsExplored, IsFitOmitting, IsFitRun, IsPlan}
+use Rattle.command_runs.specs.Within.{IsExplored, IsFitOmitting, IsFitRun}
 use Rattle.schedule_text.specs.Bytes.{IsText}
 use Rattle.clap.specs.Words.{IsAmong, fault_of}
 use Rattle.clap.specs.declared.error.ErrorKind.TheVariants as kind
@@ -71,10 +71,8 @@ use Rattle.round_lang.specs.Limits.{max_text}
 use Rattle.round_lang.specs.Source.{IsSource}
 use Rattle.round_lang.specs.Syntax.{ProgramTree}
 use Rattle.round_meaning.specs.declared.setup.Setup.{Setup}
-use Rattle.slot_plans.specs.Growing.{growing_start}
-use Rattle.slot_plans.specs.Known.{known_start}
+use Rattle.slot_plans.specs.Named.{IsPlan, receives_of, start_of}
 use Rattle.slot_plans.specs.declared.kind.PlanKind.{PlanKind}
-use Rattle.slot_plans.specs.declared.kind.PlanKind.TheVariants.{Growing, Known}
 use Rattle.step_machine.specs.declared.event.Event.{Event}
 
 -- the text is this program, every expression of which has its type
@@ -100,16 +98,6 @@ Opens _ files _ = ⊥
 abbrev pub HoldsProgram : Opened → (nodes faults : ℕ) → ProgramTree → Type 0
 HoldsProgram (opened.File q) nodes faults p = p ≡ q
 HoldsProgram (opened.Library name values) nodes faults p = Offers name.now values nodes faults p
-
--- at which step each round starts, by the plan's name
-abbrev pub start_of : PlanKind → ℕ → ℕ → ℕ
-start_of (Known delta) nodes = known_start nodes delta
-start_of Growing nodes = growing_start nodes
-
--- how many receive steps each round has
-abbrev pub receives_of : PlanKind → ℕ → ℕ
-receives_of (Known delta) r = delta
-receives_of Growing r = r
 
 -- the text is of this kind, with this setup and plan in its header, and this behind it
 pub record IsOfKind (kind : Kind) (text : List ℕ) (s : Setup) (k : PlanKind) (t : Tail kind) :

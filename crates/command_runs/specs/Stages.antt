@@ -1,26 +1,21 @@
 -- What the parts of a command answer, which proofs pass through.
 use Rattle.std.specs.Borrow.{Bor}
-use Rattle.std.specs.Prelude.{◌≡◌, ◌≢◌, ◌<◌, ◌⊎◌, ◌++◌, ◌∷◌, ⊤, ℕ, All, IfSome, List, []}
+use Rattle.std.specs.Prelude.{◌≡◌, ◌≢◌, ◌<◌, ◌⊎◌, ◌++◌, ◌∷◌, ⊤, ℕ, IfSome, List, []}
 use Rattle.std.specs.Prelude.{Option, Some, length}
-use Rattle.std.specs.Prelude.{true}
 use Rattle.std.specs.Io.KnownBytes.{Appends}
-use Rattle.std.specs.Str.{IsUtf8}
-use Rattle.adversary.specs.Driving.{IsUnknownAt}
 use Rattle.adversary.specs.Reading.{IsReadAs}
 use Rattle.adversary.specs.declared.fault.RunFault.TheVariants as run
 use Rattle.command_runs.specs.InChanges.{Terms}
-use Rattle.command_runs.specs.InLockstep.{LockstepCause}
-use Rattle.command_runs.specs.InOmissions.{OmissionCause}
 use Rattle.command_runs.specs.Refused.{Fault, IsNoOffer}
 use Rattle.command_runs.specs.Refused.{IsOpened as IsOpenedSource, IsUnanswered, IsUnexplored}
 use Rattle.command_runs.specs.Refused.{IsUnmade, IsUnthreaded, IsUntraced}
-use Rattle.command_runs.specs.Refused.{StartsThreads, fault_in, of_text, omission_fault}
+use Rattle.command_runs.specs.Refused.{StartsThreads, fault_in, of_text}
 use Rattle.command_runs.specs.Explained.{IsReportOf}
 use Rattle.command_runs.specs.Served.{Answered, AnswersRun, IsHeader, IsProgramOf, IsShownOf}
 use Rattle.command_runs.specs.Served.{IsThreadSetup, MakesLockstep, NamesColumns, SaysAnswer}
 use Rattle.command_runs.specs.Texts.{Files}
-use Rattle.command_runs.specs.Within.{IsExplorable, IsExplored, IsFitRun, IsPlan}
-use Rattle.schedule_text.specs.Bytes.{BeginsUtf8, IsLongText, IsNoText}
+use Rattle.command_runs.specs.Within.{IsExplored, IsFitRun}
+use Rattle.schedule_text.specs.Bytes.{IsLongText, IsNoText}
 use Rattle.command_runs.specs.declared.asking.Answer.{Answer as RunAnswer}
 use Rattle.command_runs.specs.declared.asking.Answer.TheVariants as answer
 use Rattle.command_runs.specs.declared.asking.Question.{Question}
@@ -30,39 +25,32 @@ use Rattle.command_runs.specs.declared.refusal.Refusal.{Refusal}
 use Rattle.command_runs.specs.declared.refusal.Refusal.TheVariants as refusal
 use Rattle.command_runs.specs.declared.sources.Opened.{Opened}
 use Rattle.command_runs.specs.declared.sources.Opened.TheVariants as opened
-use Rattle.command_runs.specs.declared.texts.Text.{Text}
 use Rattle.command_runs.specs.declared.texts.Text.TheVariants as text
 use Rattle.command_words.specs.declared.drawing.Drawing.{Drawing}
 use Rattle.command_words.specs.declared.exploring.Exploring.{Exploring}
 use Rattle.command_words.specs.declared.forms.Form.{Form}
 use Rattle.command_words.specs.declared.values.Source.{Source}
-use Rattle.exploration_texts.specs.Conditions.{IsFaultFor}
-use Rattle.exploration_texts.specs.declared.condition.ConditionFault.TheVariants as condition
 use Rattle.node_threads.specs.Ends.{IsFitForThreads}
-use Rattle.omission_texts.specs.Texts.{Says as SaysOmissions}
-use Rattle.omission_texts.specs.declared.line.OmissionLine.{OmissionLine}
 use Rattle.omission_explainer.specs.declared.report.Report.{Report}
 use Rattle.part_answers.specs.Parts.{IsWellFormed, part_text}
 use Rattle.part_answers.specs.Wholes.{IsFaultOf}
 use Rattle.part_answers.specs.declared.part.PartAnswers.{PartAnswers}
-use Rattle.round_check.specs.Causes.{fault_of, is_typed}
+use Rattle.round_check.specs.Causes.{fault_of}
 use Rattle.round_lang.specs.Limits.{max_text}
 use Rattle.round_lang.specs.Source.{IsSource}
 use Rattle.round_lang.specs.Syntax.{ProgramTree}
 use Rattle.round_lang.specs.declared.fault.LangFault.TheVariants as lang
-use Rattle.round_meaning.specs.Setups.{IsLawful}
 use Rattle.round_meaning.specs.declared.setup.Setup.{Setup}
 use Rattle.schedule_text.specs.Readers.{IsBegun, IsOpened, IsRefusedAs, Reading}
 use Rattle.schedule_text.specs.Sources.{IsNoSchedule}
-use Rattle.schedule_text.specs.Texts.{SaysOf, Tail, max_text as max_schedule}
+use Rattle.schedule_text.specs.Texts.{max_text as max_schedule}
 use Rattle.schedule_text.specs.declared.kind.Kind.{Kind}
-use Rattle.schedule_text.specs.declared.kind.Kind.TheVariants as kinds
 use Rattle.slot_plans.specs.declared.kind.PlanKind.{PlanKind}
 use Rattle.schedule_text.specs.declared.fault.ScheduleFault.TheVariants as schedule
-use Rattle.schedule_text.specs.declared.pace.Stop.{Stop}
 use Rattle.schedule_text.specs.declared.reading.ThreadSetup.{ThreadSetup}
 use Rattle.schedule_text.specs.declared.source.TextFault.{TextFault}
 use Rattle.step_machine.specs.declared.event.Event.{Event}
+use Rattle.slot_plans.specs.Named.{IsPlan}
 
 -- why a text in UTF-8 has no program
 abbrev pub IsNoProgramOf : List ℕ → Refusal → Type 0
@@ -73,18 +61,6 @@ IsNoProgramOf held (refusal.Check fault) =
     (p : ProgramTree) × IsSource held p × (fault_of p ≡ Some fault)
 IsNoProgramOf held refusal.NoMemory = ⊤
 IsNoProgramOf held _ = ⊥
-
--- the typed program of what was read, and why there is none
-abbrev pub IsProgramIn : Text → ProgramTree → Type 0
-IsProgramIn (text.Whole bytes) p = IsUtf8 bytes.items × IsSource bytes.items p × (is_typed p ≡ true)
-IsProgramIn (text.Longer bytes) p = ⊥
-
-abbrev pub IsNoProgramIn : Text → Refusal → Type 0
-IsNoProgramIn (text.Whole bytes) refusal.File = ¬ (IsUtf8 bytes.items)
-IsNoProgramIn (text.Whole bytes) r = IsUtf8 bytes.items × IsNoProgramOf bytes.items r
-IsNoProgramIn (text.Longer bytes) refusal.File = ¬ (BeginsUtf8 bytes.items)
-IsNoProgramIn (text.Longer bytes) (refusal.Source lang.TooLong) = BeginsUtf8 bytes.items
-IsNoProgramIn (text.Longer bytes) _ = ⊥
 
 -- why a text in UTF-8 isn't read, whose first line at fault is told so
 abbrev pub IsUnread : Fault → List ℕ → Refusal → Type 0
@@ -98,37 +74,6 @@ IsUnread HasFault held _ = ⊥
 abbrev pub IsNoReadOf : Kind → List ℕ → Refusal → Type 0
 IsNoReadOf kind held r = IsUnread (fault_in kind) held r
 
--- what was read says this as a text of this kind, and why it says nothing
-abbrev pub IsReadIn : (kind : Kind) → Text → Setup → PlanKind → Tail kind → Type 0
-IsReadIn kind (text.Whole bytes) s k t = IsUtf8 bytes.items × SaysOf kind bytes.items s k t
-IsReadIn kind (text.Longer bytes) s k t = ⊥
-
-abbrev pub IsUnreadIn : Fault → Text → Refusal → Type 0
-IsUnreadIn HasFault (text.Whole bytes) refusal.File = ¬ (IsUtf8 bytes.items)
-IsUnreadIn HasFault (text.Whole bytes) r = IsUtf8 bytes.items × IsUnread HasFault bytes.items r
-IsUnreadIn HasFault (text.Longer bytes) refusal.File = ¬ (BeginsUtf8 bytes.items)
-IsUnreadIn HasFault (text.Longer bytes) (refusal.Schedule schedule.TooLong) =
-    BeginsUtf8 bytes.items
-IsUnreadIn HasFault (text.Longer bytes) _ = ⊥
-
-abbrev pub IsNoReadIn : Kind → Text → Refusal → Type 0
-IsNoReadIn kind t r = IsUnreadIn (fault_in kind) t r
-
--- the omissions of what was read, and why there are none
-abbrev pub AreOmissionsIn : Text → List OmissionLine → Type 0
-AreOmissionsIn (text.Whole bytes) ls = IsUtf8 bytes.items × SaysOmissions bytes.items ls
-AreOmissionsIn (text.Longer bytes) ls = ⊥
-
-abbrev pub HasNoOmissionsIn : Text → Refusal → Type 0
-HasNoOmissionsIn t r = IsUnreadIn omission_fault t r
-
--- the header and the thread setup of what was read
-abbrev pub IsHeaderIn : Text → Setup × PlanKind → Type 0
-IsHeaderIn text h = IsReadIn kinds.Header text h.0 h.1 tt
-
-abbrev pub IsThreadSetupIn : Text → ThreadSetup → Type 0
-IsThreadSetupIn text t = IsReadIn kinds.Threads text t.setup t.plan (t.pace, t.stops.items)
-
 -- why an opened source has no program
 abbrev pub IsHeldBack : Opened → (nodes faults : ℕ) → Refusal → Type 0
 IsHeldBack (opened.File p) n t r = ⊥
@@ -138,24 +83,6 @@ IsHeldBack (opened.Library name values) n t r = IsNoOffer name.now values n t r
 abbrev pub listed_by : Question → List ℕ
 listed_by (question.Report told) = []
 listed_by (question.Verdict terms f) = terms.correct.now
-
--- why a schedule isn't run under a plan
-abbrev pub IsNotRunAs : ProgramTree → Setup → List Event → List ℕ → Refusal → Type 0
-IsNotRunAs p s events correct (refusal.Run run.BadSetup) =
-    ¬ (IsLawful p.values s × All (λ n. n < s.nodes) correct)
-IsNotRunAs p s events correct (refusal.Run fault) =
-    (¬ ¬ (IsLawful p.values s × All (λ n. n < s.nodes) correct)) × IsUnknownAt s events fault
-IsNotRunAs p s events correct refusal.NoMemory = ⊤
-IsNotRunAs p s events correct _ = ⊥
-
--- why a run isn't drawn under a plan
-abbrev pub IsNotDrawnAs : ProgramTree → Setup → List Event → Drawing → Refusal → Type 0
-IsNotDrawnAs p s events d (refusal.Run run.BadSetup) = ¬ (IsLawful p.values s × IsShownOf s d)
-IsNotDrawnAs p s events d (refusal.Run fault) =
-    (¬ ¬ (IsLawful p.values s × IsShownOf s d)) × IsUnknownAt s events fault
-IsNotDrawnAs p s events d refusal.TooManyEvents = IsLawful p.values s × IsShownOf s d
-IsNotDrawnAs p s events d refusal.NoMemory = ⊤
-IsNotDrawnAs p s events d _ = ⊥
 
 -- the text that a reader goes on with is no schedule, and this refusal tells why
 abbrev pub IsBadSchedule : Setup → Reading → Refusal → Type 0
@@ -209,29 +136,6 @@ IsRefusedLockstep source files header omissions t refusal.Write =
 IsRefusedLockstep source files header omissions t r =
     IsUnmade source files header omissions t r
 
--- why there is no run in lockstep under a plan
-abbrev pub IsNotMadeAs : (start : ℕ → ℕ) → ProgramTree → Setup → List OmissionLine → Terms
-    → Refusal → Type 0
-IsNotMadeAs start p s ls t (refusal.Run run.NoMemory) = ⊥
-IsNotMadeAs start p s ls t (refusal.Run fault) = LockstepCause start p s ls t fault
-IsNotMadeAs start p s ls t refusal.NoMemory = ⊤
-IsNotMadeAs start p s ls t _ = ⊥
-
--- why not all runs are gone through under a plan
-abbrev pub IsNotExploredAs : ProgramTree → Setup → Exploring → Refusal → Type 0
-IsNotExploredAs p s e (refusal.Run run.BadSetup) = ¬ (IsExplorable p s e)
-IsNotExploredAs p s e (refusal.Condition condition.NoMemory) = ⊥
-IsNotExploredAs p s e (refusal.Condition fault) = IsExplorable p s e × IsFaultFor p e.always fault
-IsNotExploredAs p s e refusal.NoMemory = ⊤
-IsNotExploredAs p s e _ = ⊥
-
--- why nothing is made of omissions under a plan
-abbrev pub IsNotRealisedAs : ProgramTree → Setup → List OmissionLine → Refusal → Type 0
-IsNotRealisedAs p s ls (refusal.Run run.NoMemory) = ⊥
-IsNotRealisedAs p s ls (refusal.Run fault) = OmissionCause p s ls fault
-IsNotRealisedAs p s ls refusal.NoMemory = ⊤
-IsNotRealisedAs p s ls _ = ⊥
-
 -- why a report isn't written: `out` doesn't take it, there is no memory for its text, or a table of
 -- named variables is asked for
 abbrev pub IsUntoldReport : Form → Refusal → Type 0
@@ -257,14 +161,6 @@ IsRefusedAnswer source files file q refusal.Write =
 IsRefusedAnswer source files file q refusal.NoVariable =
     AsksForColumns q × ((a : RunAnswer) × AnswersRun source files file q a)
 IsRefusedAnswer source files file q r = IsUnanswered source files file (listed_by q) r
-
--- why there is no run by threads under a plan
-abbrev pub IsNotThreadedAs : ProgramTree → Setup → List Stop → Refusal → Type 0
-IsNotThreadedAs p s stops (refusal.Run run.BadSetup) = ¬ (IsFitForThreads p.values s stops)
-IsNotThreadedAs p s stops (refusal.Run run.NoThread) = ¬ ¬ (IsFitForThreads p.values s stops)
-IsNotThreadedAs p s stops (refusal.Run run.Unmatched) = ¬ ¬ (IsFitForThreads p.values s stops)
-IsNotThreadedAs p s stops refusal.NoMemory = ⊤
-IsNotThreadedAs p s stops _ = ⊥
 
 -- the program and the setup of a run by threads, which fit each other
 pub record AreReady (source : Source) (files : Files) (file : Option (List ℕ)) (p : ProgramTree)

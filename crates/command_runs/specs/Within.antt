@@ -1,5 +1,5 @@
 -- What is within its limits if a run is made.
-use Rattle.std.specs.Prelude.{⊤, ℕ, ◌<◌, ◌≤◌, All, List, Option}
+use Rattle.std.specs.Prelude.{ℕ, ◌<◌, ◌≤◌, All, List, Option}
 use Rattle.adversary.specs.Driving.{IsKnown}
 use Rattle.command_words.specs.declared.exploring.Exploring.{Exploring}
 use Rattle.exploration_texts.specs.Conditions.{IsConditionFor}
@@ -9,15 +9,9 @@ use Rattle.round_lang.specs.Syntax.{ProgramTree}
 use Rattle.round_lang.specs.Tree.{Tree}
 use Rattle.round_meaning.specs.Setups.{IsLawful}
 use Rattle.round_meaning.specs.declared.setup.Setup.{Setup}
-use Rattle.slot_plans.specs.Plan.{IsDelta}
+use Rattle.slot_plans.specs.Named.{IsPlan}
 use Rattle.slot_plans.specs.declared.kind.PlanKind.{PlanKind}
-use Rattle.slot_plans.specs.declared.kind.PlanKind.TheVariants.{Growing, Known}
 use Rattle.step_machine.specs.declared.event.Event.{Event}
-
--- a known bound is within its limits
-abbrev pub IsPlan : PlanKind → Type 0
-IsPlan (Known delta) = IsDelta delta
-IsPlan Growing = ⊤
 
 -- the numbers of a run are within their limits, the nodes of LIST are nodes of the run, and each
 -- event names what the run has

@@ -1,13 +1,13 @@
 //! What is asked of the run of a schedule.
 ghost use Rattle.std.specs.Prelude.{◌≡◌, IfErr, IfOk, IfSome, OnOk};
 ghost use Rattle.command_runs.specs.Refused.{IsMissing, IsNotRun, IsUnanswered};
-ghost use Rattle.command_runs.specs.Served.{AnswersRun, receives_of, start_of};
-ghost use Rattle.command_runs.specs.Stages.{IsAnswered, IsNotRunAs, IsToldAfter, StopsSchedule};
+ghost use Rattle.command_runs.specs.Served.{AnswersRun};
+ghost use Rattle.command_runs.specs.Stages.{IsAnswered, IsToldAfter, StopsSchedule};
 ghost use Rattle.command_runs.specs.Stages.{listed_by};
-ghost use Rattle.command_runs.specs.Within.{IsPlan};
 ghost use Rattle.command_runs.specs.declared.refusal.Refusal.TheVariants as refusal;
 ghost use Rattle.schedule_text.specs.Readers.{IsOpened};
 ghost use Rattle.schedule_text.specs.declared.kind.Kind.TheVariants as kinds;
+ghost use Rattle.slot_plans.specs.Named.{IsPlan, receives_of, start_of};
 
 use crate::desk::Desk;
 use crate::explained::{Terms, explained_run, judged_run};
@@ -19,7 +19,7 @@ use omission_explainer::{Report, Verdict};
 use round_check::Checked;
 use round_meaning::Setup;
 use schedule_text::{ScheduleReader, TextSource};
-use slot_plans::{Growing, Known, Plan, PlanKind};
+use slot_plans::{NamedPlan, PlanKind};
 use std::alloc::Global;
 use std::mem;
 
@@ -139,39 +139,9 @@ fn answer_by<'q, S: TextSource + Drop>(
         IfErr result (StopsSchedule (λ events r. IsNotRun program.now s plan events
         (listed_by question.entry) r) s schedule.reader) }
 {
-    match schedule.plan {
-        PlanKind::Known(delta) => match Known::new(schedule.setup.nodes, delta) {
-            Some(plan) => answer_of(alloc, program, schedule, plan, question),
-            None => Err(bad_setup(alloc, schedule)),
-        },
-        PlanKind::Growing => match Growing::new(schedule.setup.nodes) {
-            Some(plan) => answer_of(alloc, program, schedule, plan, question),
-            None => Err(bad_setup(alloc, schedule)),
-        },
-    }
-}
-
-/// The refusal of a setup.
-pub(crate) fn bad_setup<S: TextSource + Drop>(alloc: Global, schedule: OpenedSchedule<S>) -> Refusal
-    ensures { IsToldAfter schedule.reader (refusal.Run RunFault.BadSetup) result }
-{
-    refusal_after(alloc, schedule.reader, Refusal::Run(RunFault::BadSetup))
-}
-
-fn answer_of<'q, P: Plan, S: TextSource + Drop>(
-    alloc: Global,
-    program: &Checked,
-    schedule: OpenedSchedule<S>,
-    plan: P,
-    question: Question<'q>,
-) -> Result<Answer<'q>, Refusal>
-    requires { P.nodes plan ≡ schedule.setup.nodes }
-    ensures answered { IfOk result (IsAnswered (P.start plan) (P.receives plan) program.now
-        schedule.setup schedule.reader question.entry) }
-    ensures refused { let s = schedule.setup in IfErr result (StopsSchedule
-        (λ events r. IsNotRunAs program.now s events (listed_by question.entry) r) s
-        schedule.reader) }
-{
+    let Some(plan) = NamedPlan::new(schedule.plan, schedule.setup.nodes) else {
+        return Err(bad_setup(alloc, schedule));
+    };
     let OpenedSchedule { setup, reader, .. } = schedule;
     // A command ends with its answer: the system takes the run's memory back as a whole.
     match question {
@@ -186,4 +156,11 @@ fn answer_of<'q, P: Plan, S: TextSource + Drop>(
             Ok(Answer::Verdict { verdict, format })
         }
     }
+}
+
+/// The refusal of a setup.
+pub(crate) fn bad_setup<S: TextSource + Drop>(alloc: Global, schedule: OpenedSchedule<S>) -> Refusal
+    ensures { IsToldAfter schedule.reader (refusal.Run RunFault.BadSetup) result }
+{
+    refusal_after(alloc, schedule.reader, Refusal::Run(RunFault::BadSetup))
 }

@@ -1,16 +1,14 @@
 //! The picture of the run of a schedule.
 ghost use Rattle.std.specs.Prelude.{◌≡◌, ◌≤◌, ◌↔◌, ◌⊎◌, ℕ, IfErr, IfNone, IfOk, IfSome, IsTrue};
-ghost use Rattle.std.specs.Prelude.{OnOk, Some, string_bytes};
+ghost use Rattle.std.specs.Prelude.{OnOk, Some};
 ghost use Rattle.command_runs.specs.Refused.{IsMissing, IsNotDrawn, IsRefusedCommand, IsSilent};
 ghost use Rattle.command_runs.specs.Refused.{IsUndrawn};
-ghost use Rattle.command_runs.specs.Served.{DrawsRun, IsShownOf, Serves, start_of};
-ghost use Rattle.command_runs.specs.Stages.{IsDrawnAs, IsNotDrawnAs, StopsSchedule};
-ghost use Rattle.command_runs.specs.Texts.{HoldsWhole};
-ghost use Rattle.command_runs.specs.Within.{IsPlan};
+ghost use Rattle.command_runs.specs.Served.{DrawsRun, IsShownOf, Serves};
+ghost use Rattle.command_runs.specs.Stages.{IsDrawnAs, StopsSchedule};
 ghost use Rattle.round_meaning.specs.Setups.{IsLawful};
 ghost use Rattle.schedule_text.specs.Readers.{IsOpened};
-ghost use Rattle.schedule_text.specs.Texts.{max_text};
 ghost use Rattle.schedule_text.specs.declared.kind.Kind.TheVariants as kinds;
+ghost use Rattle.slot_plans.specs.Named.{IsPlan, start_of};
 
 use crate::asking::{OpenedSchedule, Run, bad_setup, refusal_after};
 use crate::desk::Desk;
@@ -20,8 +18,7 @@ use crate::outcome::Outcome;
 use crate::refusal::Refusal;
 use crate::run::written;
 use crate::sources::Opened;
-use crate::texts::{Unfit, read_whole};
-use adversary::{MAX_TEXT, RunFault, ScheduleFault};
+use crate::texts::schedule_text_in;
 use command_words::{Drawing, RoundRange, Source, Words};
 use omission_explainer::Report;
 use round_check::Checked;
@@ -29,7 +26,7 @@ use round_lang::NoMemory;
 use round_meaning::Setup;
 use run_picture::{PictureFault, View, write_picture};
 use schedule_text::{ScheduleReader, TextSource};
-use slot_plans::{Growing, Known, Plan, PlanKind};
+use slot_plans::{NamedPlan, Plan};
 use std::alloc::Global;
 use std::io::Write;
 use std::mem;
@@ -81,7 +78,7 @@ impl<'a> Run<'a> {
         ensures written { D.written desk.new ≡ D.written desk.old }
     {
         let opened = Opened::open(alloc, self.source, desk)?;
-        let text = schedule_in(alloc, self.schedule, desk)?;
+        let text = schedule_text_in(alloc, self.schedule, desk)?;
         let schedule = open_text(alloc, text.as_str())?;
         match opened.program(alloc, schedule.setup.nodes, schedule.setup.faults) {
             Ok(program) => {
@@ -94,21 +91,6 @@ impl<'a> Run<'a> {
             }
             Err(refusal) => Err(refusal_after(alloc, schedule.reader, refusal)),
         }
-    }
-}
-
-/// The text of the schedule in a file.
-fn schedule_in<D: Desk>(alloc: Global, name: &str, desk: &mut D) -> Result<String, Refusal>
-    ensures held { IfOk result (λ text.
-        HoldsWhole max_text (D.files desk.old name.now) (string_bytes text)) }
-    ensures refused { IfErr result (IsMissing kinds.Schedule (D.files desk.old name.now)) }
-    ensures written { D.written desk.new ≡ D.written desk.old }
-{
-    match read_whole(alloc, name, MAX_TEXT, desk) {
-        Ok(text) => Ok(text),
-        Err(Unfit::NoText) => Err(Refusal::File),
-        Err(Unfit::TooLong) => Err(Refusal::Schedule(ScheduleFault::TooLong)),
-        Err(Unfit::NoMemory) => Err(Refusal::NoMemory),
     }
 }
 
@@ -141,36 +123,13 @@ fn draw_by<S: TextSource + Drop>(
         IfErr result (StopsSchedule (λ events r. IsNotDrawn program.now s plan events
         sheet.entry.drawing.now r) s schedule.reader) }
 {
-    match schedule.plan {
-        PlanKind::Known(delta) => match Known::new(schedule.setup.nodes, delta) {
-            Some(plan) => draw_of(alloc, program, schedule, plan, sheet),
-            None => Err(bad_setup(alloc, schedule)),
-        },
-        PlanKind::Growing => match Growing::new(schedule.setup.nodes) {
-            Some(plan) => draw_of(alloc, program, schedule, plan, sheet),
-            None => Err(bad_setup(alloc, schedule)),
-        },
-    }
-}
-
-fn draw_of<P: Plan, S: TextSource + Drop>(
-    alloc: Global,
-    program: &Checked,
-    schedule: OpenedSchedule<S>,
-    plan: P,
-    sheet: Sheet<'_>,
-) -> Result<Vec<u8>, Refusal>
-    requires { P.nodes plan ≡ schedule.setup.nodes }
-    ensures drawn { IfOk result (λ _picture. IsDrawnAs (P.start plan) program.now schedule.setup
-        schedule.reader sheet.entry.drawing.now) }
-    ensures refused { let s = schedule.setup in IfErr result (StopsSchedule
-        (λ events r. IsNotDrawnAs program.now s events sheet.entry.drawing.now r) s
-        schedule.reader) }
-{
-    let OpenedSchedule { setup, reader, .. } = schedule;
-    let Some(view) = view_of(sheet.drawing, &setup) else {
-        return Err(refusal_after(alloc, reader, Refusal::Run(RunFault::BadSetup)));
+    let Some(plan) = NamedPlan::new(schedule.plan, schedule.setup.nodes) else {
+        return Err(bad_setup(alloc, schedule));
     };
+    let Some(view) = view_of(sheet.drawing, &schedule.setup) else {
+        return Err(bad_setup(alloc, schedule));
+    };
+    let OpenedSchedule { setup, reader, .. } = schedule;
     let (report, journal) = explained_run(alloc, program, &setup, plan, reader)?;
     let picture = draw_report(alloc, &report, journal.book(), sheet, &view);
     // A command ends with its picture: the system takes the run's memory back as a whole.

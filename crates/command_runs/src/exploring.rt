@@ -7,14 +7,14 @@ ghost use Rattle.command_runs.specs.InRounds.{IsFound, IsMade, IsShown, IsTrace,
 ghost use Rattle.command_runs.specs.InRounds.{trace_of};
 ghost use Rattle.command_runs.specs.Refused.{IsNotExplored, IsUnexplored};
 ghost use Rattle.command_runs.specs.Within.{IsExplorable, IsExplored};
-ghost use Rattle.command_runs.specs.Served.{FindsIn, receives_of, start_of};
-ghost use Rattle.command_runs.specs.Stages.{AreSearchable, IsNotExploredAs, IsRefusedSearch};
+ghost use Rattle.command_runs.specs.Served.{FindsIn};
+ghost use Rattle.command_runs.specs.Stages.{AreSearchable, IsRefusedSearch};
 ghost use Rattle.command_runs.specs.Unshown.{IsUnshown};
 ghost use Rattle.exploration_texts.specs.Stops.{IsShowable, IsToldToShow};
 ghost use Rattle.round_meaning.specs.Setups.{IsSetup};
+ghost use Rattle.slot_plans.specs.Named.{receives_of, start_of};
 
 use crate::desk::Desk;
-use crate::limits::is_plan;
 use crate::lockstep::header_in;
 use crate::refusal::Refusal;
 use crate::showing::source_text;
@@ -32,7 +32,7 @@ use round_explorer::Watch;
 use round_lang::NoMemory;
 use round_meaning::Setup;
 use schedule_text::write_stored_schedule;
-use slot_plans::{Growing, Known, Plan, PlanKind};
+use slot_plans::{NamedPlan, Plan, PlanKind};
 use std::alloc::Global;
 use std::thread::Threads;
 
@@ -145,7 +145,7 @@ fn check_asked(
     ensures explored { OnOk result (IsExplored program.now setup.now kind exploring.now) }
     ensures refused { IfErr result (IsNotExplored program.now setup.now kind exploring.now) }
 {
-    if !is_explorable(program, setup, exploring) || !is_plan(kind) {
+    if !is_explorable(program, setup, exploring) || NamedPlan::new(kind, setup.nodes).is_none() {
         return Err(Refusal::Run(RunFault::BadSetup));
     }
     match exploring.always {
@@ -174,36 +174,9 @@ fn found_by<R: Threads + Sync, W: Watch + Sync>(
         IsMade exploring.now.trace found.told.items (trace_of found)) }
     ensures refused { IfErr result (IsNotExplored program.now setup.now kind exploring.now) }
 {
-    match kind {
-        PlanKind::Known(delta) => match Known::new(setup.nodes, delta) {
-            Some(plan) => found_under(rt, alloc, program, setup, kind, plan, exploring, watch),
-            None => Err(Refusal::Run(RunFault::BadSetup)),
-        },
-        PlanKind::Growing => match Growing::new(setup.nodes) {
-            Some(plan) => found_under(rt, alloc, program, setup, kind, plan, exploring, watch),
-            None => Err(Refusal::Run(RunFault::BadSetup)),
-        },
-    }
-}
-
-fn found_under<R: Threads + Sync, P: Plan, W: Watch + Sync>(
-    rt: &R,
-    alloc: Global,
-    program: &Checked,
-    setup: &Setup,
-    kind: PlanKind,
-    plan: P,
-    exploring: &Exploring<'_>,
-    watch: &W,
-) -> Result<Found, Refusal>
-    requires nodes { P.nodes plan ≡ setup.now.nodes }
-    requires explorable { IsExplorable program.now setup.now exploring.now }
-    ensures found { IfOk result (IsFound (P.receives plan) (P.start plan) program.now setup.now kind
-        exploring.now) }
-    ensures made { IfOk result (λ found.
-        IsMade exploring.now.trace found.told.items (trace_of found)) }
-    ensures refused { IfErr result (IsNotExploredAs program.now setup.now exploring.now) }
-{
+    let Some(plan) = NamedPlan::new(kind, setup.nodes) else {
+        return Err(Refusal::Run(RunFault::BadSetup));
+    };
     let told = answer_all(rt, alloc, program, setup, exploring, watch)?;
     let trace = trace_for(alloc, setup, kind, plan, exploring.trace, &told)?;
     Ok(Found { told, trace })

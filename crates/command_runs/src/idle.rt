@@ -1,5 +1,5 @@
 //! The schedule of a run in lockstep, whose idle ticks are written and never kept.
-ghost use Rattle.std.specs.Prelude.{◌≤◌, ◌<◌, ◌++◌, OnOk, string_bytes};
+ghost use Rattle.std.specs.Prelude.{◌≤◌, ◌<◌, OnOk};
 ghost use Rattle.std.specs.Io.KnownBytes.{Appends};
 ghost use Rattle.command_runs.specs.IdleTexts.{IsReady, events_text, idle_text, schedule_text};
 ghost use Rattle.lockstep_runs.specs.IdleTicks.{turn_steps};

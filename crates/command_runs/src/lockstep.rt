@@ -4,12 +4,14 @@ ghost use Rattle.command_runs.specs.IdleTexts.{IsReady, schedule_text};
 ghost use Rattle.command_runs.specs.InChanges.{AreFitChanges, terms_of};
 ghost use Rattle.command_runs.specs.InLockstep.{AreTerms, IsLockstepText, LockstepCause, ticks_of};
 ghost use Rattle.command_runs.specs.Refused.{IsMissing, IsNotMade, IsUnasked, IsUnmade};
-ghost use Rattle.command_runs.specs.Served.{IsHeader, IsPaced, MakesLockstep, start_of};
-ghost use Rattle.command_runs.specs.Stages.{IsHeaderIn, IsNoReadIn, IsNotMadeAs};
-ghost use Rattle.command_runs.specs.Within.{IsFitOmitting, IsPlan};
+ghost use Rattle.command_runs.specs.Served.{IsHeader, IsPaced, MakesLockstep};
+ghost use Rattle.command_runs.specs.Stages.{IsNoReadOf};
+ghost use Rattle.command_runs.specs.Within.{IsFitOmitting};
 ghost use Rattle.omission_texts.specs.Meaning.{IsKnown};
 ghost use Rattle.round_meaning.specs.Setups.{IsLawful, max_rounds};
+ghost use Rattle.schedule_text.specs.Texts.{SaysOf};
 ghost use Rattle.schedule_text.specs.declared.kind.Kind.TheVariants as kinds;
+ghost use Rattle.slot_plans.specs.Named.{IsPlan, start_of};
 
 use crate::changes::changes_of;
 use crate::desk::Desk;
@@ -18,17 +20,16 @@ use crate::idle::{IdleTicks, PacedSchedule};
 use crate::omitting::{Asked, lines_in};
 use crate::refusal::Refusal;
 use crate::sources::Opened;
-use crate::texts::Text;
-use adversary::{MAX_TEXT, RunFault, ScheduleFault, read_header};
+use crate::texts::schedule_text_in;
+use adversary::{RunFault, read_header};
 use command_words::{NodeStop, OwnDelay, Source};
 use lockstep_runs::{Course, run_until_idle};
 use omission_texts::Omissions;
 use policies::Bounded;
 use round_check::Checked;
 use round_meaning::Setup;
-use schedule_text::{begin_utf8, write_stored_schedule};
-use simdutf8::compat::from_utf8;
-use slot_plans::{Growing, Known, Plan, PlanKind};
+use schedule_text::write_stored_schedule;
+use slot_plans::{NamedPlan, Plan, PlanKind};
 use std::alloc::Global;
 
 /// What a run in lockstep is made by: the correct nodes, the delays of the messages and the orders
@@ -105,25 +106,16 @@ pub(crate) fn header_in<D: Desk>(
     ensures files { (other : List ℕ) → D.files desk.new other ≡ D.files desk.old other }
     ensures written { D.written desk.new ≡ D.written desk.old }
 {
-    let text = Text::read(alloc, name, MAX_TEXT, desk)?;
-    header_of(alloc, text)
+    let text = schedule_text_in(alloc, name, desk)?;
+    header_of(alloc, text.as_str())
 }
 
 /// The header that a text is.
-fn header_of(alloc: Global, text: Text) -> Result<(Setup, PlanKind), Refusal>
-    ensures header { IfOk result (IsHeaderIn text) }
-    ensures refused { IfErr result (IsNoReadIn kinds.Header text) }
+fn header_of(alloc: Global, text: &str) -> Result<(Setup, PlanKind), Refusal>
+    ensures header { IfOk result (λ h. SaysOf kinds.Header text.now h.0 h.1 tt) }
+    ensures refused { IfErr result (IsNoReadOf kinds.Header text.now) }
 {
-    match text {
-        Text::Whole(bytes) => match from_utf8(&bytes) {
-            Ok(text) => Ok(read_header(alloc, text)?),
-            Err(_) => Err(Refusal::File),
-        },
-        Text::Longer(bytes) if begin_utf8(&bytes) => {
-            Err(Refusal::Schedule(ScheduleFault::TooLong))
-        }
-        Text::Longer(_) => Err(Refusal::File),
-    }
+    Ok(read_header(alloc, text)?)
 }
 
 /// The schedule under its plan.
@@ -143,41 +135,15 @@ fn schedule_by<'p>(
     ensures refused { IfErr result (IsNotMade asked.now.program asked.now.setup asked.now.plan
         asked.now.omissions (terms_of pacing.entry)) }
 {
-    match asked.plan {
-        PlanKind::Known(delta) => match Known::new(asked.setup.nodes, delta) {
-            Some(plan) => schedule_under(alloc, asked, plan, pacing),
-            None => Err(Refusal::Run(RunFault::BadSetup)),
-        },
-        PlanKind::Growing => match Growing::new(asked.setup.nodes) {
-            Some(plan) => schedule_under(alloc, asked, plan, pacing),
-            None => Err(Refusal::Run(RunFault::BadSetup)),
-        },
-    }
-}
-
-fn schedule_under<'p, P: Plan>(
-    alloc: Global,
-    asked: &Asked,
-    plan: P,
-    pacing: Pacing<'p>,
-) -> Result<PacedSchedule<'p>, Refusal>
-    requires { P.nodes plan ≡ asked.now.setup.nodes }
-    ensures made { IfOk result (λ made. IsLockstepText (P.start plan) asked.now.program
-        asked.now.setup asked.now.plan asked.now.omissions (terms_of pacing.entry)
-        (schedule_text made)) }
-    ensures fit { OnOk result
-        (IsFitOmitting asked.now.program asked.now.setup asked.now.omissions) }
-    ensures listed { OnOk result (All (λ n. n < asked.now.setup.nodes) pacing.entry.correct.now) }
-    ensures ready { IfOk result (λ made. IsReady made.idle) }
-    ensures refused { IfErr result (IsNotMadeAs (P.start plan) asked.now.program
-        asked.now.setup asked.now.omissions (terms_of pacing.entry)) }
-{
     let Asked {
         program,
         setup,
         plan: kind,
         omissions,
     } = asked;
+    let Some(plan) = NamedPlan::new(*kind, setup.nodes) else {
+        return Err(Refusal::Run(RunFault::BadSetup));
+    };
     Ok(lockstep_schedule(alloc, program, setup, *kind, plan, omissions, pacing)?)
 }
 

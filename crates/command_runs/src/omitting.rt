@@ -1,34 +1,35 @@
 //! What is made of the messages that a file has a run omit.
-ghost use Rattle.std.specs.Prelude.{◌≡◌, ℕ, List, All, IfErr, IfOk, IfSome, OnOk, map};
+ghost use Rattle.std.specs.Prelude.{◌≡◌, All, IfErr, IfOk, IfSome, OnOk, map};
 ghost use Rattle.std.specs.Prelude.{string_bytes};
 ghost use Rattle.std.specs.List.{range_with_len};
 ghost use Rattle.command_runs.specs.InLockstep.{IsWritten};
 ghost use Rattle.command_runs.specs.InOmissions.{OmissionCause, ShowsOmitting, realised_by};
 ghost use Rattle.command_runs.specs.Refused.{HasNoLines, HasNoOmissions, IsNotRealised};
-ghost use Rattle.command_runs.specs.Refused.{IsUnrealised};
+ghost use Rattle.command_runs.specs.Refused.{IsUnrealised, omission_fault};
 ghost use Rattle.command_runs.specs.Served.{IsAsked, IsOmissionText, RealisesOmissions};
-ghost use Rattle.command_runs.specs.Served.{ReportsRounds, SaysLines, receives_of, start_of};
-ghost use Rattle.command_runs.specs.Stages.{AreOmissionsIn, HasNoOmissionsIn, IsNotRealisedAs};
-ghost use Rattle.command_runs.specs.Within.{IsFitOmitting, IsPlan};
+ghost use Rattle.command_runs.specs.Served.{ReportsRounds, SaysLines};
+ghost use Rattle.command_runs.specs.Stages.{IsUnread};
+ghost use Rattle.command_runs.specs.Within.{IsFitOmitting};
 ghost use Rattle.omission_texts.specs.Meaning.{IsKnown, IsTableOf};
 ghost use Rattle.omission_texts.specs.Stops.{steps_of};
+ghost use Rattle.omission_texts.specs.Texts.{Says as SaysOmissions};
 ghost use Rattle.round_meaning.specs.Setups.{IsLawful};
+ghost use Rattle.slot_plans.specs.Named.{IsPlan, receives_of, start_of};
 
 use crate::desk::Desk;
 use crate::lockstep::header_in;
 use crate::refusal::Refusal;
 use crate::sources::Opened;
-use crate::texts::Text;
-use adversary::{MAX_TEXT, RunFault, ScheduleFault};
+use crate::texts::schedule_text_in;
+use adversary::RunFault;
 use command_words::Source;
 use omission_explainer::Report;
 use omission_schedules::{rounds_report, schedule_with_stops};
 use omission_texts::{Omissions, read_omissions};
 use round_check::Checked;
 use round_meaning::{OmissionTable, Setup};
-use schedule_text::{begin_utf8, write_stored_schedule};
-use simdutf8::compat::from_utf8;
-use slot_plans::{Growing, Known, Plan, PlanKind};
+use schedule_text::write_stored_schedule;
+use slot_plans::{NamedPlan, Plan, PlanKind};
 use std::alloc::Global;
 
 /// A source, the file of a header and the file of omissions.
@@ -119,25 +120,16 @@ fn omissions_in<D: Desk>(alloc: Global, name: &str, desk: &mut D) -> Result<Omis
     ensures refused { IfErr result (HasNoOmissions (D.files desk.old name.now)) }
     ensures written { D.written desk.new ≡ D.written desk.old }
 {
-    let text = Text::read(alloc, name, MAX_TEXT, desk)?;
-    omissions_of(alloc, text)
+    let text = schedule_text_in(alloc, name, desk)?;
+    omissions_of(alloc, text.as_str())
 }
 
 /// The omissions that a text says.
-fn omissions_of(alloc: Global, text: Text) -> Result<Omissions, Refusal>
-    ensures said { IfOk result (AreOmissionsIn text) }
-    ensures refused { IfErr result (HasNoOmissionsIn text) }
+fn omissions_of(alloc: Global, text: &str) -> Result<Omissions, Refusal>
+    ensures said { IfOk result (SaysOmissions text.now) }
+    ensures refused { IfErr result (IsUnread omission_fault text.now) }
 {
-    match text {
-        Text::Whole(bytes) => match from_utf8(&bytes) {
-            Ok(text) => Ok(read_omissions(alloc, text)?),
-            Err(_) => Err(Refusal::File),
-        },
-        Text::Longer(bytes) if begin_utf8(&bytes) => {
-            Err(Refusal::Schedule(ScheduleFault::TooLong))
-        }
-        Text::Longer(_) => Err(Refusal::File),
-    }
+    Ok(read_omissions(alloc, text)?)
 }
 
 /// The text of the schedule under its plan.
@@ -152,34 +144,15 @@ fn schedule_by(alloc: Global, asked: &Asked) -> Result<String, Refusal>
     ensures refused { IfErr result (IsNotRealised asked.now.program asked.now.setup asked.now.plan
         asked.now.omissions) }
 {
-    match asked.plan {
-        PlanKind::Known(delta) => match Known::new(asked.setup.nodes, delta) {
-            Some(plan) => schedule_under(alloc, asked, plan),
-            None => Err(Refusal::Run(RunFault::BadSetup)),
-        },
-        PlanKind::Growing => match Growing::new(asked.setup.nodes) {
-            Some(plan) => schedule_under(alloc, asked, plan),
-            None => Err(Refusal::Run(RunFault::BadSetup)),
-        },
-    }
-}
-
-fn schedule_under<P: Plan>(alloc: Global, asked: &Asked, plan: P) -> Result<String, Refusal>
-    requires { P.nodes plan ≡ asked.now.setup.nodes }
-    ensures made { IfOk result (λ text. IsWritten asked.now.setup asked.now.plan
-        (realised_by (P.receives plan) (P.start plan) asked.now.setup asked.now.omissions)
-        (string_bytes text)) }
-    ensures fit { OnOk result
-        (IsFitOmitting asked.now.program asked.now.setup asked.now.omissions) }
-    ensures refused { IfErr result (IsNotRealisedAs asked.now.program asked.now.setup
-        asked.now.omissions) }
-{
     let Asked {
         program,
         setup,
         plan: kind,
         omissions,
     } = asked;
+    let Some(plan) = NamedPlan::new(*kind, setup.nodes) else {
+        return Err(Refusal::Run(RunFault::BadSetup));
+    };
     Ok(realised_schedule(alloc, program, setup, *kind, plan, omissions)?)
 }
 
@@ -193,28 +166,16 @@ fn report_by(alloc: Global, asked: &Asked) -> Result<Report, Refusal>
     ensures refused { IfErr result (IsNotRealised asked.now.program asked.now.setup asked.now.plan
         asked.now.omissions) }
 {
-    match asked.plan {
-        PlanKind::Known(delta) => match Known::new(asked.setup.nodes, delta) {
-            Some(plan) => report_under(alloc, asked, plan),
-            None => Err(Refusal::Run(RunFault::BadSetup)),
-        },
-        PlanKind::Growing => match Growing::new(asked.setup.nodes) {
-            Some(plan) => report_under(alloc, asked, plan),
-            None => Err(Refusal::Run(RunFault::BadSetup)),
-        },
-    }
-}
-
-fn report_under<P: Plan>(alloc: Global, asked: &Asked, plan: P) -> Result<Report, Refusal>
-    requires { P.nodes plan ≡ asked.now.setup.nodes }
-    ensures made { IfOk result (ShowsOmitting (P.start plan) asked.now.program asked.now.setup
-        asked.now.omissions) }
-    ensures fit { OnOk result
-        (IsFitOmitting asked.now.program asked.now.setup asked.now.omissions) }
-    ensures refused { IfErr result (IsNotRealisedAs asked.now.program asked.now.setup
-        asked.now.omissions) }
-{
-    Ok(rounds_omitting(alloc, &asked.program, &asked.setup, plan, &asked.omissions)?)
+    let Asked {
+        program,
+        setup,
+        plan: kind,
+        omissions,
+    } = asked;
+    let Some(plan) = NamedPlan::new(*kind, setup.nodes) else {
+        return Err(Refusal::Run(RunFault::BadSetup));
+    };
+    Ok(rounds_omitting(alloc, program, setup, plan, omissions)?)
 }
 
 /// The text of the schedule that goes round by round, omits just what the lines say, and in which a

@@ -3,19 +3,16 @@ ghost use Rattle.std.specs.Prelude.{◌≡◌, IfErr, IfOk, OnOk, string_bytes};
 ghost use Rattle.command_runs.specs.Library.{OffersText};
 ghost use Rattle.command_runs.specs.Refused.{IsRefusedCommand, IsSilent};
 ghost use Rattle.command_runs.specs.Served.{Serves, ShowsSource};
-ghost use Rattle.command_runs.specs.Texts.{HoldsWhole};
-ghost use Rattle.command_runs.specs.Unshown.{HasNoSource, IsUnshown, OffersNoText};
-ghost use Rattle.round_lang.specs.Limits.{max_text};
+ghost use Rattle.command_runs.specs.Unshown.{IsUnshown, OffersNoText};
 
 use crate::desk::Desk;
 use crate::outcome::Outcome;
 use crate::refusal::Refusal;
 use crate::run::written;
 use crate::sources::file_name;
-use crate::texts::{Unfit, read_whole};
+use crate::texts::source_text_in;
 use algorithm_library::{count_votes_text, dls1_text, gather_text};
 use command_words::{Source, Words};
-use round_lang::{LangFault, MAX_TEXT};
 use std::alloc::Global;
 use std::io::Write;
 
@@ -51,23 +48,8 @@ pub(crate) fn source_text<'a, D: Desk>(
     ensures written { D.written desk.new ≡ D.written desk.old }
 {
     match source {
-        Source::File(name) => text_in(alloc, file_name(name), desk),
+        Source::File(name) => source_text_in(alloc, file_name(name), desk),
         Source::Library { name, values } => offered_text(alloc, name, values),
-    }
-}
-
-/// The text in the file of a source.
-fn text_in<D: Desk>(alloc: Global, name: &str, desk: &mut D) -> Result<String, Refusal>
-    ensures shown { IfOk result (λ text.
-        HoldsWhole max_text (D.files desk.old name.now) (string_bytes text)) }
-    ensures refused { IfErr result (HasNoSource (D.files desk.old name.now)) }
-    ensures written { D.written desk.new ≡ D.written desk.old }
-{
-    match read_whole(alloc, name, MAX_TEXT, desk) {
-        Ok(text) => Ok(text),
-        Err(Unfit::NoText) => Err(Refusal::File),
-        Err(Unfit::TooLong) => Err(Refusal::Source(LangFault::TooLong)),
-        Err(Unfit::NoMemory) => Err(Refusal::NoMemory),
     }
 }
 

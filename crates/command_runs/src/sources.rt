@@ -3,19 +3,17 @@ ghost use Rattle.std.specs.Prelude.{◌≡◌, ℕ, List, IfErr, IfOk, IfSome, t
 ghost use Rattle.command_runs.specs.Library.{Offers};
 ghost use Rattle.command_runs.specs.Refused.{IsNoOffer, IsNoProgram, IsNotOpened};
 ghost use Rattle.command_runs.specs.Served.{HoldsProgram, IsCheckedSource, Opens, file_name};
-ghost use Rattle.command_runs.specs.Stages.{IsHeldBack, IsNoProgramIn, IsNoProgramOf, IsProgramIn};
+ghost use Rattle.command_runs.specs.Stages.{IsHeldBack, IsNoProgramOf};
 ghost use Rattle.round_check.specs.Causes.{is_typed};
 ghost use Rattle.round_lang.specs.Source.{IsSource};
 
 use crate::desk::Desk;
 use crate::refusal::Refusal;
-use crate::texts::Text;
+use crate::texts::source_text_in;
 use algorithm_library::{count_votes, dls1, gather};
 use command_words::Source;
 use round_check::{Checked, check};
-use round_lang::{LangFault, MAX_TEXT, parse};
-use schedule_text::begin_utf8;
-use simdutf8::compat::from_utf8;
+use round_lang::parse;
 use std::alloc::Global;
 
 /// A source that was opened: the program of a file, or where the library has one. What the library
@@ -64,23 +62,8 @@ fn program_in<D: Desk>(alloc: Global, name: &str, desk: &mut D) -> Result<Checke
     ensures files { (other : List ℕ) → D.files desk.new other ≡ D.files desk.old other }
     ensures written { D.written desk.new ≡ D.written desk.old }
 {
-    let text = Text::read(alloc, name, MAX_TEXT, desk)?;
-    program_of(alloc, text)
-}
-
-/// The program that a text is.
-fn program_of(alloc: Global, text: Text) -> Result<Checked, Refusal>
-    ensures program { IfOk result (IsProgramIn text) }
-    ensures refused { IfErr result (IsNoProgramIn text) }
-{
-    match text {
-        Text::Whole(bytes) => match from_utf8(&bytes) {
-            Ok(text) => checked(alloc, text),
-            Err(_) => Err(Refusal::File),
-        },
-        Text::Longer(bytes) if begin_utf8(&bytes) => Err(Refusal::Source(LangFault::TooLong)),
-        Text::Longer(_) => Err(Refusal::File),
-    }
+    let text = source_text_in(alloc, name, desk)?;
+    checked(alloc, text.as_str())
 }
 
 /// The program that a text in UTF-8 is.

@@ -2,12 +2,19 @@
 ghost use Rattle.std.specs.Prelude.{◌≡◌, ℕ, Err, List, None, IfErr, IfOk, IfSome, string_bytes};
 ghost use Rattle.command_runs.specs.Texts.{HasNoTextIn, HoldsNoWhole, HoldsWhole, IsTextIn};
 ghost use Rattle.command_runs.specs.Texts.{IsTextOf};
+ghost use Rattle.command_runs.specs.Refused.{HasNoText, no_fault};
+ghost use Rattle.command_runs.specs.Unshown.{HasNoSource};
+ghost use Rattle.round_lang.specs.Limits.{max_text};
+ghost use Rattle.schedule_text.specs.Texts.{max_text as max_schedule};
 
 use crate::desk::{Desk, DeskFault};
+use crate::refusal::Refusal;
+use adversary::ScheduleFault;
+use round_lang::LangFault;
 use schedule_text::begin_utf8;
 use std::alloc::Global;
 
-/// What a file has.
+/// What was read of a file.
 #[derive(Drop)]
 pub enum Text {
     /// All its bytes, no more than the limit.
@@ -27,7 +34,7 @@ pub enum Unfit {
 
 impl Text {
     /// Reads a file up to its limit.
-    pub fn read<D: Desk>(
+    fn read<D: Desk>(
         alloc: Global,
         name: &str,
         limit: usize,
@@ -80,5 +87,45 @@ pub fn read_whole<D: Desk>(
         Ok(text) => text.into_string(),
         Err(DeskFault::Failed) => Err(Unfit::NoText),
         Err(DeskFault::NoMemory) => Err(Unfit::NoMemory),
+    }
+}
+
+/// The text of a source's file.
+pub(crate) fn source_text_in<D: Desk>(
+    alloc: Global,
+    name: &str,
+    desk: &mut D,
+) -> Result<String, Refusal>
+    ensures held { IfOk result (λ text.
+        HoldsWhole max_text (D.files desk.old name.now) (string_bytes text)) }
+    ensures refused { IfErr result (HasNoSource (D.files desk.old name.now)) }
+    ensures files { (other : List ℕ) → D.files desk.new other ≡ D.files desk.old other }
+    ensures written { D.written desk.new ≡ D.written desk.old }
+{
+    match read_whole(alloc, name, round_lang::MAX_TEXT, desk) {
+        Ok(text) => Ok(text),
+        Err(Unfit::NoText) => Err(Refusal::File),
+        Err(Unfit::TooLong) => Err(Refusal::Source(LangFault::TooLong)),
+        Err(Unfit::NoMemory) => Err(Refusal::NoMemory),
+    }
+}
+
+/// The text of a file that is to be a schedule, a header, a thread setup or omissions.
+pub(crate) fn schedule_text_in<D: Desk>(
+    alloc: Global,
+    name: &str,
+    desk: &mut D,
+) -> Result<String, Refusal>
+    ensures held { IfOk result (λ text.
+        HoldsWhole max_schedule (D.files desk.old name.now) (string_bytes text)) }
+    ensures refused { IfErr result (HasNoText no_fault (D.files desk.old name.now)) }
+    ensures files { (other : List ℕ) → D.files desk.new other ≡ D.files desk.old other }
+    ensures written { D.written desk.new ≡ D.written desk.old }
+{
+    match read_whole(alloc, name, schedule_text::MAX_TEXT, desk) {
+        Ok(text) => Ok(text),
+        Err(Unfit::NoText) => Err(Refusal::File),
+        Err(Unfit::TooLong) => Err(Refusal::Schedule(ScheduleFault::TooLong)),
+        Err(Unfit::NoMemory) => Err(Refusal::NoMemory),
     }
 }

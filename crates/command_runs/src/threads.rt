@@ -5,33 +5,32 @@ ghost use Rattle.command_runs.specs.ByThreads.{IsRunOf};
 ghost use Rattle.command_runs.specs.Apart.{IsApart};
 ghost use Rattle.command_runs.specs.Refused.{IsBadForThreads, IsMissing, IsNotThreaded};
 ghost use Rattle.command_runs.specs.Refused.{IsUnfit, IsUnfitForThreads, StartsThreads};
-ghost use Rattle.command_runs.specs.Served.{IsThreadSetup, ReportsThreads, start_of};
-ghost use Rattle.command_runs.specs.Stages.{AreReady, IsNoReadIn, IsNotThreadedAs, IsAfterStart};
-ghost use Rattle.command_runs.specs.Stages.{IsRefusedThreads, IsThreadSetupIn};
-ghost use Rattle.command_runs.specs.Within.{IsPlan};
+ghost use Rattle.command_runs.specs.Served.{IsThreadSetup, ReportsThreads};
+ghost use Rattle.command_runs.specs.Stages.{AreReady, IsAfterStart, IsNoReadOf};
+ghost use Rattle.command_runs.specs.Stages.{IsRefusedThreads};
 ghost use Rattle.node_threads.specs.Ends.{IsFitForThreads};
 ghost use Rattle.node_threads.specs.Stops.{AreStops};
 ghost use Rattle.node_threads.specs.Faults.{IsOfThreads};
 ghost use Rattle.omission_explainer.specs.Decided.{AreAgreed, AreInputs};
 ghost use Rattle.round_meaning.specs.Agreement.{RunsAlgorithm1};
+ghost use Rattle.schedule_text.specs.Texts.{SaysOf};
 ghost use Rattle.schedule_text.specs.declared.kind.Kind.TheVariants as kinds;
+ghost use Rattle.slot_plans.specs.Named.{IsPlan, start_of};
 
 use crate::desk::Desk;
-use crate::limits::is_plan;
 use crate::refusal::Refusal;
 use crate::sources::Opened;
-use crate::texts::Text;
+use crate::texts::schedule_text_in;
 use crate::traces::try_trace;
-use adversary::{MAX_TEXT, RunFault, ScheduleFault, ThreadSetup, read_threads};
+use adversary::{RunFault, ThreadSetup, read_threads};
 use command_words::Source;
 use locked_buffers::OpenGate;
 use node_threads::{Ended, Stop, run_threads};
 use omission_explainer::{Report, explain};
 use policies::Prompt;
 use round_check::Checked;
-use schedule_text::{begin_utf8, write_stored_schedule};
-use simdutf8::compat::from_utf8;
-use slot_plans::{Growing, Known, Plan, PlanKind};
+use schedule_text::write_stored_schedule;
+use slot_plans::{NamedPlan, Plan};
 use std::alloc::Global;
 use std::mem;
 use std::sync::Wait;
@@ -112,7 +111,7 @@ fn check_fit(program: &Checked, setup: &ThreadSetup) -> Result<(), Refusal>
     let header = &setup.setup;
     if !header.is_lawful(program)
         || !are_stops(header.nodes, setup.stops.as_slice())
-        || !is_plan(setup.plan)
+        || NamedPlan::new(setup.plan, header.nodes).is_none()
     {
         return Err(Refusal::Run(RunFault::BadSetup));
     }
@@ -133,25 +132,17 @@ fn setup_in<D: Desk>(alloc: Global, name: &str, desk: &mut D) -> Result<ThreadSe
     ensures refused { IfErr result (IsMissing kinds.Threads (D.files desk.old name.now)) }
     ensures written { D.written desk.new ≡ D.written desk.old }
 {
-    let text = Text::read(alloc, name, MAX_TEXT, desk)?;
-    setup_of(alloc, text)
+    let text = schedule_text_in(alloc, name, desk)?;
+    setup_of(alloc, text.as_str())
 }
 
 /// The thread setup that a text is.
-fn setup_of(alloc: Global, text: Text) -> Result<ThreadSetup, Refusal>
-    ensures setup { IfOk result (IsThreadSetupIn text) }
-    ensures refused { IfErr result (IsNoReadIn kinds.Threads text) }
+fn setup_of(alloc: Global, text: &str) -> Result<ThreadSetup, Refusal>
+    ensures setup { IfOk result (λ t.
+        SaysOf kinds.Threads text.now t.setup t.plan (t.pace, t.stops.items)) }
+    ensures refused { IfErr result (IsNoReadOf kinds.Threads text.now) }
 {
-    match text {
-        Text::Whole(bytes) => match from_utf8(&bytes) {
-            Ok(text) => Ok(read_threads(alloc, text)?),
-            Err(_) => Err(Refusal::File),
-        },
-        Text::Longer(bytes) if begin_utf8(&bytes) => {
-            Err(Refusal::Schedule(ScheduleFault::TooLong))
-        }
-        Text::Longer(_) => Err(Refusal::File),
-    }
+    Ok(read_threads(alloc, text)?)
 }
 
 /// The run under the setup's plan.
@@ -168,32 +159,9 @@ fn run_by<R: Threads + Wait + Sync>(
     ensures refused { let t = setup.now in
         IfErr result (IsNotThreaded program.now t.setup t.plan t.stops.items) }
 {
-    match setup.plan {
-        PlanKind::Known(delta) => match Known::new(setup.setup.nodes, delta) {
-            Some(plan) => run_of(rt, alloc, program, setup, plan),
-            None => Err(Refusal::Run(RunFault::BadSetup)),
-        },
-        PlanKind::Growing => match Growing::new(setup.setup.nodes) {
-            Some(plan) => run_of(rt, alloc, program, setup, plan),
-            None => Err(Refusal::Run(RunFault::BadSetup)),
-        },
-    }
-}
-
-fn run_of<R: Threads + Wait + Sync, P: Plan + Send + Sync>(
-    rt: &R,
-    alloc: Global,
-    program: &Checked,
-    setup: &ThreadSetup,
-    plan: P,
-) -> Result<ThreadRun, Refusal>
-    requires { P.nodes plan ≡ setup.now.setup.nodes }
-    ensures told { IfOk result (IsRunOf (P.start plan) program.now setup.now) }
-    ensures fit { IfOk result (λ _run.
-        ¬ ¬ (IsFitForThreads program.now.values setup.now.setup setup.now.stops.items)) }
-    ensures refused { IfErr result (IsNotThreadedAs program.now setup.now.setup
-        setup.now.stops.items) }
-{
+    let Some(plan) = NamedPlan::new(setup.plan, setup.setup.nodes) else {
+        return Err(Refusal::Run(RunFault::BadSetup));
+    };
     let (run, journal) = explained_threads(rt, alloc, program, setup, plan)?;
     // The command ends with its answer: the system takes the run's memory back as a whole.
     mem::forget(journal);

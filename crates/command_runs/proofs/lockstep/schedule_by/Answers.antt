@@ -1,60 +1,31 @@
-use Rattle.std.proofs.Common.{ap, ap₂, rules, subst, sym}
-use Rattle.std.proofs.lemmas.Result.{IfErr-weaker, IfOk-weaker}
-use Rattle.slot_plans.specs.Growing.{growing_start}
-use Rattle.slot_plans.specs.Known.{known_start}
-use Rattle.slot_plans.specs.declared.kind.PlanKind.{PlanKind}
-use Rattle.slot_plans.specs.declared.kind.PlanKind.TheVariants.{Growing, Known}
+use Rattle.std.proofs.Common.{◌≡◌, ap₂, refl, subst, sym}
 use Rattle.command_runs.specs.IdleTexts.{schedule_text}
 use Rattle.command_runs.specs.InChanges.{terms_of}
 use Rattle.command_runs.specs.InLockstep.{IsLockstepText}
-use Rattle.command_runs.specs.Refused.{IsNotMade}
-use Rattle.command_runs.specs.Served.{start_of}
+use Rattle.command_runs.specs.Refused.{IsNotMade, of_run}
+use Rattle.command_runs.proofs.Refusing.{err_then}
 use Rattle.command_runs.proofs.Unmade.{not_made}
 use Rattle.command_runs.proofs.lockstep.schedule_by.Goals as goal
+use Rattle.slot_plans.specs.Named.{start_of}
 
-pub returns-in-Some-clause-made : goal.returns-in-Some-clause-made
-returns-in-Some-clause-made c =
+pub returns-clause-made : goal.returns-clause-made
+returns-clause-made c =
     let a = c.args.asked.now in
-    let s = a.setup in
     let t = terms_of c.args.pacing in
     let made = c.in-Some.ensures.made in
-    IfOk-weaker c.schedule_under.result _ _
-    (λ x h. subst (λ (k : PlanKind). IsLockstepText (start_of k s.nodes) a.program s a.plan
-    a.omissions t (schedule_text x)) (sym c.in-Known.is)
-    (subst (λ f. IsLockstepText f a.program s a.plan a.omissions t (schedule_text x))
-    (ap₂ known_start made.0 made.1) h)) c.schedule_under.ensures.made
+    let ran = c.in_ok-lockstep_schedule in
+    subst (λ f. IsLockstepText f a.program a.setup a.plan a.omissions t
+    (schedule_text ran.field-0)) (ap₂ start_of made.1 made.0) ran.ensures.made
 
-pub returns-in-Some-clause-refused : goal.returns-in-Some-clause-refused
-returns-in-Some-clause-refused c =
+pub returns-in_err-lockstep_schedule-clause-refused :
+    goal.returns-in_err-lockstep_schedule-clause-refused
+returns-in_err-lockstep_schedule-clause-refused c =
     let a = c.args.asked.now in
-    let s = a.setup in
     let t = terms_of c.args.pacing in
     let made = c.in-Some.ensures.made in
-    IfErr-weaker c.schedule_under.result _ _
-    (λ r h. subst (λ (k : PlanKind). IsNotMade a.program s k a.omissions t r) (sym c.in-Known.is)
-    (not_made _ a.program s (Known c.in-Known.delta) a.omissions t r
-    (ap₂ known_start made.0 made.1)
-    (c.in-Some.ensures.within_limits.0 (search rules)).1 h)) c.schedule_under.ensures.refused
-
-pub returns-in-Some-new-clause-made : goal.returns-in-Some-new-clause-made
-returns-in-Some-new-clause-made c =
-    let a = c.args.asked.now in
-    let s = a.setup in
-    let t = terms_of c.args.pacing in
-    let made = c.in-Some-new.ensures.made in
-    IfOk-weaker c.schedule_under-in-Some-new.result _ _
-    (λ x h. subst (λ (k : PlanKind). IsLockstepText (start_of k s.nodes) a.program s a.plan
-    a.omissions t (schedule_text x)) (sym c.in-Growing.is)
-    (subst (λ f. IsLockstepText f a.program s a.plan a.omissions t (schedule_text x))
-    (ap growing_start made) h)) c.schedule_under-in-Some-new.ensures.made
-
-pub returns-in-Some-new-clause-refused : goal.returns-in-Some-new-clause-refused
-returns-in-Some-new-clause-refused c =
-    let a = c.args.asked.now in
-    let s = a.setup in
-    let t = terms_of c.args.pacing in
-    let made = c.in-Some-new.ensures.made in
-    IfErr-weaker c.schedule_under-in-Some-new.result _ _
-    (λ r h. subst (λ (k : PlanKind). IsNotMade a.program s k a.omissions t r) (sym c.in-Growing.is)
-    (not_made _ a.program s Growing a.omissions t r (ap growing_start made) (tt {0}) h))
-    c.schedule_under-in-Some-new.ensures.refused
+    let fault = c.in_err-lockstep_schedule.field-0.0 in
+    let cause = IsNotMade a.program a.setup a.plan a.omissions t in
+    err_then c.from_residual.result (λ r. r ≡ of_run fault) cause c.from_residual.ensures.1
+    (λ r is. subst cause (sym is)
+    (not_made _ a.program a.setup a.plan a.omissions t fault (ap₂ start_of made.1 made.0)
+    (c.in-Some.ensures.within_limits.0 refl).1 c.in_err-lockstep_schedule.ensures.cause))

@@ -1,37 +1,19 @@
-use Rattle.std.proofs.Common.{ap, ap₂, subst, sym}
+use Rattle.std.proofs.Common.{ap, ap₂, subst}
 use Rattle.std.specs.Prelude.{string_bytes}
-use Rattle.std.proofs.lemmas.Result.{IfOk-weaker}
-use Rattle.slot_plans.specs.Growing.{growing_start}
-use Rattle.slot_plans.specs.Known.{known_start}
-use Rattle.slot_plans.specs.declared.kind.PlanKind.{PlanKind}
 use Rattle.command_runs.specs.InLockstep.{IsWritten}
 use Rattle.command_runs.specs.InOmissions.{realised_by}
-use Rattle.command_runs.specs.Served.{receives_of, start_of}
 use Rattle.command_runs.proofs.omitting.schedule_by.Goals as goal
+use Rattle.slot_plans.specs.Named.{kind_of, receives_of, start_of}
 
-pub returns-in-Some-clause-made : goal.returns-in-Some-clause-made
-returns-in-Some-clause-made c =
+pub returns-clause-made : goal.returns-clause-made
+returns-clause-made c =
     let a = c.args.asked.now in
     let s = a.setup in
     let made = c.in-Some.ensures.made in
-    IfOk-weaker c.schedule_under.result _ _
-    (λ x h. subst (λ (k : PlanKind). IsWritten s a.plan
-    (realised_by (receives_of k) (start_of k s.nodes) s a.omissions) (string_bytes x))
-    (sym c.in-Known.is)
+    let ran = c.in_ok-realised_schedule in
+    subst (λ f. IsWritten s a.plan
+    (realised_by f (start_of a.plan s.nodes) s a.omissions) (string_bytes ran.field-0))
+    (ap receives_of made.1)
     (subst (λ f. IsWritten s a.plan
-    (realised_by f (known_start s.nodes c.in-Known.delta) s a.omissions) (string_bytes x))
-    (ap (λ d r. d) made.1)
-    (subst (λ f. IsWritten s a.plan (realised_by (λ r. c.in-Some.plan.delta) f s a.omissions)
-    (string_bytes x)) (ap₂ known_start made.0 made.1) h))) c.schedule_under.ensures.made
-
-pub returns-in-Some-new-clause-made : goal.returns-in-Some-new-clause-made
-returns-in-Some-new-clause-made c =
-    let a = c.args.asked.now in
-    let s = a.setup in
-    let made = c.in-Some-new.ensures.made in
-    IfOk-weaker c.schedule_under-in-Some-new.result _ _
-    (λ x h. subst (λ (k : PlanKind). IsWritten s a.plan
-    (realised_by (receives_of k) (start_of k s.nodes) s a.omissions) (string_bytes x))
-    (sym c.in-Growing.is)
-    (subst (λ f. IsWritten s a.plan (realised_by (λ r. r) f s a.omissions) (string_bytes x))
-    (ap growing_start made) h)) c.schedule_under-in-Some-new.ensures.made
+    (realised_by (receives_of (kind_of c.in-Some.plan)) f s a.omissions)
+    (string_bytes ran.field-0)) (ap₂ start_of made.1 made.0) ran.ensures.made)

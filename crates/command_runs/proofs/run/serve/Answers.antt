@@ -1,5 +1,5 @@
 use Rattle.std.proofs.Common.{map}
-use Rattle.command_runs.proofs.Telling.{left_if, left_write}
+use Rattle.command_runs.proofs.Telling.{left_if}
 use Rattle.command_runs.proofs.run.serve.Goals as goal
 
 pub returns-in-Ok-clause-left : goal.returns-in-Ok-clause-left

@@ -3,12 +3,12 @@ use Rattle.std.specs.Prelude.{string_bytes}
 use Rattle.std.proofs.lemmas.Result.{IfErr-weaker}
 use Rattle.schedule_text.specs.Readers.{IsOpened}
 use Rattle.command_runs.proofs.Drawn.{draws_run, missing_in, opened_in, undrawn_offer, undrawn_run}
-use Rattle.command_runs.proofs.Refusing.{err_then, told_after}
+use Rattle.command_runs.proofs.Refusing.{err_then, no_text_of, told_after}
 use Rattle.command_runs.proofs.Serving.{ok_then, program_of}
 use Rattle.command_runs.proofs.Telling.{held_back, opened_is}
 use Rattle.command_runs.proofs.Wholes.{whole_is}
 use Rattle.command_runs.proofs.asking.Run.picture.Goals as goal
-use Rattle.command_runs.specs.Refused.{IsMissing, IsNotOffered, IsUndrawn}
+use Rattle.command_runs.specs.Refused.{IsMissing, IsNotOffered, IsUndrawn, fault_in}
 use Rattle.command_runs.specs.Texts.{HoldsWhole}
 use Rattle.schedule_text.specs.Texts.{max_text}
 use Rattle.schedule_text.specs.declared.kind.Kind.TheVariants as kinds
@@ -101,7 +101,8 @@ returns-in_err-text-clause-refused g c =
     let opened = opened_is run.source files c.in_ok-opened.opened c.in_ok-opened.ensures.opened in
     let fault = c.in_err-text.field-0.0 in
     let missing = subst (λ file. IsMissing kinds.Schedule file fault)
-    (c.open.ensures.files run.schedule.now) c.in_err-text.ensures.refused in
+    (c.open.ensures.files run.schedule.now)
+    (no_text_of (fault_in kinds.Schedule) _ fault c.in_err-text.ensures.refused) in
     let cause = IsUndrawn run.source files file c.args.drawing.now in
     err_then c.from_residual-in_err-text.result (λ r. r ≡ fault) cause
     c.from_residual-in_err-text.ensures.1
