@@ -5,17 +5,14 @@
 ghost use Rattle.std.specs.Arc.{arc_value};
 ghost use Rattle.std.specs.Prelude.{◌≡◌, ◌≢◌, ◌↔◌, ◌+◌, ◌^◌, ◌<◌, ◌∷◌, ◌++◌, [], All, IfErr};
 ghost use Rattle.std.specs.Prelude.{IfOk, OnErr, OnOk, Some};
-ghost use Rattle.step_book.specs.Log.{closed, end_state, happened};
+ghost use Rattle.step_book.specs.Buffers.{names_in};
+ghost use Rattle.step_book.specs.Effects.{Closes, Receives, Sends};
+ghost use Rattle.step_book.specs.Log.{end_state};
 ghost use Rattle.step_book.specs.Names.{IsName};
-ghost use Rattle.step_book.specs.Buffers.{IsMail, flying_at, names_in};
-ghost use Rattle.step_book.specs.Tables.{HasPlace};
-ghost use Rattle.step_journal.specs.Fits.{IsOfRun, place_among};
 ghost use Rattle.step_machine.specs.Sealed.{IsPrepared, frame_of};
-ghost use Rattle.step_machine.specs.declared.event.Event.TheVariants as event;
-ghost use Rattle.locked_buffers.specs.Commits.{CloseFails, HasFrame, PutsFrame};
-ghost use Rattle.locked_buffers.specs.Commits.{ReceiveFails};
-ghost use Rattle.locked_buffers.specs.Commits.{SendFails, TakesAll, TakesClose, TakesReceive};
-ghost use Rattle.locked_buffers.specs.Commits.{TakesSend};
+ghost use Rattle.locked_buffers.specs.Commits.{AreMail, CloseFails, ReceiveFails, SendFails};
+ghost use Rattle.locked_buffers.specs.Commits.{TakesClose, TakesReceive, TakesSend};
+ghost use Rattle.locked_buffers.specs.Frames.{HasPlaceFor, IsBufferOf, IsSeen, PutsFrame, TakesAll};
 ghost use Rattle.locked_buffers.specs.Runs.{algorithm_by};
 
 use crate::account::are_same_names;
@@ -39,27 +36,17 @@ pub(crate) fn commit_send<P: Plan>(
     prepared: Prepared,
     has_frame: bool,
 ) -> Result<(), Refused>
-    requires own { buffer.old.node ≡ prepared.name.to }
     requires name { IsName run.now.setup prepared.name }
     requires work { IsPrepared (algorithm_by run.now) prepared }
     requires small { seat.old.steps < 2 ^ 33 }
-    requires of_run { IsOfRun run.now.program run.now.setup buffer.old.frames }
-    requires place { HasPlace buffer.old.frames.flying prepared.name.round
-        (place_among run.now.setup.nodes prepared.name) }
-    requires frame { HasFrame (flying_at buffer.old.frames prepared.name.round
-        (place_among run.now.setup.nodes prepared.name)) has_frame }
-    ensures own { buffer.new.node ≡ buffer.old.node }
-    ensures recorded { OnOk result (book.new ≡ record book.old {
-      log = happened book.old.log
-          (event.Step prepared.name.from);
-    }) }
-    ensures kept { OnErr result (book.new ≡ book.old) }
+    requires seen { IsSeen run.now prepared.name buffer.old has_frame }
+    requires place { HasPlaceFor run.now.setup.nodes buffer.old.frames prepared.name }
+    ensures recorded { OnOk result (Sends P.start prepared book.old book.new) }
     ensures seat { OnOk result (seat.new ≡ record seat.old { steps = seat.old.steps + 1 }) }
-    ensures unseated { OnErr result (seat.new ≡ seat.old) }
-    ensures frame { OnOk result (PutsFrame prepared.name.round
-        (place_among run.now.setup.nodes prepared.name) (frame_of prepared) buffer.old.frames
-        buffer.new.frames) }
-    ensures unchanged { OnErr result (buffer.new ≡ buffer.old) }
+    ensures frame { OnOk result (PutsFrame run.now.setup.nodes prepared.name (frame_of prepared)
+        buffer.old buffer.new) }
+    ensures err { OnErr result ((book.new ≡ book.old) × (seat.new ≡ seat.old)
+        × (buffer.new ≡ buffer.old)) }
     ensures taken { OnOk result (TakesSend P.start run.now buffer.old.frames book.old prepared) }
     ensures cause { IfErr result (λ refused. SendFails P.start run.now buffer.old.frames book.old
         prepared refused.fault) }
@@ -103,27 +90,20 @@ pub(crate) fn commit_receive<P: Plan>(
     buffer: &mut NodeBuffer,
     book: &mut Book<P>,
 ) -> Result<Took, PostFault>
-    requires own { buffer.old.node ≡ node }
     requires node { node < run.now.setup.nodes }
-    requires of_run { IsOfRun run.now.program run.now.setup buffer.old.frames }
+    requires buffer { IsBufferOf run.now node buffer.old }
     requires names { mail.old.waiting ≡ names_in buffer.old.frames.waiting }
     requires known { All (IsName run.now.setup) mail.old.waiting }
-    ensures own { buffer.new.node ≡ buffer.old.node }
-    ensures recorded { OnOk result (book.new ≡ record book.old {
-      log = happened book.old.log
-          (event.Step node);
-    }) }
-    ensures kept { OnErr result (book.new ≡ book.old) }
+    ensures recorded { OnOk result (Receives P.start node book.old book.new) }
     ensures noted { IfOk result (λ took. mail.new.handed
         ≡ mail.old.handed ++ names_in took.frames.items ∷ []) }
-    ensures unnoted { OnErr result (mail.new.handed ≡ mail.old.handed) }
-    ensures frames { IfOk result (λ took. took.frames.items ≡ buffer.old.frames.waiting) }
-    ensures left { OnOk result (TakesAll buffer.old.frames buffer.new.frames) }
-    ensures unchanged { OnErr result (buffer.new ≡ buffer.old) }
+    ensures frames { IfOk result (λ took.
+        TakesAll took.frames.items buffer.old buffer.new) }
+    ensures mail { IfOk result (λ took. AreMail run.now node took.frames.items) }
+    ensures err { OnErr result ((book.new ≡ book.old) × (mail.new.handed ≡ mail.old.handed)
+        × (buffer.new ≡ buffer.old)) }
     ensures taken { OnOk result (TakesReceive P.start run.now buffer.old.frames book.old node) }
     ensures cause { IfErr result (ReceiveFails P.start run.now buffer.old.frames book.old node) }
-    ensures mail { IfOk result (λ took. All (IsMail (algorithm_by run.now) run.now.setup.nodes
-        node) took.frames.items) }
 {
     if !run.has_book(book) || !are_same_names(mail.waiting(), book.waiting(node)) {
         return Err(PostFault::Stranger);
@@ -165,16 +145,12 @@ pub(crate) fn commit_close<P: Plan>(
     requires program { finished.now.node.now.program ≡ run.now.program }
     requires setup { finished.now.node.now.setup ≡ run.now.setup }
     requires state { Some (arc_value state) ≡ finished.now.node.now.next }
-    ensures recorded { OnOk result (book.new ≡ record book.old {
-      log = closed book.old.log
-          finished.now.node.now;
-    }) }
-    ensures kept { OnErr result (book.new ≡ book.old) }
+    ensures recorded { OnOk result (Closes P.start finished.now.node.now book.old book.new) }
     ensures seat { OnOk result (seat.new ≡ record seat.old {
       states = seat.old.states ++ end_state
           finished.now.node.now ∷ [];
     }) }
-    ensures unseated { OnErr result (seat.new ≡ seat.old) }
+    ensures err { OnErr result ((book.new ≡ book.old) × (seat.new ≡ seat.old)) }
     ensures taken { OnOk result (TakesClose P.start run.now book.old finished.now.node.now) }
     ensures cause { IfErr result (CloseFails P.start run.now book.old finished.now.node.now) }
 {

@@ -3,6 +3,7 @@
 #![tactic(auto)]
 
 mod account;
+mod act;
 mod commit;
 mod fault;
 mod gate;

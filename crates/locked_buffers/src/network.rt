@@ -1,24 +1,21 @@
-//! What the network does under the locks, recorded whole or not at all.
-ghost use Rattle.std.specs.Prelude.{◌≡◌, ◌<◌, ◌∷◌, ◌++◌, ◌↔◌, [], IfErr, IfOk, IsTrue, None, OnErr};
-ghost use Rattle.std.specs.Prelude.{OnOk, option_map};
-ghost use Rattle.step_book.specs.Log.{CanCopy, IsFlying, happened};
+//! What the network does under both locks, recorded whole or not at all.
+ghost use Rattle.std.specs.Prelude.{◌≡◌, ◌<◌, ◌↔◌, IfErr, IfOk, IsTrue, OnErr, OnOk};
 ghost use Rattle.step_book.specs.Names.{IsName};
-ghost use Rattle.step_book.specs.Buffers.{flying_at};
-ghost use Rattle.step_book.specs.Tables.{HasPlace};
-ghost use Rattle.step_journal.specs.Fits.{IsOfRun, place_among};
-ghost use Rattle.step_machine.specs.Sealed.{copied_as, original};
-ghost use Rattle.step_machine.specs.declared.event.Event.TheVariants as event;
-ghost use Rattle.locked_buffers.specs.Commits.{AddsCopy, Agrees, AgreesTwice, CopyFails};
-ghost use Rattle.locked_buffers.specs.Commits.{HasFrame, LetsGo, PutsFrame, RelayFails, told_with};
+ghost use Rattle.step_journal.specs.Fits.{IsOfRun};
+ghost use Rattle.locked_buffers.specs.Acts.{ActFails, AgreesFor, IsReadyFor, IsRecorded};
+ghost use Rattle.locked_buffers.specs.Acts.{MovesFrame, event_of};
+ghost use Rattle.locked_buffers.specs.Commits.{Agrees, told_with};
+ghost use Rattle.locked_buffers.specs.Frames.{HasFrame, flying_as};
 
+use crate::act::{Act, Found};
 use crate::fault::RelayFault;
 use crate::node_buffer::NodeBuffer;
-use crate::ready::has_frame;
 use crate::run::Run;
 use crate::seat::Relay;
+use round_lang::NoMemory;
 use slot_plans::Plan;
 use step_book::{Book, Buffer, StoredEvent, room};
-use step_machine::{Event, Name, Sealed};
+use step_machine::{Name, Sealed};
 
 /// Whether the book is of the run, as the buffer is, and says that this copy is in flight just
 /// if the buffer has a frame at its place.
@@ -31,8 +28,7 @@ pub(crate) fn agree<P: Plan>(
 ) -> bool
     requires name { IsName run.now.setup name }
     requires of_run { IsOfRun run.now.program run.now.setup buffer.now }
-    requires frame { HasFrame
-        (flying_at buffer.now name.round (place_among run.now.setup.nodes name)) has_frame }
+    requires frame { HasFrame (flying_as run.now.setup.nodes buffer.now name) has_frame }
     ensures { IsTrue result ↔ Agrees P.start run.now buffer.now book.now name }
 {
     // Nothing at run time: the contract speaks of it.
@@ -40,158 +36,108 @@ pub(crate) fn agree<P: Plan>(
     run.has_book(book) && book.is_flying(name) == has_frame
 }
 
-/// A release: true if a copy went from flight to those that wait.
-pub(crate) fn commit_release<P: Plan>(
+/// Whether book and buffer agree on what the act is for.
+fn agree_for<P: Plan>(
     run: &Run<P>,
-    relay: &mut Relay,
-    buffer: &mut NodeBuffer,
-    book: &mut Book<P>,
+    buffer: &NodeBuffer,
+    book: &Book<P>,
+    act: Act,
     name: Name,
-    has_frame: bool,
-) -> Result<bool, RelayFault>
-    requires own { buffer.old.node ≡ name.to }
+    found: &Found,
+) -> bool
     requires name { IsName run.now.setup name }
-    requires of_run { IsOfRun run.now.program run.now.setup buffer.old.frames }
-    requires room { 0 < buffer.old.frames.spare }
-    requires frame { HasFrame
-        (flying_at buffer.old.frames name.round (place_among run.now.setup.nodes name)) has_frame }
-    ensures own { buffer.new.node ≡ buffer.old.node }
-    ensures recorded { OnOk result (book.new ≡ record book.old {
-      log = happened book.old.log
-          (event.Release name);
-    }) }
-    ensures kept { OnErr result (book.new ≡ book.old) }
-    ensures moved { IfOk result (λ moved. IsTrue moved ↔ IsFlying (P.start book.old.plan)
-        book.old.log name) }
-    ensures told { IfOk result (λ moved. relay.new ≡ told_with relay.old (event.Release name)
-        moved) }
-    ensures untold { OnErr result (relay.new ≡ relay.old) }
-    ensures frame { OnOk result (LetsGo name.round (place_among run.now.setup.nodes name)
-        buffer.old.frames buffer.new.frames) }
-    ensures unchanged { OnErr result (buffer.new ≡ buffer.old) }
-    ensures taken { OnOk result (Agrees P.start run.now buffer.old.frames book.old name) }
-    ensures cause { IfErr result (RelayFails P.start run.now buffer.old.frames book.old name) }
+    requires ready { IsReadyFor run.now act name buffer.now found.now }
+    ensures { IsTrue result ↔ AgreesFor P.start run.now act buffer.now.frames book.now name }
 {
-    if !agree(run, &buffer.frames, book, name, has_frame) {
-        return Err(RelayFault::Stranger);
-    }
-    run.sound();
-    room(&mut relay.events)?;
-    room(&mut relay.answers)?;
-    let moved = book.release(name)?;
-    if moved {
-        buffer.frames.let_go(name.round, run.place(name));
-    }
-    relay
-        .events
-        .push_reserved(StoredEvent::new(Event::Release(name)));
-    relay.answers.push_reserved(moved);
-    Ok(moved)
-}
-
-/// A drop: true if a copy was in flight; its frame is gone.
-pub(crate) fn commit_drop<P: Plan>(
-    run: &Run<P>,
-    relay: &mut Relay,
-    buffer: &mut NodeBuffer,
-    book: &mut Book<P>,
-    name: Name,
-    has_frame: bool,
-) -> Result<bool, RelayFault>
-    requires own { buffer.old.node ≡ name.to }
-    requires name { IsName run.now.setup name }
-    requires of_run { IsOfRun run.now.program run.now.setup buffer.old.frames }
-    requires frame { HasFrame
-        (flying_at buffer.old.frames name.round (place_among run.now.setup.nodes name)) has_frame }
-    ensures own { buffer.new.node ≡ buffer.old.node }
-    ensures recorded { OnOk result (book.new ≡ record book.old {
-      log = happened book.old.log
-          (event.Drop name);
-    }) }
-    ensures kept { OnErr result (book.new ≡ book.old) }
-    ensures lost { IfOk result (λ lost. IsTrue lost ↔ IsFlying (P.start book.old.plan) book.old.log
-        name) }
-    ensures told { IfOk result (λ lost. relay.new ≡ told_with relay.old (event.Drop name) lost) }
-    ensures untold { OnErr result (relay.new ≡ relay.old) }
-    ensures frame { OnOk result (PutsFrame name.round (place_among run.now.setup.nodes name) None
-        buffer.old.frames buffer.new.frames) }
-    ensures unchanged { OnErr result (buffer.new ≡ buffer.old) }
-    ensures taken { OnOk result (Agrees P.start run.now buffer.old.frames book.old name) }
-    ensures cause { IfErr result (RelayFails P.start run.now buffer.old.frames book.old name) }
-{
-    if !agree(run, &buffer.frames, book, name, has_frame) {
-        return Err(RelayFault::Stranger);
-    }
-    run.sound();
-    room(&mut relay.events)?;
-    room(&mut relay.answers)?;
-    let place = run.place(name);
-    let lost = book.drop_copy(name)?;
-    if lost {
-        buffer.frames.remove(name.round, place);
-    }
-    relay
-        .events
-        .push_reserved(StoredEvent::new(Event::Drop(name)));
-    relay.answers.push_reserved(lost);
-    Ok(lost)
-}
-
-/// A copy: true if copy 0 was in flight and this one, 1 to 3, was never made; its frame, the
-/// same message, is in flight. The frame was copied before, if there is one.
-pub(crate) fn commit_copy<P: Plan>(
-    run: &Run<P>,
-    relay: &mut Relay,
-    buffer: &mut NodeBuffer,
-    book: &mut Book<P>,
-    name: Name,
-    frame: Option<Sealed>,
-) -> Result<bool, RelayFault>
-    requires own { buffer.old.node ≡ name.to }
-    requires name { IsName run.now.setup name }
-    requires other { 0 < name.copy }
-    requires of_run { IsOfRun run.now.program run.now.setup buffer.old.frames }
-    requires place { HasPlace buffer.old.frames.flying name.round
-        (place_among run.now.setup.nodes name) }
-    requires copied { frame ≡ option_map (copied_as name.copy)
-        (flying_at buffer.old.frames name.round
-        (place_among run.now.setup.nodes (original name))) }
-    ensures own { buffer.new.node ≡ buffer.old.node }
-    ensures recorded { OnOk result (book.new ≡ record book.old {
-      log = happened book.old.log
-          (event.Copy name);
-    }) }
-    ensures kept { OnErr result (book.new ≡ book.old) }
-    ensures made { IfOk result (λ made. IsTrue made ↔ CanCopy (P.start book.old.plan) book.old.log
-        name) }
-    ensures told { IfOk result (λ made. relay.new ≡ told_with relay.old (event.Copy name) made) }
-    ensures untold { OnErr result (relay.new ≡ relay.old) }
-    ensures frame { IfOk result (λ made. AddsCopy run.now.setup.nodes name buffer.old.frames
-        buffer.new.frames made) }
-    ensures unchanged { OnErr result (buffer.new ≡ buffer.old) }
-    ensures taken { OnOk result (AgreesTwice P.start run.now buffer.old.frames book.old name) }
-    ensures cause { IfErr result (CopyFails P.start run.now buffer.old.frames book.old name) }
-{
-    let has_copy = has_frame(run, &buffer.frames, name);
-    let has_original = has_frame(run, &buffer.frames, name.original());
-    if !agree(run, &buffer.frames, book, name, has_copy)
-        || !agree(run, &buffer.frames, book, name.original(), has_original)
-    {
-        return Err(RelayFault::Stranger);
-    }
-    run.sound();
-    room(&mut relay.events)?;
-    room(&mut relay.answers)?;
-    buffer.frames.honest();
-    let made = book.make_copy(name)?;
-    if made {
-        if let Some(frame) = frame {
-            buffer.frames.put(name.round, run.place(name), frame);
+    let agrees = agree(run, &buffer.frames, book, name, found.has_frame);
+    match act {
+        Act::Release | Act::Drop => agrees,
+        Act::Copy => {
+            let original = name.original();
+            agrees && agree(run, &buffer.frames, book, original, found.copied.is_some())
         }
     }
+}
+
+/// Records the act, and does it to the frame.
+fn record<P: Plan>(
+    run: &Run<P>,
+    buffer: &mut NodeBuffer,
+    book: &mut Book<P>,
+    act: Act,
+    name: Name,
+    found: Found,
+) -> Result<bool, NoMemory>
+    requires name { IsName run.now.setup name }
+    requires other { act ≡ Act.Copy → 0 < name.copy }
+    requires ready { IsReadyFor run.now act name buffer.old found }
+    requires agree { AgreesFor P.start run.now act buffer.old.frames book.old name }
+    ensures recorded { IfOk result (λ done. IsRecorded P.start act name done book.old book.new) }
+    ensures frame { IfOk result (λ done.
+        MovesFrame run.now.setup.nodes act name done buffer.old buffer.new) }
+    ensures err { OnErr result ((book.new ≡ book.old) × (buffer.new ≡ buffer.old)) }
+{
+    let place = run.place(name);
+    match act {
+        Act::Release => {
+            let moved = book.release(name)?;
+            if moved {
+                buffer.frames.let_go(name.round, place);
+            }
+            Ok(moved)
+        }
+        Act::Drop => {
+            let lost = book.drop_copy(name)?;
+            if lost {
+                buffer.frames.remove(name.round, place);
+            }
+            Ok(lost)
+        }
+        Act::Copy => {
+            buffer.frames.honest();
+            let made = book.make_copy(name)?;
+            if made {
+                if let Some(frame) = found.copied {
+                    buffer.frames.put(name.round, place, frame);
+                }
+            }
+            Ok(made)
+        }
+    }
+}
+
+/// An act of the network, for which the buffer is ready: true if a copy was let go, lost or made.
+pub(crate) fn commit_act<P: Plan>(
+    run: &Run<P>,
+    relay: &mut Relay,
+    buffer: &mut NodeBuffer,
+    book: &mut Book<P>,
+    act: Act,
+    name: Name,
+    found: Found,
+) -> Result<bool, RelayFault>
+    requires name { IsName run.now.setup name }
+    requires other { act ≡ Act.Copy → 0 < name.copy }
+    requires ready { IsReadyFor run.now act name buffer.old found }
+    ensures recorded { IfOk result (λ done. IsRecorded P.start act name done book.old book.new) }
+    ensures told { IfOk result (λ done. relay.new ≡ told_with relay.old (event_of act name) done) }
+    ensures frame { IfOk result (λ done.
+        MovesFrame run.now.setup.nodes act name done buffer.old buffer.new) }
+    ensures err { OnErr result ((book.new ≡ book.old) × (relay.new ≡ relay.old)
+        × (buffer.new ≡ buffer.old)) }
+    ensures taken { OnOk result (AgreesFor P.start run.now act buffer.old.frames book.old name) }
+    ensures cause { IfErr result (ActFails P.start run.now act buffer.old.frames book.old name) }
+{
+    if !agree_for(run, buffer, book, act, name, &found) {
+        return Err(RelayFault::Stranger);
+    }
+    run.sound();
+    room(&mut relay.events)?;
+    room(&mut relay.answers)?;
+    let done = record(run, buffer, book, act, name, found)?;
     relay
         .events
-        .push_reserved(StoredEvent::new(Event::Copy(name)));
-    relay.answers.push_reserved(made);
-    Ok(made)
+        .push_reserved(StoredEvent::new(act.event(name)));
+    relay.answers.push_reserved(done);
+    Ok(done)
 }

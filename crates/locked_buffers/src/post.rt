@@ -9,6 +9,7 @@ ghost use Rattle.step_book.specs.Buffers.{IsMail, names_in};
 ghost use Rattle.step_machine.specs.Sealed.{IsPrepared};
 ghost use Rattle.step_machine.specs.declared.event.Event.TheVariants as event;
 ghost use Rattle.locked_buffers.specs.Accounts.{AccountsAgree};
+ghost use Rattle.locked_buffers.specs.Acts.{event_of};
 ghost use Rattle.locked_buffers.specs.Commits.{told_with};
 ghost use Rattle.locked_buffers.specs.Runs.{AddsSentInRun, IsBookOfRun, IsFlightInRun};
 ghost use Rattle.locked_buffers.specs.Runs.{IsNextCopyInRun, algorithm_by};
@@ -16,14 +17,15 @@ ghost use Rattle.locked_buffers.specs.Seats.{Account, CloseBlame, MayClose, MayR
 ghost use Rattle.locked_buffers.specs.Seats.{ReceiveBlame, SendBlame, opening};
 
 use crate::account::joined;
+use crate::act::Act;
 use crate::commit::{commit_close, commit_receive, commit_send};
 use crate::fault::{PostFault, RelayFault, Unmatched};
 use crate::gate::{Gate, Point};
 use crate::locking::{Turn, take_book, take_buffer, try_book};
-use crate::network::{commit_copy, commit_drop, commit_release};
+use crate::network::commit_act;
 use crate::node_buffer::NodeBuffer;
 use crate::reading::{read_copy, read_flight, read_sent};
-use crate::ready::{copy_of, has_frame, make_place, make_room, note_names};
+use crate::ready::{make_place, make_ready, note_names};
 use crate::refusals::{may_close, refuses_receive, refuses_send};
 use crate::run::Run;
 use crate::seat::{Relay, Seat};
@@ -267,19 +269,7 @@ impl<P: Plan> Post<P> {
             moved) }
         ensures err { OnErr result (relay.new ≡ relay.old) }
     {
-        let mut turn = Turn::new();
-        for _ in rt.forever() {
-            let Some(mut buffer) = take_buffer(rt, &self.buffers, name.to) else {
-                return Err(RelayFault::Stranger);
-            };
-            let has_frame = make_room(&self.run, &mut buffer, name)?;
-            if let Some(mut book) = try_book(&self.book) {
-                return commit_release(&self.run, relay, &mut buffer, &mut book, name, has_frame);
-            }
-            drop(buffer);
-            turn.give_way(rt);
-        }
-        unreachable!()
+        self.act(rt, relay, Act::Release, name)
     }
 
     /// A drop: true if a copy was in flight; its frame is gone.
@@ -293,22 +283,7 @@ impl<P: Plan> Post<P> {
         ensures ok { IfOk result (λ lost. relay.new ≡ told_with relay.old (event.Drop name) lost) }
         ensures err { OnErr result (relay.new ≡ relay.old) }
     {
-        let mut turn = Turn::new();
-        for _ in rt.forever() {
-            let Some(mut buffer) = take_buffer(rt, &self.buffers, name.to) else {
-                return Err(RelayFault::Stranger);
-            };
-            if !self.run.has_buffer(&buffer.frames) {
-                return Err(RelayFault::Stranger);
-            }
-            let is_there = has_frame(&self.run, &buffer.frames, name);
-            if let Some(mut book) = try_book(&self.book) {
-                return commit_drop(&self.run, relay, &mut buffer, &mut book, name, is_there);
-            }
-            drop(buffer);
-            turn.give_way(rt);
-        }
-        unreachable!()
+        self.act(rt, relay, Act::Drop, name)
     }
 
     /// A copy: true if copy 0 was in flight and this one, 1 to 3, was never made; its frame is
@@ -324,15 +299,31 @@ impl<P: Plan> Post<P> {
         ensures ok { IfOk result (λ made. relay.new ≡ told_with relay.old (event.Copy name) made) }
         ensures err { OnErr result (relay.new ≡ relay.old) }
     {
+        self.act(rt, relay, Act::Copy, name)
+    }
+
+    /// An act of the network: true if a copy was let go, lost or made.
+    fn act<R: Wait>(
+        &self,
+        rt: &R,
+        relay: &mut Relay,
+        act: Act,
+        name: Name,
+    ) -> Result<bool, RelayFault>
+        requires name { IsName self.now.setup name }
+        requires other { act ≡ Act.Copy → 0 < name.copy }
+        ensures ok { IfOk result (λ done. relay.new ≡ told_with relay.old (event_of act name)
+            done) }
+        ensures err { OnErr result (relay.new ≡ relay.old) }
+    {
         let mut turn = Turn::new();
         for _ in rt.forever() {
             let Some(mut buffer) = take_buffer(rt, &self.buffers, name.to) else {
                 return Err(RelayFault::Stranger);
             };
-            let _is_there = make_place(&self.run, &mut buffer, name)?;
-            let frame = copy_of(&self.run, &buffer.frames, name)?;
+            let found = make_ready(&self.run, &mut buffer, act, name)?;
             if let Some(mut book) = try_book(&self.book) {
-                return commit_copy(&self.run, relay, &mut buffer, &mut book, name, frame);
+                return commit_act(&self.run, relay, &mut buffer, &mut book, act, name, found);
             }
             drop(buffer);
             turn.give_way(rt);

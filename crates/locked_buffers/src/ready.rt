@@ -1,14 +1,16 @@
 //! What a call does while it holds a buffer's lock and doesn't yet hold the book's, which all
 //! threads want: whether the buffer is of the run, room and copies of frames, and the names of
 //! those that wait.
-ghost use Rattle.std.specs.Prelude.{◌≡◌, ◌<◌, All, IfErr, IfOk, OnOk, option_map};
-ghost use Rattle.step_book.specs.Buffers.{flying_at, names_in};
+ghost use Rattle.std.specs.Prelude.{◌≡◌, All, IfErr, IfOk, OnOk, option_map};
+ghost use Rattle.step_book.specs.Buffers.{names_in};
 ghost use Rattle.step_book.specs.Names.{IsName};
-ghost use Rattle.step_book.specs.Tables.{HasPlace};
-ghost use Rattle.step_journal.specs.Fits.{IsOfRun, place_among};
+ghost use Rattle.step_journal.specs.Fits.{IsOfRun};
 ghost use Rattle.step_machine.specs.Sealed.{copied_as, original};
-ghost use Rattle.locked_buffers.specs.Commits.{HasFrame, IsUnread, IsUnready, SameBuffer};
+ghost use Rattle.locked_buffers.specs.Acts.{IsReadyFor};
+ghost use Rattle.locked_buffers.specs.Commits.{IsUnread, IsUnready};
+ghost use Rattle.locked_buffers.specs.Frames.{HasFrame, HasPlaceFor, IsSeen, SameBuffer, flying_as};
 
+use crate::act::{Act, Found};
 use crate::fault::{PostFault, RelayFault};
 use crate::names::add_names_of;
 use crate::node_buffer::NodeBuffer;
@@ -28,13 +30,9 @@ pub(crate) fn make_place<P: Plan>(
 ) -> Result<bool, RelayFault>
     requires own { buffer.old.node ≡ name.to }
     requires name { IsName run.now.setup name }
-    ensures own { buffer.new.node ≡ buffer.old.node }
-    ensures of_run { OnOk result (IsOfRun run.now.program run.now.setup buffer.new.frames) }
-    ensures frame { IfOk result (HasFrame
-        (flying_at buffer.new.frames name.round (place_among run.now.setup.nodes name))) }
-    ensures place { OnOk result
-        (HasPlace buffer.new.frames.flying name.round (place_among run.now.setup.nodes name)) }
-    ensures same { SameBuffer buffer.old.frames buffer.new.frames }
+    ensures seen { IfOk result (IsSeen run.now name buffer.new) }
+    ensures place { OnOk result (HasPlaceFor run.now.setup.nodes buffer.new.frames name) }
+    ensures same { SameBuffer buffer.old buffer.new }
     ensures cause { IfErr result (IsUnready run.now buffer.old.frames) }
 {
     if !run.has_buffer(&buffer.frames) {
@@ -45,29 +43,36 @@ pub(crate) fn make_place<P: Plan>(
     Ok(is_there)
 }
 
-/// Makes room in a buffer of the run for a frame more that waits, and says whether there is one in
-/// flight at the place of a message.
-pub(crate) fn make_room<P: Plan>(
+/// Makes a buffer of the run ready for an act of the network: room for the frame where the act
+/// brings one, and the frame that it makes.
+pub(crate) fn make_ready<P: Plan>(
     run: &Run<P>,
     buffer: &mut NodeBuffer,
+    act: Act,
     name: Name,
-) -> Result<bool, RelayFault>
+) -> Result<Found, RelayFault>
     requires own { buffer.old.node ≡ name.to }
     requires name { IsName run.now.setup name }
-    ensures own { buffer.new.node ≡ buffer.old.node }
-    ensures of_run { OnOk result (IsOfRun run.now.program run.now.setup buffer.new.frames) }
-    ensures frame { IfOk result (HasFrame
-        (flying_at buffer.new.frames name.round (place_among run.now.setup.nodes name))) }
-    ensures room { OnOk result (0 < buffer.new.frames.spare) }
-    ensures same { SameBuffer buffer.old.frames buffer.new.frames }
+    ensures ready { IfOk result (IsReadyFor run.now act name buffer.new) }
+    ensures same { SameBuffer buffer.old buffer.new }
     ensures cause { IfErr result (IsUnready run.now buffer.old.frames) }
 {
     if !run.has_buffer(&buffer.frames) {
         return Err(RelayFault::Stranger);
     }
-    let is_there = has_frame(run, &buffer.frames, name);
-    buffer.frames.reserve_waiting()?;
-    Ok(is_there)
+    let has_frame = has_frame(run, &buffer.frames, name);
+    let copied = match act {
+        Act::Release => {
+            buffer.frames.reserve_waiting()?;
+            None
+        }
+        Act::Drop => None,
+        Act::Copy => {
+            buffer.frames.reserve_flying(name.round, run.place(name))?;
+            copy_of(run, &buffer.frames, name)?
+        }
+    };
+    Ok(Found { has_frame, copied })
 }
 
 /// Whether a buffer has a frame in flight at the place of a message. The frame itself, which lies
@@ -75,8 +80,7 @@ pub(crate) fn make_room<P: Plan>(
 /// out.
 pub(crate) fn has_frame<P: Plan>(run: &Run<P>, buffer: &Buffer, name: Name) -> bool
     requires { IsName run.now.setup name }
-    ensures { HasFrame
-        (flying_at buffer.now name.round (place_among run.now.setup.nodes name)) result }
+    ensures { HasFrame (flying_as run.now.setup.nodes buffer.now name) result }
 {
     buffer.flying(name.round, run.place(name)).is_some()
 }
@@ -109,7 +113,7 @@ pub(crate) fn copy_of<P: Plan>(
 ) -> Result<Option<Sealed>, NoMemory>
     requires { IsName run.now.setup name }
     ensures { IfOk result (λ copied. copied ≡ option_map (copied_as name.copy)
-        (flying_at buffer.now name.round (place_among run.now.setup.nodes (original name)))) }
+        (flying_as run.now.setup.nodes buffer.now (original name))) }
 {
     match buffer.flying(name.round, run.place(name.original())) {
         Some(frame) => Ok(Some(frame.copied(name.copy)?)),

@@ -1,5 +1,5 @@
 use Rattle.std.proofs.Common.{◌≡◌}
-use Rattle.locked_buffers.proofs.post.Post.drop_frame.Given as goal
+use Rattle.locked_buffers.proofs.post.Post.act.Given as goal
 
 abbrev pub invariant-loop : goal.invariant-loop
 invariant-loop g l = record {
