@@ -59,8 +59,8 @@ fn agree_for<P: Plan>(
     }
 }
 
-/// Records the act, and does it to the frame.
-fn record<P: Plan>(
+/// Does an act: it is recorded in the book, and the frame moves in the buffer.
+fn perform<P: Plan>(
     run: &Run<P>,
     buffer: &mut NodeBuffer,
     book: &mut Book<P>,
@@ -134,7 +134,7 @@ pub(crate) fn commit_act<P: Plan>(
     run.sound();
     room(&mut relay.events)?;
     room(&mut relay.answers)?;
-    let done = record(run, buffer, book, act, name, found)?;
+    let done = perform(run, buffer, book, act, name, found)?;
     relay
         .events
         .push_reserved(StoredEvent::new(act.event(name)));

@@ -5,7 +5,7 @@ use Rattle.step_journal.specs.Fits.{place_among}
 use Rattle.locked_buffers.specs.Acts.{made_by}
 use Rattle.locked_buffers.specs.declared.act.Act.{Act}
 use Rattle.locked_buffers.proofs.Copies.{spelt_made}
-use Rattle.locked_buffers.proofs.network.record.Goals as goal
+use Rattle.locked_buffers.proofs.network.perform.Goals as goal
 
 pub put-requires-clause-honest : goal.put-requires-clause-honest
 put-requires-clause-honest g c =
