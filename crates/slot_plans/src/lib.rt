@@ -10,6 +10,7 @@ mod kind;
 mod known;
 mod laws;
 mod limits;
+mod named;
 mod plan;
 mod slot;
 
@@ -18,5 +19,6 @@ pub use kind::PlanKind;
 pub use known::Known;
 pub use laws::{clear_rounds_last, one_slot};
 pub use limits::{MAX_DELTA, MAX_NODES, MAX_ROUNDS};
+pub use named::NamedPlan;
 pub use plan::Plan;
 pub use slot::Slot;
