@@ -9,7 +9,7 @@ use omission_schedules::rounds_report;
 use round_check::Checked;
 use round_explorer::{Counterexample, Failure};
 use round_meaning::{NodeSet, Setup};
-use slot_plans::{Growing, Known, Plan, PlanKind};
+use slot_plans::{NamedPlan, Plan, PlanKind};
 use std::alloc::Global;
 use std::fmt;
 use std::io::Write;
@@ -24,30 +24,13 @@ pub(crate) fn tell_answers<O: Write>(
     alloc: Global,
     program: &Checked,
     setup: &Setup,
-    plan: PlanKind,
+    kind: PlanKind,
     told: &[Told],
     out: &mut O,
 ) -> Result<bool, Refusal> {
-    match plan {
-        PlanKind::Known(delta) => match Known::new(setup.nodes, delta) {
-            Some(plan) => tell_under(alloc, program, setup, plan, told, out),
-            None => Ok(false),
-        },
-        PlanKind::Growing => match Growing::new(setup.nodes) {
-            Some(plan) => tell_under(alloc, program, setup, plan, told, out),
-            None => Ok(false),
-        },
-    }
-}
-
-fn tell_under<P: Plan, O: Write>(
-    alloc: Global,
-    program: &Checked,
-    setup: &Setup,
-    plan: P,
-    told: &[Told],
-    out: &mut O,
-) -> Result<bool, Refusal> {
+    let Some(plan) = NamedPlan::new(kind, setup.nodes) else {
+        return Ok(false);
+    };
     let runs = SearchedRuns {
         program,
         setup,

@@ -8,7 +8,7 @@ use command_runs::{Refusal, rounds_omitting};
 use command_words::Source;
 use omission_explainer::write_report;
 use omission_texts::read_omissions;
-use slot_plans::{Growing, Known, PlanKind};
+use slot_plans::NamedPlan;
 use std::alloc::Global;
 use std::io::Write;
 
@@ -35,22 +35,16 @@ pub(crate) fn tell_rounds<O: Write>(
     let Some(header) = files.header(alloc)? else {
         return Ok(false);
     };
-    let plan = header.plan;
+    let kind = header.plan;
     let setup = &header.setup;
     let program = program_for(alloc, source, files, setup.nodes, setup.faults);
     let Some(program) = unless_refused(program)? else {
         return Ok(false);
     };
-    let run = match plan {
-        PlanKind::Known(delta) => match Known::new(setup.nodes, delta) {
-            Some(plan) => rounds_omitting(alloc, &program, setup, plan, &omissions),
-            None => return Ok(false),
-        },
-        PlanKind::Growing => match Growing::new(setup.nodes) {
-            Some(plan) => rounds_omitting(alloc, &program, setup, plan, &omissions),
-            None => return Ok(false),
-        },
+    let Some(plan) = NamedPlan::new(kind, setup.nodes) else {
+        return Ok(false);
     };
+    let run = rounds_omitting(alloc, &program, setup, plan, &omissions);
     let Some(report) = unless_refused(run)? else {
         return Ok(false);
     };

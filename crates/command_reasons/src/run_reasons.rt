@@ -13,7 +13,7 @@ use reason_texts::TextLines;
 use round_check::Checked;
 use round_meaning::Setup;
 use schedule_text::ScheduleReader;
-use slot_plans::{Growing, Known, Plan, PlanKind};
+use slot_plans::{NamedPlan, Plan};
 use std::alloc::Global;
 use std::io::Write;
 use std::mem;
@@ -45,7 +45,7 @@ pub(crate) fn tell_run<O: Write>(
         return Ok(false);
     }
     let opened = ScheduleReader::open(alloc, ByteSource::new(text.as_bytes()));
-    let Some((reader, setup, plan)) = unless_refused(opened)? else {
+    let Some((reader, setup, kind)) = unless_refused(opened)? else {
         return Ok(false);
     };
     let program = program_for(alloc, source, files, setup.nodes, setup.faults);
@@ -58,15 +58,9 @@ pub(crate) fn tell_run<O: Write>(
         schedule: text,
         question,
     };
-    match plan {
-        PlanKind::Known(delta) => match Known::new(setup.nodes, delta) {
-            Some(plan) => run.tell(alloc, plan, reader, out),
-            None => Ok(false),
-        },
-        PlanKind::Growing => match Growing::new(setup.nodes) {
-            Some(plan) => run.tell(alloc, plan, reader, out),
-            None => Ok(false),
-        },
+    match NamedPlan::new(kind, setup.nodes) {
+        Some(plan) => run.tell(alloc, plan, reader, out),
+        None => Ok(false),
     }
 }
 

@@ -5,7 +5,7 @@ use crate::reading::schedule_fault;
 use crate::{alone, memory, others, row};
 use adversary::{Schedule, read_schedule};
 use round_check::Checked;
-use slot_plans::{Growing, Known, Plan, PlanKind};
+use slot_plans::{NamedPlan, Plan};
 use std::alloc::Global;
 use std::sync::Wait;
 use test_kit::Fault;
@@ -44,15 +44,6 @@ pub fn answer<R: Wait>(
     word: &str,
 ) -> Result<String, Fault> {
     let schedule = read_schedule(alloc, input).map_err(schedule_fault)?;
-    let nodes = schedule.setup.nodes;
-    match schedule.plan {
-        PlanKind::Known(delta) => {
-            let plan = Known::new(nodes, delta).ok_or(Fault::Unreadable)?;
-            answer_planned(rt, alloc, program, &schedule, plan, word)
-        }
-        PlanKind::Growing => {
-            let plan = Growing::new(nodes).ok_or(Fault::Unreadable)?;
-            answer_planned(rt, alloc, program, &schedule, plan, word)
-        }
-    }
+    let plan = NamedPlan::new(schedule.plan, schedule.setup.nodes).ok_or(Fault::Unreadable)?;
+    answer_planned(rt, alloc, program, &schedule, plan, word)
 }

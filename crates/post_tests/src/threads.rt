@@ -14,7 +14,7 @@ use policies::{Policy, Prompt};
 use round_check::Checked;
 use round_meaning::Setup;
 use schedule_text::{Pace, Stop, ThreadSetup, read_threads, write_stored_schedule};
-use slot_plans::{Growing, Known, Plan, PlanKind};
+use slot_plans::{Known, NamedPlan, Plan, PlanKind};
 use std::alloc::Global;
 use std::sync::Wait;
 use std::thread::Threads;
@@ -172,16 +172,8 @@ pub fn threads<R: Threads + Wait + Sync>(
         stops: &stops,
         shown,
     };
-    match plan {
-        PlanKind::Known(delta) => {
-            let plan = Known::new(setup.nodes, delta).ok_or(Fault::Unreadable)?;
-            asked.answer(rt, alloc, plan, policy, &OpenGate)
-        }
-        PlanKind::Growing => {
-            let plan = Growing::new(setup.nodes).ok_or(Fault::Unreadable)?;
-            asked.answer(rt, alloc, plan, policy, &OpenGate)
-        }
-    }
+    let plan = NamedPlan::new(plan, setup.nodes).ok_or(Fault::Unreadable)?;
+    asked.answer(rt, alloc, plan, policy, &OpenGate)
 }
 
 /// A run under a gate, with one receive a round.

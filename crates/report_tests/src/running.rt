@@ -6,7 +6,7 @@ use crate::sources::program_of;
 use adversary::{RunFault, ScheduleFault, read_schedule, run_schedule};
 use round_check::Checked;
 use round_meaning::Setup;
-use slot_plans::{Growing, Known, Plan, PlanKind};
+use slot_plans::{NamedPlan, Plan};
 use std::alloc::Global;
 use std::rt::Files;
 use step_machine::Event;
@@ -52,7 +52,6 @@ pub(crate) fn tell_run<R: Files + AllocGlobal>(
         Err(ScheduleFault::NoMemory) => return Err(Fault::NoMemory),
         Err(_) => return Err(Fault::Unreadable),
     };
-    let kind = schedule.plan;
     let program = program_of(rt, alloc, question.source, &schedule.setup)?;
     let events = schedule.events.to_vec(alloc)?;
     let run = Run {
@@ -61,14 +60,6 @@ pub(crate) fn tell_run<R: Files + AllocGlobal>(
         events: events.as_slice(),
         schedule: text,
     };
-    match kind {
-        PlanKind::Known(delta) => {
-            let plan = Known::new(schedule.setup.nodes, delta).ok_or(Fault::Unreadable)?;
-            run.tell(alloc, plan, question, out)
-        }
-        PlanKind::Growing => {
-            let plan = Growing::new(schedule.setup.nodes).ok_or(Fault::Unreadable)?;
-            run.tell(alloc, plan, question, out)
-        }
-    }
+    let plan = NamedPlan::new(schedule.plan, schedule.setup.nodes).ok_or(Fault::Unreadable)?;
+    run.tell(alloc, plan, question, out)
 }
