@@ -1,7 +1,5 @@
 //! From a journal to its report.
-ghost use Rattle.std.specs.Prelude.{◌≡◌, ◌≢◌, ◌+◌, ◌<◌, ◌≤◌, ◌↔◌, ℕ, All, IfOk, IsTrue, map};
-ghost use Rattle.std.specs.Arc.{arc_value};
-ghost use Rattle.round_check.specs.Types.{kind_type};
+ghost use Rattle.std.specs.Prelude.{◌≡◌, ◌≢◌, ◌+◌, ◌<◌, ◌≤◌, ◌↔◌, All, IfOk, IsTrue, map};
 ghost use Rattle.round_meaning.specs.Agreement.{RunsAlgorithm1};
 ghost use Rattle.round_meaning.specs.Rounds.{algorithm_of};
 ghost use Rattle.round_meaning.specs.Turn.{decision};
@@ -21,7 +19,8 @@ ghost use Rattle.omission_explainer.specs.StoredDecisions.{IsDecidedAt};
 use crate::listed::Listed;
 use crate::report::{Report, ReportRow};
 use crate::stored_decision::{decided_place, decision_at};
-use round_lang::{Identifier, NoMemory, Program, Ty, VariableKind};
+use crate::variables::{variable_names, variable_types};
+use round_lang::NoMemory;
 use round_meaning::NodeSet;
 use slot_plans::Plan;
 use std::alloc::Global;
@@ -55,40 +54,11 @@ pub fn explain<P: Plan>(alloc: Global, journal: &Journal<P>) -> Result<Report, N
     let program = book.program().program();
     Ok(Report {
         values: program.values(),
-        names: names_of(alloc, program)?,
-        types: types_of(alloc, program)?,
+        names: variable_names(alloc, program)?,
+        types: variable_types(alloc, program)?,
         rows: Listed::new(rows_of(alloc, book)?),
         counts: Listed::new(counts_of(alloc, book)?),
     })
-}
-
-fn names_of(alloc: Global, program: &Program) -> Result<Listed<Identifier>, NoMemory>
-    ensures { IfOk result (λ names. names ≡ declared_names program.now) }
-{
-    let mut names = Vec::new(alloc);
-    for variable in program.variables() {
-        names.push(variable.name.copy()?)?;
-    }
-    Ok(Listed::new(names))
-}
-
-fn types_of(alloc: Global, program: &Program) -> Result<Listed<Ty>, NoMemory>
-    ensures { IfOk result (λ types. types ≡ declared_types program.now) }
-{
-    let mut types = Vec::new(alloc);
-    for variable in program.variables() {
-        types.push(type_of(&variable.kind))?;
-    }
-    Ok(Listed::new(types))
-}
-
-fn type_of(kind: &VariableKind) -> Ty
-    ensures { result ≡ kind_type kind.now }
-{
-    match kind {
-        VariableKind::Input => Ty::Num,
-        VariableKind::State { ty, start: _ } => *ty,
-    }
 }
 
 /// A row for each closed round of each node, by round and then by node.

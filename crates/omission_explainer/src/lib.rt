@@ -10,6 +10,7 @@ mod report;
 mod spelt_set;
 mod stored_decision;
 mod summary;
+mod variables;
 mod writing;
 
 pub use deciding::decided;
@@ -19,4 +20,5 @@ pub use listed::Listed;
 pub use printed::{omissions_give_inbox, sets_part_nodes};
 pub use report::{Report, ReportRow};
 pub use summary::Decided;
+pub use variables::{variable_names, variable_types};
 pub use writing::write_report;

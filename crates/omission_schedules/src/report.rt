@@ -2,12 +2,10 @@
 ghost use Rattle.std.specs.Prelude.{◌≡◌, ◌++◌, ◌+◌, ◌-◌, ◌<◌, ◌≤◌, ◌⊎◌, ◌↔◌, All, Err, IfErr, IfOk};
 ghost use Rattle.std.specs.Prelude.{OnOk, filter, length, map, slice_index};
 ghost use Rattle.std.specs.List.{range_with_len};
-ghost use Rattle.omission_explainer.specs.Printed.{IsPrinted};
-ghost use Rattle.omission_explainer.specs.Reported.{declared_names, declared_types, place};
+ghost use Rattle.omission_explainer.specs.Reported.{place};
 ghost use Rattle.omission_schedules.specs.Reports.{IsRowUnder, ShowsRounds, count_until};
 ghost use Rattle.omission_schedules.specs.Reports.{ended_below, ended_rounds, is_ended};
 ghost use Rattle.omission_schedules.specs.Stages.{omits_under};
-ghost use Rattle.round_check.specs.Types.{kind_type};
 ghost use Rattle.round_meaning.specs.Omissions.{is_omitted};
 ghost use Rattle.round_meaning.specs.Rounds.{algorithm_of, rounds};
 ghost use Rattle.round_meaning.specs.Setups.{IsLawful, IsSetup};
@@ -16,9 +14,9 @@ ghost use Rattle.slot_plans.specs.Limits.{max_rounds};
 
 use crate::rounds::{Rounds, end_state, initial_states, turn_of};
 use adversary::RunFault;
-use omission_explainer::{Listed, Report, ReportRow};
+use omission_explainer::{Listed, Report, ReportRow, variable_names, variable_types};
 use round_check::Checked;
-use round_lang::{Identifier, NoMemory, Program, Ty, VariableKind, Vars};
+use round_lang::{NoMemory, Vars};
 use round_meaning::{OmissionTable, Setup, decision_of, types_are_kept};
 use slot_plans::Plan;
 use std::alloc::Global;
@@ -70,40 +68,11 @@ fn report_of<P: Plan>(alloc: Global, run: &Rounds<'_, P>) -> Result<Report, NoMe
     let program = run.program.program();
     Ok(Report {
         values: program.values(),
-        names: names_of(alloc, program)?,
-        types: types_of(alloc, program)?,
+        names: variable_names(alloc, program)?,
+        types: variable_types(alloc, program)?,
         rows: Listed::new(rows_of(alloc, run)?),
         counts: Listed::new(counts_of(alloc, run)?),
     })
-}
-
-fn names_of(alloc: Global, program: &Program) -> Result<Listed<Identifier>, NoMemory>
-    ensures { IfOk result (λ names. names ≡ declared_names program.now) }
-{
-    let mut names = Vec::new(alloc);
-    for variable in program.variables() {
-        names.push(variable.name.copy()?)?;
-    }
-    Ok(Listed::new(names))
-}
-
-fn types_of(alloc: Global, program: &Program) -> Result<Listed<Ty>, NoMemory>
-    ensures { IfOk result (λ types. types ≡ declared_types program.now) }
-{
-    let mut types = Vec::new(alloc);
-    for variable in program.variables() {
-        types.push(type_of(&variable.kind))?;
-    }
-    Ok(Listed::new(types))
-}
-
-fn type_of(kind: &VariableKind) -> Ty
-    ensures { result ≡ kind_type kind.now }
-{
-    match kind {
-        VariableKind::Input => Ty::Num,
-        VariableKind::State { ty, start: _ } => *ty,
-    }
 }
 
 /// For each node its steps, and how many rounds it ends.
