@@ -78,6 +78,7 @@ fn perform<P: Plan>(
     ensures err { OnErr result ((book.new ≡ book.old) × (buffer.new ≡ buffer.old)) }
 {
     let place = run.place(name);
+    let copied = found.copied;
     match act {
         Act::Release => {
             let moved = book.release(name)?;
@@ -97,7 +98,7 @@ fn perform<P: Plan>(
             buffer.frames.honest();
             let made = book.make_copy(name)?;
             if made {
-                if let Some(frame) = found.copied {
+                if let Some(frame) = copied {
                     buffer.frames.put(name.round, place, frame);
                 }
             }
