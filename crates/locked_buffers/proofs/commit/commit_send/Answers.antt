@@ -11,7 +11,7 @@ put-requires-clause-honest g c =
     c.in-Some-into_sealed.frame c.requires.work c.into_sealed.ensures
     c.in-Some-into_sealed.is in
     spells_of_run run.program run.setup c.args.buffer.now.frames c.in-Some-into_sealed.frame
-    c.requires.of_run said
+    c.requires.seen.buffer.of_run said
 
 pub returns-clause-frame : goal.returns-clause-frame
 returns-clause-frame g c = elim c.match-into_sealed.branch
