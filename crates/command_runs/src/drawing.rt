@@ -57,7 +57,7 @@ pub(crate) fn draw<'a, D: Desk, O: Write>(
 /// What a picture is made of, beside the run: the words for its title, the text of the schedule,
 /// and what is drawn.
 #[derive(Clone, Copy)]
-pub struct Sheet<'a> {
+pub(crate) struct Sheet<'a> {
     pub run: Run<'a>,
     pub text: &'a str,
     pub drawing: &'a Drawing,
@@ -65,7 +65,7 @@ pub struct Sheet<'a> {
 
 impl<'a> Run<'a> {
     /// Runs the schedule and draws what is asked for, as the text of a picture or of a page.
-    pub fn picture<D: Desk>(
+    pub(crate) fn picture<D: Desk>(
         &self,
         alloc: Global,
         drawing: &Drawing,

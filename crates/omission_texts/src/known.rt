@@ -6,7 +6,7 @@ use crate::line::{OmissionLine, RoundRange};
 use round_meaning::Setup;
 
 /// The place of the first line that names what isn't of the run.
-pub fn first_unknown(lines: &[OmissionLine], setup: &Setup) -> Option<usize>
+pub(crate) fn first_unknown(lines: &[OmissionLine], setup: &Setup) -> Option<usize>
     ensures { IsFirstUnknown setup.now lines.now result }
 {
     for (place, line) in lines.iter().enumerate() {

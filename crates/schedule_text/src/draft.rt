@@ -19,7 +19,7 @@ use stored_events::Events;
 /// How far the header and the pace behind it have come: what their lines say so far, but for the
 /// inputs.
 #[derive(Clone, Copy)]
-pub enum Stage {
+pub(crate) enum Stage {
     Start,
     Nodes(u32),
     Faults(u32, u32),
@@ -31,7 +31,7 @@ pub enum Stage {
 
 /// What is read so far.
 #[derive(Drop)]
-pub struct Draft {
+pub(crate) struct Draft {
     pub stage: Stage,
     pub inputs: Vec<u32>,
     pub events: Events,
@@ -47,7 +47,7 @@ impl Draft {
     ghost use Rattle.schedule_text.specs.declared.kind.Kind.TheVariants as kinds;
 
     /// Nothing read.
-    pub fn new(alloc: Global) -> Draft
+    pub(crate) fn new(alloc: Global) -> Draft
         ensures { state_of result ≡ spec.start }
     {
         Draft {
@@ -60,7 +60,7 @@ impl Draft {
 
     /// Takes in the first line of a text of this kind and answers what follows it; a draft that has
     /// refused one is of no use. The last round is that of the lines before.
-    pub fn read_front<'a>(
+    pub(crate) fn read_front<'a>(
         &mut self,
         alloc: Global,
         kind: Kind,
@@ -134,7 +134,7 @@ impl Draft {
     }
 
     /// The schedule, if the header is whole; else the fault at the line past the last.
-    pub fn schedule(self, number: u64) -> Result<Schedule, ScheduleFault>
+    pub(crate) fn schedule(self, number: u64) -> Result<Schedule, ScheduleFault>
         ensures ended { Gives result
             (spec.answer_at_end kinds.Schedule number self.stage (state_of self)) }
         ensures short { result ≢ Err ScheduleFault.TooLong }
@@ -154,7 +154,7 @@ impl Draft {
     }
 
     /// The thread setup, if the pace was read; else the fault at the line past the last.
-    pub fn threads(self, number: u64) -> Result<ThreadSetup, ScheduleFault>
+    pub(crate) fn threads(self, number: u64) -> Result<ThreadSetup, ScheduleFault>
         ensures ended { GivesThreads result
             (spec.answer_at_end kinds.Threads number self.stage (state_of self)) }
         ensures short { result ≢ Err ScheduleFault.TooLong }
@@ -190,7 +190,7 @@ impl Draft {
     }
 
     /// The header, if it is whole; else the fault at the line past the last.
-    pub fn header(self, number: u64) -> Result<(Setup, PlanKind), ScheduleFault>
+    pub(crate) fn header(self, number: u64) -> Result<(Setup, PlanKind), ScheduleFault>
         ensures ended { GivesHeader result
             (spec.answer_at_end kinds.Header number self.stage (state_of self)) }
         ensures short { result ≢ Err ScheduleFault.TooLong }
