@@ -16,17 +16,40 @@ use std::alloc::Global;
 use step_machine::Event;
 use stored_events::Events;
 
+/// The numbers of a header, but for the inputs.
+#[derive(Clone, Copy)]
+pub(crate) struct Sizes {
+    pub nodes: u32,
+    pub faults: u32,
+    pub rounds: u32,
+}
+
+impl Sizes {
+    ghost use Rattle.schedule_text.specs.Stages.{setup_in};
+
+    fn setup(self, inputs: Vec<u32>) -> Setup
+        ensures { result ≡ setup_in self inputs.items }
+    {
+        Setup {
+            nodes: self.nodes,
+            faults: self.faults,
+            inputs: Inputs::new(inputs),
+            rounds: self.rounds,
+        }
+    }
+}
+
 /// How far the header and the pace behind it have come: what their lines say so far, but for the
 /// inputs.
 #[derive(Clone, Copy)]
 pub(crate) enum Stage {
     Start,
     Nodes(u32),
-    Faults(u32, u32),
-    Inputs(u32, u32),
-    Rounds(u32, u32, u32),
-    Whole(u32, u32, u32, PlanKind),
-    Paced(u32, u32, u32, PlanKind, Pace),
+    Faults { nodes: u32, faults: u32 },
+    Inputs { nodes: u32, faults: u32 },
+    Rounds(Sizes),
+    Whole(Sizes, PlanKind),
+    Paced(Sizes, PlanKind, Pace),
 }
 
 /// What is read so far.
@@ -109,23 +132,25 @@ impl Draft {
         match self.stage {
             Stage::Start => self.stage = Stage::Nodes(number_after(line, b"nodes ")?),
             Stage::Nodes(nodes) => {
-                self.stage = Stage::Faults(nodes, number_after(line, b"faults ")?)
+                let faults = number_after(line, b"faults ")?;
+                self.stage = Stage::Faults { nodes, faults };
             }
-            Stage::Faults(nodes, faults) => {
+            Stage::Faults { nodes, faults } => {
                 self.inputs = inputs_of(alloc, line)?;
-                self.stage = Stage::Inputs(nodes, faults);
+                self.stage = Stage::Inputs { nodes, faults };
             }
-            Stage::Inputs(nodes, faults) => {
-                self.stage = Stage::Rounds(nodes, faults, number_after(line, b"rounds ")?)
+            Stage::Inputs { nodes, faults } => {
+                let rounds = number_after(line, b"rounds ")?;
+                self.stage = Stage::Rounds(Sizes {
+                    nodes,
+                    faults,
+                    rounds,
+                });
             }
-            Stage::Rounds(nodes, faults, rounds) => {
-                self.stage = Stage::Whole(nodes, faults, rounds, plan_of(line)?)
-            }
-            Stage::Whole(nodes, faults, rounds, plan) => match kind {
+            Stage::Rounds(sizes) => self.stage = Stage::Whole(sizes, plan_of(line)?),
+            Stage::Whole(sizes, plan) => match kind {
                 Kind::Schedule => self.events.push(event_of(line)?)?,
-                Kind::Threads => {
-                    self.stage = Stage::Paced(nodes, faults, rounds, plan, pace_of(line)?)
-                }
+                Kind::Threads => self.stage = Stage::Paced(sizes, plan, pace_of(line)?),
                 Kind::Header => return Err(LineFault::Bad),
             },
             Stage::Paced(..) => self.stops.push(stop_of(line)?)?,
@@ -165,11 +190,11 @@ impl Draft {
             stops,
             ..
         } = self;
-        let Stage::Paced(nodes, faults, rounds, plan, pace) = stage else {
+        let Stage::Paced(sizes, plan, pace) = stage else {
             return Err(ScheduleFault::BadLine(number));
         };
         Ok(ThreadSetup {
-            setup: setup_of(nodes, faults, inputs, rounds),
+            setup: sizes.setup(inputs),
             plan,
             pace,
             stops,
@@ -181,9 +206,9 @@ impl Draft {
         ensures { IfOk result (λ header. header ≡ header_in self.now) }
     {
         match self.stage {
-            Stage::Whole(nodes, faults, rounds, plan) => {
+            Stage::Whole(sizes, plan) => {
                 let inputs = self.inputs.to_vec(alloc)?;
-                Ok(Some((setup_of(nodes, faults, inputs, rounds), plan)))
+                Ok(Some((sizes.setup(inputs), plan)))
             }
             _ => Ok(None),
         }
@@ -200,18 +225,6 @@ impl Draft {
     }
 }
 
-fn setup_of(nodes: u32, faults: u32, inputs: Vec<u32>, rounds: u32) -> Setup
-    ensures { result
-        ≡ record { nodes = nodes; faults = faults; inputs = inputs.items; rounds = rounds } }
-{
-    Setup {
-        nodes,
-        faults,
-        inputs: Inputs::new(inputs),
-        rounds,
-    }
-}
-
 /// The header that stands at this stage, if it is whole; else the fault at this line.
 fn header_of(
     stage: Stage,
@@ -221,9 +234,7 @@ fn header_of(
     ensures { result ≡ whole_header number stage inputs.items }
 {
     match stage {
-        Stage::Whole(nodes, faults, rounds, plan) => {
-            Ok((setup_of(nodes, faults, inputs, rounds), plan))
-        }
+        Stage::Whole(sizes, plan) => Ok((sizes.setup(inputs), plan)),
         _ => Err(ScheduleFault::BadLine(number)),
     }
 }
