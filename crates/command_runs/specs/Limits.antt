@@ -10,7 +10,7 @@ use Rattle.round_meaning.specs.Setups as setups
 use Rattle.round_meaning.specs.declared.setup.TheConstants as setup_code
 use Rattle.schedule_text.specs.Texts as schedules
 use Rattle.schedule_text.specs.declared.reading.TheConstants as schedule_code
-use Rattle.slot_plans.specs.Limits as plans
+use Rattle.run_events.specs.Limits as plans
 use Rattle.slot_plans.specs.declared.limits.TheConstants as plan_code
 use Rattle.step_machine.specs.Nodes as machine
 use Rattle.step_machine.specs.declared.node.TheConstants as node_code

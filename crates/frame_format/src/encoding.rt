@@ -12,7 +12,8 @@ use crate::header::{bytes_of, write_header};
 use crate::layout::Layout;
 use byteorder::{BigEndian, ByteOrder};
 use bytes::Bytes;
-use round_lang::{Kind, Message, NoMemory};
+use round_lang::{Kind, Message};
+use run_events::NoMemory;
 use std::alloc::Global;
 
 /// The bytes of a message as a frame of version 2. The nodes are below the layout's number, the

@@ -7,7 +7,8 @@ ghost use Rattle.frame_format.specs.Formats.{IsFormat};
 
 use crate::block::BlockLayout;
 use round_check::Checked;
-use round_lang::{Block, Kind, NoMemory, Shape};
+use round_lang::{Block, Kind, Shape};
+use run_events::NoMemory;
 use std::alloc::Global;
 use std::marker::Model;
 

@@ -3,8 +3,8 @@ use Rattle.std.specs.Prelude.{◌≡◌, ℕ, ◌<◌, List, [], ◌∷◌, ◌+
 use Rattle.step_book.specs.Agreement.{row}
 use Rattle.step_book.specs.History.{answers_of, handed_of}
 use Rattle.step_book.specs.Log.{Log, Recorded, count_of, history, world_of}
-use Rattle.step_machine.specs.declared.event.Event.{Event}
-use Rattle.step_machine.specs.declared.event.Event.TheVariants.{Step, Release, Drop, Copy}
+use Rattle.run_events.specs.declared.event.Event.{Event}
+use Rattle.run_events.specs.declared.event.Event.TheVariants.{Step, Release, Drop, Copy}
 use Rattle.locked_buffers.specs.Seats.{Account, Told}
 
 -- the event, if it's one of the network

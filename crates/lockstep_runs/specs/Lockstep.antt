@@ -14,10 +14,10 @@ use Rattle.step_book.specs.Log.{Log}
 use Rattle.step_book.specs.Names.{IsNameOf}
 use Rattle.step_book.specs.Trace.{steps}
 use Rattle.step_book.specs.World.{World, nodes_of}
-use Rattle.step_machine.specs.declared.event.Event.{Event}
-use Rattle.step_machine.specs.declared.event.Event.TheVariants.{Step, Release, Drop, Copy}
-use Rattle.step_machine.specs.declared.event.InFlight.{InFlight}
-use Rattle.step_machine.specs.declared.event.Name.{Name}
+use Rattle.run_events.specs.declared.event.Event.{Event}
+use Rattle.run_events.specs.declared.event.Event.TheVariants.{Step, Release, Drop, Copy}
+use Rattle.run_events.specs.declared.in_flight.InFlight.{InFlight}
+use Rattle.run_events.specs.declared.name.Name.{Name}
 use Rattle.step_book.specs.Serials.{serial}
 use Rattle.lockstep_runs.specs.Changes.{timing_by, timing_of}
 use Rattle.lockstep_runs.specs.Timing.{Timing, steps_in}

@@ -20,14 +20,13 @@ use crate::listed::Listed;
 use crate::report::{Report, ReportRow};
 use crate::stored_decision::{decided_place, decision_at};
 use crate::variables::{variable_names, variable_types};
-use round_lang::NoMemory;
 use round_meaning::NodeSet;
+use run_events::{Name, NoMemory};
 use slot_plans::Plan;
 use std::alloc::Global;
 use std::sync::Arc;
 use step_book::{Book, Mark, earliest, is_within};
 use step_journal::Journal;
-use step_machine::Name;
 
 /// The report of a journal: its closed rounds, as rounds with omissions. Where the program is
 /// Algorithm 1, for a setup with fewer than half of the nodes faulty, all decisions in it are

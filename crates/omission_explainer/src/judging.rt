@@ -9,11 +9,11 @@ ghost use Rattle.omission_explainer.specs.Verdict.{AreNodes, HearsFrom, IsDelayB
 ghost use Rattle.omission_explainer.specs.Verdict.{yes_or_no};
 
 use round_meaning::NodeSet;
-use slot_plans::{MAX_NODES, Plan, Slot};
+use run_events::{Event, MAX_NODES, Name};
+use slot_plans::{Plan, Slot};
 use std::fmt;
 use step_book::{Book, Mark};
 use step_journal::Journal;
-use step_machine::{Event, Name};
 
 /// The judgement of a run for a set of correct nodes: whether they stepped in lockstep, whether
 /// their messages kept the bound on the delay, and the first round, from 1, from which on messages

@@ -9,10 +9,9 @@ ghost use Rattle.omission_reasons.specs.Reasons.{IsMade};
 
 use crate::idle::is_unsent;
 use crate::trace_index::TraceIndex;
+use run_events::{Event, Name, StoredEvent};
 use slot_plans::Plan;
 use step_book::{Book, Mark};
-use step_machine::{Event, Name};
-use stored_events::StoredEvent;
 
 /// Which events of a copy are sought: those that make it, or those by which it leaves.
 #[derive(Clone, Copy, PartialEq, Eq, Debug)]

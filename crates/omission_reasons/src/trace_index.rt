@@ -5,11 +5,10 @@ ghost use Rattle.omission_reasons.specs.Listing.{has_number, listed, number_of};
 ghost use Rattle.omission_reasons.specs.Indexing.{IsIndexOf};
 
 use crate::places::Places;
-use round_lang::NoMemory;
+use run_events::{Event, Name, NoMemory};
 use slot_plans::Plan;
 use std::alloc::Global;
 use step_book::Book;
-use step_machine::{Event, Name};
 
 /// Where the events of a run stand in its trace: the steps of each node, and the network's events
 /// that name each message.

@@ -1,5 +1,5 @@
 //! Why there is no answer.
-use round_lang::NoMemory;
+use run_events::NoMemory;
 use std::alloc::{AllocError, AllocFailed};
 use std::io::ErrorKind;
 use std::{fmt, io};

@@ -2,12 +2,13 @@
 ghost use Rattle.std.specs.Prelude.{◌≡◌};
 
 use locked_buffers::{Mail, OpenGate, Post, PostFault, PostMail, Relay, Seat};
+use run_events::Name;
 use slot_plans::Plan;
 use std::sync::atomic::{AtomicBool, Ordering};
 use std::sync::{Mutex, Wait};
 use step_book::{CloseFault, Refused};
 use step_journal::Took;
-use step_machine::{Finished, Name, Prepared};
+use step_machine::{Finished, Prepared};
 
 /// A post's calls, which release each message as soon as it was sent.
 #[derive(Drop)]

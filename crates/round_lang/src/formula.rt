@@ -6,7 +6,7 @@ ghost use Rattle.round_lang.specs.Tree.{nesting, tree_of};
 use crate::copies::{copy, same};
 use crate::expr::Expr;
 use crate::limits::MAX_NESTING;
-use crate::memory::NoMemory;
+use run_events::NoMemory;
 use std::alloc::Global;
 use std::marker::Model;
 

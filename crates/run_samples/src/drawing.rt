@@ -8,8 +8,8 @@ use crate::case::Case;
 use crate::dice::{Dice, Rate};
 use round_check::Checked;
 use round_explorer::{AskedInputs, Failure, FaultKind, Part, Property, Question};
-use round_lang::NoMemory;
 use round_meaning::{Inputs, Setup};
+use run_events::NoMemory;
 use std::alloc::Global;
 
 /// The rounds that a crash is likelier to be drawn from than others.

@@ -2,8 +2,8 @@
 use crate::case::Case;
 use crate::missing::Rows;
 use crate::rows::may_be_heard;
-use round_lang::NoMemory;
 use round_meaning::{NodeSet, OmissionTable};
+use run_events::NoMemory;
 use std::alloc::Global;
 
 /// Some nodes in the rows from one place up to another.

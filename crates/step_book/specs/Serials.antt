@@ -8,9 +8,9 @@ use Rattle.step_book.specs.Names.{IsNameOf}
 use Rattle.step_book.specs.Trace.{steps}
 use Rattle.step_book.specs.Work.{sent_name}
 use Rattle.step_book.specs.World.{World, nodes_of}
-use Rattle.step_machine.specs.declared.event.Event.{Event}
-use Rattle.step_machine.specs.declared.event.Event.TheVariants.{Step, Release, Drop, Copy}
-use Rattle.step_machine.specs.declared.event.Name.{Name}
+use Rattle.run_events.specs.declared.event.Event.{Event}
+use Rattle.run_events.specs.declared.event.Event.TheVariants.{Step, Release, Drop, Copy}
+use Rattle.run_events.specs.declared.name.Name.{Name}
 
 -- step number x is one of the sends of round r
 abbrev pub sends_in : World → ℕ → ℕ → Bool

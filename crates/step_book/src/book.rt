@@ -21,7 +21,7 @@ ghost use Rattle.step_book.specs.Serials.{AreSent, HasSerial};
 ghost use Rattle.step_book.specs.Slots.{IsMessageAt, IsNoMessageAt};
 ghost use Rattle.step_book.specs.Stored.{IsShort};
 ghost use Rattle.step_book.specs.declared.mark.Mark.TheVariants.{Unsent};
-ghost use Rattle.step_machine.specs.declared.event.Name.{Name as OneName};
+ghost use Rattle.run_events.specs.declared.name.Name.{Name as OneName};
 
 mod closing;
 mod network;
@@ -33,14 +33,13 @@ use crate::marks::Marks;
 use crate::notes::{note_receive, note_send, note_step};
 use crate::opening::{first_rows, no_mail, no_steps};
 use round_check::Checked;
-use round_lang::NoMemory;
 use round_meaning::Setup;
+use run_events::{InFlight, MAX_COPY, Name, NoMemory, StoredEvent, StoredName};
 use slot_plans::{Plan, Slot};
 use std::alloc::Global;
 use std::marker::Model;
 use std::sync::Arc;
-use step_machine::{InFlight, MAX_COPY, Name, Prepared, StoredState};
-use stored_events::{StoredEvent, StoredName};
+use step_machine::{Prepared, StoredState};
 
 /// The record of a run: its events, the steps of each node, the states of its closed rounds, what
 /// became of each copy of each message, what each receive handed out, how each event of the network

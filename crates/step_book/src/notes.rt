@@ -8,16 +8,15 @@ ghost use Rattle.step_book.specs.History.{arrival};
 ghost use Rattle.step_book.specs.Stored.{IsShort};
 ghost use Rattle.step_book.specs.Tables.{Puts, SameTables};
 ghost use Rattle.step_book.specs.Log.{states_of};
-ghost use Rattle.stored_events.specs.Stored.{IsStorable, IsStorableName};
+ghost use Rattle.run_events.specs.Stored.{IsStorable, IsStorableName};
 
 use crate::growth::room;
 use crate::mailbox::Mailbox;
 use crate::mark::Mark;
 use crate::marks::Marks;
-use round_lang::NoMemory;
+use run_events::{Event, Name, NoMemory, StoredEvent, StoredName};
 use std::sync::Arc;
-use step_machine::{Event, Name, StoredState};
-use stored_events::{StoredEvent, StoredName};
+use step_machine::StoredState;
 
 /// A step of a node.
 #[inline(always)]

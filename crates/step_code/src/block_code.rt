@@ -15,7 +15,8 @@ use crate::layout::{place_fields, place_variables};
 use crate::names::{Known, Scope};
 use crate::pieces::{Piece, emit_body, emit_values};
 use crate::single::further;
-use round_lang::{Assignment, Block, Formula, NoMemory, Program};
+use round_lang::{Assignment, Block, Formula, Program};
+use run_events::NoMemory;
 use std::alloc::Global;
 
 /// The code of a block, where the value of its condition stands, and where the free words begin.

@@ -6,7 +6,8 @@ ghost use Rattle.step_code.specs.Layout.{variables_at};
 
 use crate::names::Known;
 use crate::single::{further, size_of};
-use round_lang::{Field, NoMemory, Ty, Variable, VariableKind};
+use round_lang::{Field, Ty, Variable, VariableKind};
+use run_events::NoMemory;
 
 /// The type of a variable; the input is a number.
 pub(crate) fn variable_type(kind: &VariableKind) -> Ty

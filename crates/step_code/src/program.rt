@@ -20,7 +20,8 @@ use crate::pieces::{Piece, emit_starts};
 use crate::round_code::RoundCode;
 use crate::single::further;
 use round_check::Checked;
-use round_lang::{Block, Message, NoMemory, Program, Shape, Ty, Vars};
+use round_lang::{Block, Message, Program, Shape, Ty, Vars};
+use run_events::NoMemory;
 use std::alloc::Global;
 use std::marker::Model;
 

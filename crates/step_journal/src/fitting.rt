@@ -4,12 +4,13 @@ ghost use Rattle.step_book.specs.Log.{mark_in};
 ghost use Rattle.step_book.specs.Names.{IsName};
 ghost use Rattle.step_book.specs.Buffers.{flying_at};
 ghost use Rattle.step_journal.specs.Fits.{Fits, place_among};
-ghost use Rattle.step_machine.specs.Sealed.{max_copy};
+ghost use Rattle.run_events.specs.Limits.{max_copy};
 ghost use Rattle.step_journal.specs.Fitting.{AreNamed, FitsNode, FliesAs, HoldsAt, IsRecorded};
 
+use run_events::{MAX_COPY, Name};
 use slot_plans::Plan;
 use step_book::{Book, Buffer, StoredName, Waiting};
-use step_machine::{MAX_COPY, Name, SealedView};
+use step_machine::SealedView;
 
 /// Whether the buffers hold the frames that the book names.
 pub(crate) fn fits<P: Plan>(book: &Book<P>, buffers: &[Buffer]) -> bool

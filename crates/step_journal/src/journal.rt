@@ -3,7 +3,8 @@ ghost use Rattle.std.specs.Prelude.{◌≡◌, ◌<◌, ◌↔◌, All, IfErr, I
 ghost use Rattle.std.specs.Prelude.{OnErr, OnOk};
 ghost use Rattle.round_meaning.specs.Rounds.{algorithm_of};
 ghost use Rattle.round_meaning.specs.Setups.{IsLawful};
-ghost use Rattle.step_machine.specs.Sealed.{IsPrepared, original};
+ghost use Rattle.run_events.specs.Names.{original};
+ghost use Rattle.step_machine.specs.Sealed.{IsPrepared};
 ghost use Rattle.step_book.specs.Agreed.{IsSaid, JournalAgrees};
 ghost use Rattle.step_book.specs.Causes.{CloseCause, IdleCause, IsDueIn, EndsAsRecorded};
 ghost use Rattle.step_book.specs.Causes.{IsReceiveFit, IsSendFit, ReceiveCause, SendCause};
@@ -18,13 +19,13 @@ ghost use Rattle.step_journal.specs.HandedOut.{AreHandedOut};
 
 use crate::fitting::{fits, place};
 use round_check::Checked;
-use round_lang::NoMemory;
 use round_meaning::Setup;
+use run_events::{InFlight, Name, NoMemory};
 use slot_plans::Plan;
 use std::alloc::Global;
 use std::marker::Model;
 use step_book::{Book, Buffer, CloseFault, IdleFault, ReceiveFault, Refused, Waiting};
-use step_machine::{Finished, InFlight, Name, Prepared, Sealed, SealedView};
+use step_machine::{Finished, Prepared, Sealed, SealedView};
 
 /// What a receive handed out, in the order of the releases.
 #[derive(Drop)]

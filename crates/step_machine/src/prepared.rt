@@ -6,10 +6,10 @@ ghost use Rattle.frame_format.specs.Formats.{kinds_at};
 ghost use Rattle.frame_format.specs.Spelling.{AreOf};
 ghost use Rattle.step_machine.specs.Saying.{layout_in};
 
-use crate::event::Name;
 use crate::origin::Origin;
 use crate::sealed::Sealed;
-use round_lang::{Message, NoMemory, Vars};
+use round_lang::{Message, Vars};
+use run_events::{Name, NoMemory};
 use std::marker::Model;
 use std::sync::Arc;
 

@@ -7,7 +7,8 @@ ghost use Rattle.step_machine.specs.Saying.{bytes_from, layout_in, IsFrameFrom, 
 
 use crate::origin::Origin;
 use frame_views::write_to_all;
-use round_lang::{Message, NoMemory};
+use round_lang::Message;
+use run_events::NoMemory;
 use std::sync::Arc;
 
 /// What a node says in a round, in one piece of memory: the frames of a message, each of `size`

@@ -7,13 +7,13 @@ ghost use Rattle.frame_format.specs.Formats.{kinds_at};
 ghost use Rattle.frame_format.specs.Spelling.{AreOf};
 ghost use Rattle.step_machine.specs.Saying.{layout_in, origin_of, AreSpoken};
 
-use crate::event::Name;
 use crate::origin::Origin;
 use crate::prepared::Prepared;
 use crate::said::Said;
 use crate::sealed::Sealed;
 use frame_format::spelled_is_read;
-use round_lang::{Message, NoMemory};
+use round_lang::Message;
+use run_events::{Name, NoMemory};
 use std::sync::Arc;
 
 /// What a node says to all in a round: the frames of its message to each node, or silence.

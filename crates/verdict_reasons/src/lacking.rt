@@ -4,9 +4,9 @@ ghost use Rattle.step_book.specs.Log.{count_of, history, mark_in, world_of};
 ghost use Rattle.step_book.specs.Names.{IsName};
 ghost use Rattle.omission_explainer.specs.Lateness.{copy_open_until, marks_of, open_until};
 
+use run_events::Name;
 use slot_plans::Plan;
 use step_book::{Book, Mark};
-use step_machine::Name;
 
 /// Up to which step number its receiver lacks a message: its copies' least.
 pub(crate) fn open_until<P: Plan>(book: &Book<P>, name: Name) -> u64

@@ -6,7 +6,8 @@ ghost use Rattle.verdict_reasons.specs.Pace.{IsFirstBehind, IsFirstPaceBreak};
 
 use crate::correct::{COUNTS, correct_step};
 use round_meaning::NodeSet;
-use slot_plans::{MAX_NODES, Plan};
+use run_events::MAX_NODES;
+use slot_plans::Plan;
 use step_book::Book;
 
 /// A step that a correct node takes ahead of another: at a place in the trace, counted from 0, the

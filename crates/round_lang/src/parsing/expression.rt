@@ -10,12 +10,12 @@ use crate::expr::{BinaryOperator, Expr, UnaryOperator};
 use crate::formula::Formula;
 use crate::identifier::Identifier;
 use crate::limits::{MAX_NAME, MAX_NESTING, MAX_NUMBER};
-use crate::memory::NoMemory;
 use crate::name::Name;
 use crate::parsing::cursor::{after, expect, name_at, number_at, operator_at, span_at};
 use crate::parsing::fault::Fault;
 use crate::parsing::level::{Level, tighter};
 use crate::token::{Mark, Token, Word};
+use run_events::NoMemory;
 use std::alloc::Global;
 
 /// What a parser carries along: its allocator, and the length of the text.

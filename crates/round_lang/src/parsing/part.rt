@@ -11,7 +11,6 @@ use crate::expr::Ty;
 use crate::formula::Formula;
 use crate::identifier::Identifier;
 use crate::limits::{MAX_FIELDS, MAX_NAME, MAX_NUMBER, MAX_VARIABLES};
-use crate::memory::NoMemory;
 use crate::name::Name;
 use crate::parsing::cursor::{
     after, begins_name, begins_with, expect, expect_equal, name_at, number_at, span_at, type_at,
@@ -20,6 +19,7 @@ use crate::parsing::expression::{Parser, formula, identifier};
 use crate::parsing::fault::Fault;
 use crate::program::{Variable, VariableKind};
 use crate::token::{Mark, Token, Word};
+use run_events::NoMemory;
 use std::alloc::Global;
 
 /// What a declaration declares.

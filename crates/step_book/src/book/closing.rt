@@ -12,10 +12,11 @@ use crate::book::Book;
 use crate::fault::CloseFault;
 use crate::notes::note_close;
 use crate::tags::{earliest, is_tagged, is_within};
-use round_lang::{NoMemory, Vars};
+use round_lang::Vars;
+use run_events::{Name, NoMemory};
 use slot_plans::Plan;
 use std::sync::Arc;
-use step_machine::{Finished, Name, Sealed, StoredState};
+use step_machine::{Finished, Sealed, StoredState};
 
 impl<P: Plan> Book<P> {
     /// Closes the due round that a node of the run finished.

@@ -4,7 +4,7 @@ use Rattle.std.proofs.lemmas.List.{take_all}
 use Rattle.std.specs.Prelude.{IfSome}
 use Rattle.round_lang.specs.Sets.{is_in}
 use Rattle.slot_plans.specs.Plan.{IsClearRound}
-use Rattle.step_machine.specs.declared.event.Event.TheVariants.{Step, Release, Drop, Copy}
+use Rattle.run_events.specs.declared.event.Event.TheVariants.{Step, Release, Drop, Copy}
 use Rattle.step_book.specs.Log.{history, world_of}
 use Rattle.step_book.specs.World.{IsPlan, nodes_of}
 use Rattle.step_book.proofs.Moments.{At}

@@ -1,7 +1,7 @@
 use Rattle.std.proofs.Common.{◌≡◌, ◌∙◌, length, refl, reverse, sym, ap, subst, arith}
 use Rattle.std.specs.Prelude.{MatchOption}
 use Rattle.std.proofs.lemmas.List.{take_all}
-use Rattle.step_machine.specs.declared.event.Event.TheVariants.{Step}
+use Rattle.run_events.specs.declared.event.Event.TheVariants.{Step}
 use Rattle.step_book.specs.Log.{history, world_of}
 use Rattle.step_book.specs.World.{nodes_of}
 use Rattle.step_book.proofs.Moments.{At}

@@ -1,6 +1,6 @@
 use Rattle.std.proofs.Common.{◌∙◌, refl, reverse, sym, ap, subst, arith}
 use Rattle.std.proofs.lemmas.List.{take_all}
-use Rattle.step_machine.specs.declared.event.Event.TheVariants.{Step}
+use Rattle.run_events.specs.declared.event.Event.TheVariants.{Step}
 use Rattle.step_book.specs.Log.{history, world_of}
 use Rattle.step_book.proofs.Moments.{At}
 use Rattle.omission_explainer.proofs.Moments.{at_moment, moment_at, moment_short, next_moment}
