@@ -1,5 +1,6 @@
 //! From a journal to its report.
 ghost use Rattle.std.specs.Prelude.{◌≡◌, ◌≢◌, ◌+◌, ◌<◌, ◌≤◌, ◌↔◌, All, IfOk, IsTrue, map};
+ghost use Rattle.run_events.specs.Limits.{max_rounds};
 ghost use Rattle.round_meaning.specs.Agreement.{RunsAlgorithm1};
 ghost use Rattle.round_meaning.specs.Rounds.{algorithm_of};
 ghost use Rattle.round_meaning.specs.Turn.{decision};
@@ -140,7 +141,7 @@ struct Outcomes {
 fn outcomes_of<P: Plan>(book: &Book<P>, node: u32, round: u32) -> Outcomes
     requires node { node < book.now.log.setup.nodes }
     requires first { 0 < round }
-    requires few { round ≤ 4096 }
+    requires few { round ≤ max_rounds }
     requires closed { round < round_of book.now.log node }
     ensures heard { result.heard.bits ≡ heard_in (P.start book.now.plan) book.now.log round node }
     ensures silent { result.silent.bits
@@ -184,7 +185,7 @@ fn row_of<P: Plan>(
     requires decided { IsDecidedAt book.now.log.program decided }
     requires node { node < book.now.log.setup.nodes }
     requires first { 0 < round }
-    requires few { round ≤ 4096 }
+    requires few { round ≤ max_rounds }
     requires closed { round < round_of book.now.log node }
     ensures round { IfOk result (λ r. r.round ≡ round) }
     ensures node { IfOk result (λ r. r.node ≡ node) }

@@ -1,5 +1,6 @@
 //! Whether a run kept what its plan counts on.
 ghost use Rattle.std.specs.Prelude.{◌≡◌, ◌+◌, ◌<◌, ◌≤◌, ◌↔◌, IfSome, IsTrue, Some, length, max};
+ghost use Rattle.run_events.specs.Limits.{max_copy, max_nodes};
 ghost use Rattle.slot_plans.specs.Plan.{IsClearRound};
 ghost use Rattle.step_book.specs.Log.{count_of, history, mark_in, world_of};
 ghost use Rattle.step_book.specs.Names.{IsName};
@@ -107,9 +108,9 @@ struct Terms {
 
 /// Whether no correct node has taken fewer steps than this one.
 fn keeps_pace(correct: NodeSet, counts: &[u64], node: u32) -> bool
-    requires sized { length counts.now ≡ 16 }
-    requires node { node < 16 }
-    requires within { AreNodes 16 correct.bits }
+    requires sized { length counts.now ≡ max_nodes }
+    requires node { node < max_nodes }
+    requires within { AreNodes max_nodes correct.bits }
     ensures { IsTrue result ↔ KeepsPace correct.bits counts.now node }
 {
     for other in 0..MAX_NODES {
@@ -126,7 +127,7 @@ fn keeps_pace(correct: NodeSet, counts: &[u64], node: u32) -> bool
 /// A receive comes after the send if its step number isn't below the receiver's count at the
 /// send, and after the release of a copy if it isn't below the receiver's count there.
 fn keeps_bound<P: Plan>(book: &Book<P>, terms: Terms, counts: &[u64], node: u32) -> bool
-    requires sized { length counts.now ≡ 16 }
+    requires sized { length counts.now ≡ max_nodes }
     requires node { node < book.now.log.setup.nodes }
     requires within { AreNodes book.now.log.setup.nodes terms.correct.bits }
     ensures { IsTrue result ↔ KeepsBound (world_of (P.start book.now.plan) book.now.log)
@@ -167,7 +168,7 @@ fn open_until<P: Plan>(book: &Book<P>, name: Name) -> u64
 /// Up to which step number its receiver lacks a copy of a message.
 fn copy_open_until<P: Plan>(book: &Book<P>, name: Name, copy: u32) -> u64
     requires name { IsName book.now.log.setup name }
-    requires copy { copy ≤ 3 }
+    requires copy { copy ≤ max_copy }
     ensures { result ≡ copy_open_until (count_of book.now.log name.to)
         (mark_in (P.start book.now.plan) book.now.log (record name { copy = copy })) }
 {

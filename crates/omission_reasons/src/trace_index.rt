@@ -1,5 +1,6 @@
 //! Where the events of each node and of each message stand in a trace.
 ghost use Rattle.std.specs.Prelude.{◌≡◌, ◌≤◌, [], ℕ, IfOk, OnOk, slice_get, slice_index_or};
+ghost use Rattle.run_events.specs.Limits.{max_nodes};
 ghost use Rattle.step_book.specs.Trace.{is_step};
 ghost use Rattle.omission_reasons.specs.Listing.{has_number, listed, number_of};
 ghost use Rattle.omission_reasons.specs.Indexing.{IsIndexOf};
@@ -37,7 +38,7 @@ impl TraceIndex {
 
     /// Adds an event that stands at a place.
     fn add(&mut self, nodes: u32, place: usize, event: Event) -> Result<(), NoMemory>
-        requires few { nodes ≤ 16 }
+        requires few { nodes ≤ max_nodes }
         ensures steps { OnOk result ((node : ℕ) → slice_index_or self.new.steps node []
             ≡ listed (is_step node) event place (slice_index_or self.old.steps node [])) }
         ensures events { OnOk result ((k : ℕ) → slice_index_or self.new.events k []
@@ -60,7 +61,7 @@ impl TraceIndex {
 
     /// The places of the network's events that name a message of a run with so many nodes.
     pub(crate) fn of_message(&self, nodes: u32, name: Name) -> &[usize]
-        requires few { nodes ≤ 16 }
+        requires few { nodes ≤ max_nodes }
         ensures { result.now ≡ slice_index_or self.now.events (number_of nodes name) [] }
     {
         self.events.list(number_of(nodes, name))
@@ -69,7 +70,7 @@ impl TraceIndex {
 
 /// The number of a message in a run with so many nodes.
 fn number_of(nodes: u32, name: Name) -> usize
-    requires few { nodes ≤ 16 }
+    requires few { nodes ≤ max_nodes }
     ensures { result ≡ number_of nodes name }
 {
     let nodes = nodes as usize;

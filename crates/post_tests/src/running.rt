@@ -4,7 +4,7 @@ use crate::sources::gather;
 use adversary::{RunFault, run_policy};
 use round_check::Checked;
 use round_meaning::{Inputs, NodeSet, Setup};
-use run_events::PlanKind;
+use run_events::{MAX_NODES, PlanKind};
 use schedule_text::write_stored_schedule;
 use slot_plans::Known;
 use std::alloc::Global;
@@ -23,7 +23,7 @@ fn nodes(alloc: Global, text: &str) -> Result<NodeSet, Fault> {
 fn setup(alloc: Global, inputs: &str, rounds: &str) -> Result<Setup, Fault> {
     let inputs = comma_numbers(alloc, inputs)?;
     Ok(Setup {
-        nodes: inputs.len().min(16) as u32,
+        nodes: inputs.len().min(MAX_NODES as usize) as u32,
         faults: 0,
         inputs: Inputs::new(inputs),
         rounds: number(rounds)?,

@@ -3,6 +3,7 @@
 ghost use Rattle.std.specs.Arc.{arc_value};
 ghost use Rattle.std.specs.Prelude.{◌≡◌, ◌+◌, ◌<◌, ◌≤◌, [], ◌∷◌, ◌++◌, OnOk, OnErr};
 ghost use Rattle.std.specs.Prelude.{slice_index, slice_set, true, vec_len};
+ghost use Rattle.run_events.specs.Limits.{max_nodes};
 ghost use Rattle.step_book.specs.declared.mark.Mark.TheVariants.{Unsent};
 ghost use Rattle.step_book.specs.History.{arrival};
 ghost use Rattle.step_book.specs.Stored.{IsShort};
@@ -25,7 +26,7 @@ pub(crate) fn note_step(
     steps: &mut Vec<u64>,
     node: u32,
 ) -> Result<(), NoMemory>
-    requires storable { node < 16 }
+    requires storable { node < max_nodes }
     requires node_in { node < vec_len steps.old }
     requires counted { slice_index steps.old.items node ≤ vec_len trace.old }
     ensures trace { OnOk result (trace.new.items ≡ trace.old.items ++ Event.Step node ∷ []) }
@@ -84,7 +85,7 @@ pub(crate) fn note_receive(
     mail: &mut Mailbox,
     node: u32,
 ) -> Result<(), NoMemory>
-    requires storable { node < 16 }
+    requires storable { node < max_nodes }
     requires node_in { node < vec_len steps.old }
     requires counted { slice_index steps.old.items node ≤ vec_len trace.old }
     ensures trace { OnOk result (trace.new.items ≡ trace.old.items ++ Event.Step node ∷ []) }

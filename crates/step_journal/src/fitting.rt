@@ -103,7 +103,7 @@ fn fly<P: Plan>(book: &Book<P>, buffer: &Buffer, node: u32) -> bool
 /// Whether the frames of one copy number are.
 fn flies_as<P: Plan>(book: &Book<P>, buffer: &Buffer, node: u32, copy: u32) -> bool
     requires node { node < book.now.log.setup.nodes }
-    requires copy { copy ≤ 3 }
+    requires copy { copy ≤ max_copy }
     ensures { IsTrue result ↔ FliesAs (P.start book.now.plan) book.now.log buffer.now node copy
         book.now.log.setup.rounds }
 {

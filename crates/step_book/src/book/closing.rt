@@ -2,6 +2,7 @@
 ghost use Rattle.std.specs.Arc.{arc_value};
 ghost use Rattle.std.specs.Prelude.{◌≡◌, ◌-◌, ◌<◌, ◌≤◌, ◌↔◌, IfErr, IsTrue, MatchOption, OnErr};
 ghost use Rattle.std.specs.Prelude.{OnOk, Some, length, option_map};
+ghost use Rattle.run_events.specs.Limits.{max_copy};
 ghost use Rattle.step_book.specs.Causes.{CloseCause, IsDueIn, EndsAsRecorded};
 ghost use Rattle.step_book.specs.Effects.{Closes};
 ghost use Rattle.step_book.specs.Log.{IsDue, history, mark_in, round_of, state_before, world_of};
@@ -149,7 +150,7 @@ impl<P: Plan> Book<P> {
 
     fn was_let_go(&self, name: Name, copy: u32, first: u64, end: u64) -> bool
         requires name { IsName self.now.log.setup name }
-        requires copy { copy ≤ 3 }
+        requires copy { copy ≤ max_copy }
         ensures { result ≡ is_within (mark_in (P.start self.now.plan) self.now.log
             (record name { copy = copy })) first end }
     {
