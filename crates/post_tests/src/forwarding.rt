@@ -2,7 +2,6 @@
 ghost use Rattle.std.specs.Prelude.{◌≡◌};
 
 use locked_buffers::{Mail, OpenGate, Post, PostFault, PostMail, Relay, Seat};
-use run_events::Name;
 use slot_plans::Plan;
 use std::sync::atomic::{AtomicBool, Ordering};
 use std::sync::{Mutex, Wait};
