@@ -33,7 +33,7 @@ use Rattle.round_explorer.proofs.Parts.{part_is_track, part_more}
 use Rattle.round_explorer.proofs.Searching.{holds_none}
 use Rattle.run_samples.specs.Found.{IsFound}
 use Rattle.run_samples.specs.Samples.{AgreeUpTo, EndsWithout, Follows, HoldsBefore, IsFailing}
-use Rattle.run_samples.specs.Samples.{IsCaseOf, IsFailingRun, IsToldOf, Loses, inbox_with}
+use Rattle.run_samples.specs.Samples.{IsCaseOf, IsFailingRun, IsToldOf, inbox_with}
 use Rattle.run_samples.specs.Samples.{run_of_case}
 
 -- an inbox with one sender more
