@@ -1,5 +1,5 @@
 //! Whether a run kept what its plan counts on.
-ghost use Rattle.std.specs.Prelude.{◌≡◌, ◌+◌, ◌<◌, ◌≤◌, ◌↔◌, IfSome, IsTrue, Some, length, max};
+ghost use Rattle.std.specs.Prelude.{◌≡◌, ◌+◌, ◌<◌, ◌↔◌, IfSome, IsTrue, Some, length};
 ghost use Rattle.slot_plans.specs.Plan.{IsClearRound};
 ghost use Rattle.step_book.specs.Log.{history, world_of};
 ghost use Rattle.omission_explainer.specs.Lateness.{HasReceive, KeepsBound, KeepsPace};

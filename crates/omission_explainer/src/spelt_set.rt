@@ -1,6 +1,5 @@
 //! The members of sets as text.
-ghost use Rattle.std.specs.Prelude.{◌≡◌, ◌+◌, ◌<◌, ◌≤◌, ◌++◌, length};
-ghost use Rattle.std.specs.Fmt.{decimal};
+ghost use Rattle.std.specs.Prelude.{◌≡◌, ◌+◌, ◌≤◌, ◌++◌, length};
 ghost use Rattle.round_lang.specs.Sets.{members};
 ghost use Rattle.omission_explainer.specs.Report.{numbers_text};
 ghost use Rattle.short_text.specs.Short.{room};
