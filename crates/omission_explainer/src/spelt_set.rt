@@ -18,13 +18,13 @@ pub(crate) struct SpeltSet {
 
 impl Model for SpeltSet {
     ghost use Rattle.std.specs.Prelude.{ℕ};
-    ghost use Rattle.omission_explainer.specs.Short.{Spells};
+    ghost use Rattle.omission_explainer.specs.Short.{ListsMembers};
 
     ghost Value = { ℕ };
 
     ghost view = { λ s. s.set.bits };
 
-    ghost invariant = { λ s. Spells s.text s.set.bits };
+    ghost invariant = { λ s. ListsMembers s.text s.set.bits };
 }
 
 impl SpeltSet {
