@@ -289,7 +289,8 @@ told_after Cause s r refused told cause (inr t) =
 
 -- and what a file's schedule is refused for
 pub bad_schedule : (file : Option (List ℕ)) (s : Setup) (k : PlanKind) (r : Reading) (x : Refusal)
-    → IfSome file (λ held. HasReadHeader held s k r) → IsBadSchedule s r x → IsMissing schedules file x
+    → IfSome file (λ held. HasReadHeader held s k r) → IsBadSchedule s r x
+    → IsMissing schedules file x
 bad_schedule None s k r x begun bad = subst (IsMissing schedules None) (sym bad.1) (unknown bad.0)
   where
     unknown : (e : TextFault) → IsMissing schedules None (of_text e)
