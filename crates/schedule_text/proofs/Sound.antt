@@ -57,9 +57,10 @@ said_by (Nodes n) vs es cs = nodes n ∷ []
 said_by (Faults n t) vs es cs = nodes n ∷ faults t ∷ []
 said_by (Inputs n t) vs es cs = nodes n ∷ faults t ∷ inputs vs ∷ []
 said_by (Rounds z) vs es cs = nodes z.nodes ∷ faults z.faults ∷ inputs vs ∷ rounds z.rounds ∷ []
-said_by (Whole z p) vs es cs = nodes n ∷ faults t ∷ inputs vs ∷ rounds r ∷ plan p ∷ map event es
-said_by (Paced z p x) vs es cs = nodes n ∷ faults t ∷ inputs vs ∷ rounds r ∷ plan p ∷ pace x
-    ∷ map stop cs
+said_by (Whole z p) vs es cs =
+    nodes z.nodes ∷ faults z.faults ∷ inputs vs ∷ rounds z.rounds ∷ plan p ∷ map event es
+said_by (Paced z p x) vs es cs =
+    nodes z.nodes ∷ faults z.faults ∷ inputs vs ∷ rounds z.rounds ∷ plan p ∷ pace x ∷ map stop cs
 
 -- behind a header only a schedule has events, and a thread setup has no stop yet
 abbrev IsEarlyTail : Kind → List Event → List Stop → Type 0
