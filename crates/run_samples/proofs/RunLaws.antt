@@ -28,7 +28,7 @@ use Rattle.round_explorer.proofs.AllRows.{row_same, stopped_row}
 use Rattle.round_explorer.proofs.Following.{end_without_same, states_after_past}
 use Rattle.round_explorer.proofs.Holding.{breaks_fails, keeps_holds}
 use Rattle.round_explorer.proofs.Lost.{is_omitted-lost}
-use Rattle.round_explorer.proofs.Noting.{seen_after_past}
+use Rattle.round_explorer.proofs.Notes.{seen_after_past}
 use Rattle.round_explorer.proofs.Parts.{part_is_track, part_more}
 use Rattle.round_explorer.proofs.Searching.{holds_none}
 use Rattle.run_samples.specs.Found.{IsFound}
