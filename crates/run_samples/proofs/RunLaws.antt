@@ -22,7 +22,7 @@ use Rattle.round_explorer.specs.Reached.{end_without}
 use Rattle.round_explorer.specs.Searched.{AreInputs, AreSame, Breaks, Case, ComesTo, End, IsEnd}
 use Rattle.round_explorer.specs.Searched.{IsEndWithout, IsPart, IsRowOf, IsTrack, IsWhole, Keeps}
 use Rattle.round_explorer.specs.Searched.{LeavesEnough, Note, Search, Track, note_of, search_of}
-use Rattle.round_explorer.specs.Searched.{with_note}
+use Rattle.round_explorer.specs.Searched.{Loses, with_note}
 use Rattle.round_meaning.proofs.Lists.{filter_map_push, filter_map_skip}
 use Rattle.round_explorer.proofs.AllRows.{row_same, stopped_row}
 use Rattle.round_explorer.proofs.Following.{end_without_same, states_after_past}
