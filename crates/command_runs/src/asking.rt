@@ -5,7 +5,7 @@ ghost use Rattle.command_runs.specs.Served.{AnswersRun};
 ghost use Rattle.command_runs.specs.Stages.{IsAnswered, IsToldAfter, StopsSchedule};
 ghost use Rattle.command_runs.specs.Stages.{listed_by};
 ghost use Rattle.command_runs.specs.declared.refusal.Refusal.TheVariants as refusal;
-ghost use Rattle.schedule_text.specs.Readers.{IsOpened};
+ghost use Rattle.schedule_text.specs.Readers.{HasReadHeader};
 ghost use Rattle.schedule_text.specs.declared.kind.Kind.TheVariants as kinds;
 ghost use Rattle.slot_plans.specs.Named.{IsPlan, receives_of, start_of};
 
@@ -96,7 +96,7 @@ fn open_schedule<D: Desk>(
     desk: &mut D,
 ) -> Result<OpenedSchedule<D::File>, Refusal>
     ensures opened { IfOk result (λ o. IfSome (D.files desk.old name.now)
-        (λ held. IsOpened held o.setup o.plan o.reader)) }
+        (λ held. HasReadHeader held o.setup o.plan o.reader)) }
     ensures refused { IfErr result (IsMissing kinds.Schedule (D.files desk.old name.now)) }
     ensures written { D.written desk.new ≡ D.written desk.old }
 {

@@ -6,7 +6,7 @@ ghost use Rattle.command_runs.specs.Refused.{IsUndrawn};
 ghost use Rattle.command_runs.specs.Served.{DrawsRun, IsShownOf, Serves};
 ghost use Rattle.command_runs.specs.Stages.{IsDrawnAs, StopsSchedule};
 ghost use Rattle.round_meaning.specs.Setups.{IsLawful};
-ghost use Rattle.schedule_text.specs.Readers.{IsOpened};
+ghost use Rattle.schedule_text.specs.Readers.{HasReadHeader};
 ghost use Rattle.schedule_text.specs.declared.kind.Kind.TheVariants as kinds;
 ghost use Rattle.slot_plans.specs.Named.{IsPlan, start_of};
 
@@ -96,7 +96,7 @@ impl<'a> Run<'a> {
 
 /// Opens the schedule that a text is.
 fn open_text(alloc: Global, text: &str) -> Result<OpenedSchedule<MemoryFile>, Refusal>
-    ensures opened { IfOk result (λ o. IsOpened text.now o.setup o.plan o.reader) }
+    ensures opened { IfOk result (λ o. HasReadHeader text.now o.setup o.plan o.reader) }
     ensures refused { IfErr result (IsMissing kinds.Schedule (Some text.now)) }
 {
     let file = MemoryFile::of(alloc, text.as_bytes())?;

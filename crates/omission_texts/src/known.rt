@@ -1,6 +1,6 @@
 //! Which lines name what is of a run.
-ghost use Rattle.std.specs.Prelude.{◌<◌, ◌≤◌, ◌↔◌, All, IsTrue};
-ghost use Rattle.omission_texts.specs.Meaning.{AreNodesOf, AreRoundsOf, IsFirstUnknown, IsKnown};
+ghost use Rattle.std.specs.Prelude.{◌<◌, ◌↔◌, All, IsTrue};
+ghost use Rattle.omission_texts.specs.Meaning.{AreRoundsOf, IsFirstUnknown, IsKnown};
 
 use crate::line::{OmissionLine, RoundRange};
 use round_meaning::Setup;

@@ -88,7 +88,7 @@ pub(crate) fn are_nodes(word: &str) -> bool
 }
 
 /// The nodes that such a word names.
-pub fn nodes(alloc: Global, word: &str) -> Result<NodeList, LineFault>
+pub(crate) fn nodes(alloc: Global, word: &str) -> Result<NodeList, LineFault>
     requires { form.are_nodes word.now ≡ true }
     ensures { Gives result (form.nodes_in word.now) }
 {

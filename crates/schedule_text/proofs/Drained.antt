@@ -9,7 +9,8 @@ use Rattle.schedule_text.specs.Intakes.{header_at, header_in, says, without_even
 use Rattle.schedule_text.specs.Outcome.{state_of}
 use Rattle.schedule_text.specs.Readers.{IsOf, behind}
 use Rattle.schedule_text.specs.Stages.{State, answer_at_end, by_stage, event_of, from_line, go_on}
-use Rattle.schedule_text.specs.Stages.{inputs_of, line_step, mapped, one_after, plan_of, stop_of}
+use Rattle.schedule_text.specs.Stages.{inputs_of, line_step, mapped, one_after, plan_of, sizes_of}
+use Rattle.schedule_text.specs.Stages.{stop_of}
 use Rattle.schedule_text.specs.declared.draft.Stage.{Stage}
 use Rattle.schedule_text.specs.declared.draft.Stage.TheVariants.{Start, Nodes, Faults, Inputs}
 use Rattle.schedule_text.specs.declared.draft.Stage.TheVariants.{Rounds, Whole, Paced}
@@ -36,8 +37,10 @@ staged es (Nodes n) s text = fused (onto es) (λ t. record (onto es s) { stage =
 staged es (Faults n t) s text =
     fused (onto es) (λ vs. record (onto es s) { stage = Inputs n t; inputs = vs })
     (λ vs. record s { stage = Inputs n t; inputs = vs }) (λ vs. refl) (inputs_of text)
-staged es (Inputs n t) s text = fused (onto es) (λ r. record (onto es s) { stage = Rounds (record { nodes = n; faults = t; rounds = r }) })
-    (λ r. record s { stage = Rounds (record { nodes = n; faults = t; rounds = r }) }) (λ r. refl) (one_after (codes "rounds ") text)
+staged es (Inputs n t) s text =
+    fused (onto es) (λ r. record (onto es s) { stage = Rounds (sizes_of n t r) })
+    (λ r. record s { stage = Rounds (sizes_of n t r) }) (λ r. refl)
+    (one_after (codes "rounds ") text)
 staged es (Rounds z) s text =
     fused (onto es) (λ p. record (onto es s) { stage = Whole z p })
     (λ p. record s { stage = Whole z p }) (λ p. refl) (plan_of text)

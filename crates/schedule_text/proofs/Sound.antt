@@ -45,8 +45,8 @@ use Rattle.schedule_text.specs.Stages.{
   mapped,
   one_after,
 }
-use Rattle.schedule_text.specs.Stages.{pace_at_end, pace_of, plan_of, setup_in, sized, start}
-use Rattle.schedule_text.specs.Stages.{stop_of}
+use Rattle.schedule_text.specs.Stages.{pace_at_end, pace_of, plan_of, setup_in, sized, sizes_of}
+use Rattle.schedule_text.specs.Stages.{start, stop_of}
 use Rattle.schedule_text.proofs.Forms.{Formed, line_formed, line_of, stands_at}
 use Rattle.schedule_text.proofs.Places.{may_stand, place_at, sized_err, sized_ok, tells_read}
 
@@ -57,9 +57,10 @@ said_by (Nodes n) vs es cs = nodes n ∷ []
 said_by (Faults n t) vs es cs = nodes n ∷ faults t ∷ []
 said_by (Inputs n t) vs es cs = nodes n ∷ faults t ∷ inputs vs ∷ []
 said_by (Rounds z) vs es cs = nodes z.nodes ∷ faults z.faults ∷ inputs vs ∷ rounds z.rounds ∷ []
-said_by (Whole z p) vs es cs = nodes n ∷ faults t ∷ inputs vs ∷ rounds r ∷ plan p ∷ map event es
-said_by (Paced z p x) vs es cs = nodes n ∷ faults t ∷ inputs vs ∷ rounds r ∷ plan p ∷ pace x
-    ∷ map stop cs
+said_by (Whole z p) vs es cs =
+    nodes z.nodes ∷ faults z.faults ∷ inputs vs ∷ rounds z.rounds ∷ plan p ∷ map event es
+said_by (Paced z p x) vs es cs =
+    nodes z.nodes ∷ faults z.faults ∷ inputs vs ∷ rounds z.rounds ∷ plan p ∷ pace x ∷ map stop cs
 
 -- behind a header only a schedule has events, and a thread setup has no stop yet
 abbrev IsEarlyTail : Kind → List Event → List Stop → Type 0
@@ -199,7 +200,12 @@ stepped kind (Inputs n t) vs es cs l early = go (one_after (codes "rounds ") l)
   where
     go : (r : Result ℕ LineFault)
         → Follows kind (nodes n ∷ faults t ∷ inputs vs ∷ [])
-        (mapped (λ r. record { stage = Rounds (record { nodes = n; faults = t; rounds = r }); inputs = vs; events = es; stops = cs }) r)
+        (mapped (λ r. record {
+          stage = Rounds (sizes_of n t r);
+          inputs = vs;
+          events = es;
+          stops = cs;
+        }) r)
         (mapped (λ n. rounds n) r)
     go (Ok r) = record { said = refl; early = early }
     go (Err e) = refl
@@ -323,7 +329,8 @@ at_end kind all good (Faults n t) vs es cs e told =
 at_end kind all good (Inputs n t) vs es cs e told =
     early kind all good (nodes n ∷ faults t ∷ inputs vs ∷ []) told (omega arith)
 at_end kind all good (Rounds z) vs es cs e told =
-    early kind all good (nodes z.nodes ∷ faults z.faults ∷ inputs vs ∷ rounds z.rounds ∷ []) told (omega arith)
+    early kind all good (nodes z.nodes ∷ faults z.faults ∷ inputs vs ∷ rounds z.rounds ∷ []) told
+    (omega arith)
 at_end kind all good (Whole z p) vs es cs e told =
     header_ends kind all good (setup_in z vs) p es cs e told
 at_end kind all good (Paced z p x) vs es cs e told =

@@ -140,6 +140,10 @@ stop_in _ = Err line.Bad
 unfoldable pub stop_of : List ℕ → Result Stop LineFault
 stop_of text = stop_in (numbers_after (codes "stop ") text)
 
+-- the sizes that three numbers say
+abbrev pub sizes_of : (nodes faults rounds : ℕ) → Sizes
+sizes_of n t r = record { nodes = n; faults = t; rounds = r }
+
 -- the setup of these sizes and inputs
 abbrev pub setup_in : Sizes → List ℕ → Setup
 setup_in z vs = record { nodes = z.nodes; faults = z.faults; inputs = vs; rounds = z.rounds }
@@ -162,7 +166,7 @@ by_stage kind (Nodes n) s text =
 by_stage kind (Faults n t) s text =
     mapped (λ vs. record s { stage = Inputs n t; inputs = vs }) (inputs_of text)
 by_stage kind (Inputs n t) s text =
-    mapped (λ r. record s { stage = Rounds (record { nodes = n; faults = t; rounds = r }) }) (one_after (codes "rounds ") text)
+    mapped (λ r. record s { stage = Rounds (sizes_of n t r) }) (one_after (codes "rounds ") text)
 by_stage kind (Rounds z) s text =
     mapped (λ p. record s { stage = Whole z p }) (plan_of text)
 by_stage Schedule (Whole z p) s text =

@@ -10,7 +10,7 @@ use slot_plans::Plan;
 use step_book::{Book, Mark};
 
 /// Up to which step number its receiver lacks a message: its copies' least.
-pub(crate) fn open_until<P: Plan>(book: &Book<P>, name: Name) -> u64
+pub fn open_until<P: Plan>(book: &Book<P>, name: Name) -> u64
     requires { IsName book.now.log.setup name }
     ensures { result ≡ open_until (count_of book.now.log name.to)
         (marks_of (world_of (P.start book.now.plan) book.now.log) (history book.now.log) name) }
