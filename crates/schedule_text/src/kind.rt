@@ -2,7 +2,7 @@
 
 /// What a text is of, by what follows the header: events, a pace and stops, or nothing.
 #[derive(Clone, Copy)]
-pub(crate) enum Kind {
+pub enum Kind {
     Schedule,
     Threads,
     Header,
