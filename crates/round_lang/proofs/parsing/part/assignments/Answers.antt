@@ -7,7 +7,8 @@ use Rattle.round_lang.proofs.parsing.part.assignments.Goals as goal
 pub loop-parser-init : goal.loop-parser-init
 loop-parser-init c = record {
   reads =
-      rw (c.no_items-assignments.ensures.items, c.no_items-assignments.ensures.rest) (assigns_first _);
+      rw (c.no_items-assignments.ensures.items, c.no_items-assignments.ensures.rest)
+      (assigns_first _);
   fewer = omega (arith, ap length c.no_items-assignments.ensures.rest);
 }
 
@@ -31,4 +32,5 @@ loop-parser-preserved c = record {
 }
 
 pub returns-clause-gives : goal.returns-clause-gives
-returns-clause-gives c = assigns_end _ _ _ c.loop-parser.invariant.reads (sym c.loop-parser-test.ensures)
+returns-clause-gives c =
+    assigns_end _ _ _ c.loop-parser.invariant.reads (sym c.loop-parser-test.ensures)

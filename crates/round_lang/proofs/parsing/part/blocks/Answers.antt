@@ -15,19 +15,28 @@ pub returns-in_err-next-clause-gives : goal.returns-in_err-next-clause-gives
 returns-in_err-next-clause-gives c =
     let p = err_from_is_err_and c.from_residual.result c.from_residual.ensures.1 in
     rw (p.1, p.2)
-    (blocks_fails _ _ _ c.loop-next.invariant.reads _ (sym c.in-Some.ensures.after) _ c.in_err-next.ensures.gives)
+    (blocks_fails _ _ _ c.loop-next.invariant.reads _ (sym c.in-Some.ensures.after) _
+    c.in_err-next.ensures.gives)
 
 pub loop-next-smaller : goal.loop-next-smaller
 loop-next-smaller c =
-    blocks_shorter _ _ _ c.loop-next.invariant.reads _ (sym c.in-Some.ensures.after) _ _ c.in_ok-next.ensures.gives
+    blocks_shorter _ _ _ c.loop-next.invariant.reads _ (sym c.in-Some.ensures.after) _ _
+    c.in_ok-next.ensures.gives
 
 pub loop-next-preserved : goal.loop-next-preserved
 loop-next-preserved c = record {
   reads =
       rw c.in_ok-push.ensures.items
-      (blocks_next _ _ _ c.loop-next.invariant.reads _ (sym c.in-Some.ensures.after) _ _ c.in_ok-next.ensures.gives);
-  fewer = omega (arith, c.loop-next.invariant.fewer, c.in_ok-next.ensures.fewer, c.in-Some.ensures.fewer);
+      (blocks_next _ _ _ c.loop-next.invariant.reads _ (sym c.in-Some.ensures.after) _ _
+      c.in_ok-next.ensures.gives);
+  fewer = omega (
+    arith,
+    c.loop-next.invariant.fewer,
+    c.in_ok-next.ensures.fewer,
+    c.in-Some.ensures.fewer,
+  );
 }
 
 pub returns-clause-gives : goal.returns-clause-gives
-returns-clause-gives c = blocks_end _ _ _ c.loop-next.invariant.reads (sym c.in_default.ensures.after)
+returns-clause-gives c =
+    blocks_end _ _ _ c.loop-next.invariant.reads (sym c.in_default.ensures.after)

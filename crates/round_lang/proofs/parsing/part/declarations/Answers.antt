@@ -24,7 +24,8 @@ returns-in_err-next-clause-gives c =
     (sym c.loop-parser-test.ensures) _ c.in_err-next.ensures.gives)
 
 pub loop-parser-smaller : goal.loop-parser-smaller
-loop-parser-smaller c = declares_shorter _ _ _ _ c.loop-parser.invariant.reads _ _ _ c.in_ok-next.ensures.gives
+loop-parser-smaller c =
+    declares_shorter _ _ _ _ c.loop-parser.invariant.reads _ _ _ c.in_ok-next.ensures.gives
 
 pub loop-parser-preserved : goal.loop-parser-preserved
 loop-parser-preserved c = record {

@@ -11,7 +11,8 @@ returns-then-begins_with-clause-gives c =
 pub returns-in_err-first-clause-gives : goal.returns-in_err-first-clause-gives
 returns-in_err-first-clause-gives c =
     let p = err_from_is_err_and c.from_residual.result c.from_residual.ensures.1 in
-    rw (p.1, p.2) (fields_first_fails _ (sym c.if-begins_with.ensures) _ c.in_err-first.ensures.gives)
+    rw (p.1, p.2) (fields_first_fails _ (sym c.if-begins_with.ensures) _
+    c.in_err-first.ensures.gives)
 
 pub loop-next-init : goal.loop-next-init
 loop-next-init c = record {
@@ -31,7 +32,8 @@ returns-in_err-next-clause-gives c =
 
 pub loop-next-smaller : goal.loop-next-smaller
 loop-next-smaller c =
-    fields_shorter _ _ _ c.loop-next.invariant.reads _ _ _ _ (sym c.in-Some.ensures.after) c.in_ok-next.ensures.gives
+    fields_shorter _ _ _ c.loop-next.invariant.reads _ _ _ _ (sym c.in-Some.ensures.after)
+    c.in_ok-next.ensures.gives
 
 pub loop-next-preserved : goal.loop-next-preserved
 loop-next-preserved c = record {
@@ -40,8 +42,14 @@ loop-next-preserved c = record {
       (fields_next _ _ _ c.loop-next.invariant.reads _
       (omega (arith, c.len.ensures, c.loop-next.fields.ok.0)) _ _ _ (sym c.in-Some.ensures.after)
       c.in_ok-next.ensures.gives);
-  fewer = omega (arith, c.loop-next.invariant.fewer, c.in_ok-next.ensures.fewer, c.in-Some.ensures.fewer);
+  fewer = omega (
+    arith,
+    c.loop-next.invariant.fewer,
+    c.in_ok-next.ensures.fewer,
+    c.in-Some.ensures.fewer,
+  );
 }
 
 pub returns-clause-gives : goal.returns-clause-gives
-returns-clause-gives c = fields_end _ _ _ c.loop-next.invariant.reads (sym c.in_default.ensures.after)
+returns-clause-gives c =
+    fields_end _ _ _ c.loop-next.invariant.reads (sym c.in_default.ensures.after)

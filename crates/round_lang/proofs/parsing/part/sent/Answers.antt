@@ -25,18 +25,26 @@ returns-in_err-next-clause-gives c =
     let p = err_from_is_err_and c.from_residual-in_err-next.result
     c.from_residual-in_err-next.ensures.1 in
     rw (p.1, p.2)
-    (sent_fails _ _ _ c.loop-next.invariant.reads _ (sym c.in-Some.ensures.after) _ c.in_err-next.ensures.gives)
+    (sent_fails _ _ _ c.loop-next.invariant.reads _ (sym c.in-Some.ensures.after) _
+    c.in_err-next.ensures.gives)
 
 pub loop-next-smaller : goal.loop-next-smaller
 loop-next-smaller c =
-    sent_shorter _ _ _ c.loop-next.invariant.reads _ _ _ (sym c.in-Some.ensures.after) c.in_ok-next.ensures.gives
+    sent_shorter _ _ _ c.loop-next.invariant.reads _ _ _ (sym c.in-Some.ensures.after)
+    c.in_ok-next.ensures.gives
 
 pub loop-next-preserved : goal.loop-next-preserved
 loop-next-preserved c = record {
   reads =
       rw c.in_ok-push-2.ensures.items
-      (sent_next _ _ _ c.loop-next.invariant.reads _ _ _ (sym c.in-Some.ensures.after) c.in_ok-next.ensures.gives);
-  fewer = omega (arith, c.loop-next.invariant.fewer, c.in_ok-next.ensures.fewer, c.in-Some.ensures.fewer);
+      (sent_next _ _ _ c.loop-next.invariant.reads _ _ _ (sym c.in-Some.ensures.after)
+      c.in_ok-next.ensures.gives);
+  fewer = omega (
+    arith,
+    c.loop-next.invariant.fewer,
+    c.in_ok-next.ensures.fewer,
+    c.in-Some.ensures.fewer,
+  );
 }
 
 pub returns-clause-gives : goal.returns-clause-gives
