@@ -5,13 +5,14 @@ use Rattle.std.specs.Prelude.{IfErr, IfSome}
 use Rattle.std.specs.Global.{Vec}
 use Rattle.std.specs.Io.KnownBytes.{Keeps}
 use Rattle.adversary.specs.declared.fault.RunFault.TheVariants as run
+use Rattle.command_runs.specs.Commands.{rounds_report}
 use Rattle.command_runs.specs.Refused.{IsNoOffer, IsNoProgram, IsNotOffered, IsNotRun}
 use Rattle.command_runs.specs.Refused.{IsLeft, IsLeftBy, IsOpened, IsRefusedCommand}
 use Rattle.command_runs.specs.Refused.{IsRefusedInTurn, IsSilent, LeftByThreads}
-use Rattle.command_runs.specs.Refused.{IsUnanswered, IsUnrealised}
+use Rattle.command_runs.specs.Refused.{IsUnanswered}
 use Rattle.command_runs.specs.Refused.{Fault, HasNoText, Later, fault_in}
 use Rattle.command_runs.specs.Served.{AnswersRun, IsCheckedSource, JudgesRun, NamesColumns, Opens}
-use Rattle.command_runs.specs.Served.{IsFormed, IsReportText, ReportsRounds, Serves, data_text}
+use Rattle.command_runs.specs.Served.{IsFormed, IsReportText, Serves, data_text}
 use Rattle.command_runs.specs.Served.{file_name, told_text, verdict_as}
 use Rattle.command_runs.specs.Stages.{IsHeldBack, IsRefusedAnswer, IsUntold, IsUntoldReport}
 use Rattle.command_runs.specs.Stages.{TellsAnswer}
@@ -187,11 +188,6 @@ pub unanswered_memory : (source : Source) (files : Files) (file : Option (List �
 unanswered_memory (source.File name) files file correct = inl tt
 unanswered_memory (source.Library name values) files file correct = inr (inl (tt, tt))
 
-pub unrealised_memory : (source : Source) (files : Files) (header omissions : Option (List ℕ))
-    → IsUnrealised source files header omissions refusal.NoMemory
-unrealised_memory (source.File name) files header omissions = inl tt
-unrealised_memory (source.Library name values) files header omissions = inr (inl (tt, tt))
-
 -- a report that isn't written isn't told
 pub untold_report : (source : Source) (files : Files) (file : Option (List ℕ)) (told shown : Form)
     (report : Report)
@@ -220,15 +216,15 @@ untold source files file (question.Verdict t f) (answer.Report report shown) h r
 -- the report of a run in rounds that isn't written
 pub untold_rounds : (source : Source) (files : Files) (header omissions : Bor (List ℕ))
     (form : Form) (report : Report)
-    → ReportsRounds source files (files header.now) (files omissions.now) report
+    → (rounds_report source files header.now omissions.now).gives report
     → (r : Refusal) → IsUntoldReport form r
     → IsRefusedCommand (words.Rounds source header omissions form) files r
 untold_rounds source files header omissions form report h refusal.Write is =
     let made = formed form.format report form.decided in (files, made.0, (report, h, made.1))
 untold_rounds source files header omissions form report h refusal.NoMemory is =
-    inl (unrealised_memory source files (files header.now) (files omissions.now))
+    inr (report, h, tt)
 untold_rounds source files header omissions form report h refusal.NoVariable named =
-    inr (named, (report, h))
+    inr (report, h, named)
 untold_rounds source files header omissions form report h r is = absurd is
 
 -- an answer that is told, of `run` and of `judge`

@@ -11,8 +11,12 @@ pub mod Apart
 pub mod ByThreads
 pub mod Library
 pub mod Texts
+pub mod Said
 pub mod Served
 pub mod Lines
+pub mod Causes
+pub mod Stage
+pub mod Commands
 pub mod Refused
 pub mod Unshown
 pub mod Stages

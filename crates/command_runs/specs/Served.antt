@@ -1,17 +1,11 @@
 -- What the program writes, as a relation of its words to the files on the desk.
 use Rattle.std.specs.Borrow.{Bor}
-use Rattle.std.specs.Prelude.{◌≡◌, ◌<◌, ◌≤◌, ◌++◌, ◌⊎◌, ⊤, ℕ, All, Bool, List, None, Option, Some}
-use Rattle.std.specs.Prelude.{IfSome, IsSome, [], codes, false, length, true}
+use Rattle.std.specs.Prelude.{◌≡◌, ◌++◌, ◌⊎◌, ⊤, ℕ, Bool, List, None, Option, Some, IfSome, []}
+use Rattle.std.specs.Prelude.{codes, false, length, true}
 use Rattle.std.specs.Global.{Vec}
-use Rattle.std.specs.Prelude.{if◌then◌else◌}
 use Rattle.std.specs.Fmt.{decimal}
 use Rattle.std.specs.Io.KnownBytes.{Appends}
 use Rattle.node_threads.specs.Ends.{IsFitForThreads}
-use Rattle.omission_texts.specs.Texts.{Says as SaysOmissions}
-use Rattle.omission_texts.specs.declared.line.OmissionLine.{OmissionLine}
-use Rattle.schedule_text.specs.Texts.{SaysOf, Tail, max_text as max_schedule}
-use Rattle.schedule_text.specs.declared.kind.Kind.{Kind}
-use Rattle.schedule_text.specs.declared.kind.Kind.TheVariants as kinds
 use Rattle.schedule_text.specs.declared.pace.Pace.{Pace}
 use Rattle.schedule_text.specs.declared.pace.Stop.{Stop}
 use Rattle.command_runs.specs.declared.asking.Answer.{Answer}
@@ -21,20 +15,15 @@ use Rattle.command_runs.specs.declared.asking.Question.TheVariants as question
 use Rattle.command_runs.specs.declared.exploring.Explored.{Explored}
 use Rattle.command_runs.specs.declared.outcome.Outcome.{Outcome}
 use Rattle.command_runs.specs.declared.outcome.Outcome.TheVariants.{Done}
-use Rattle.command_runs.specs.declared.sources.Opened.{Opened}
-use Rattle.command_runs.specs.declared.sources.Opened.TheVariants as opened
 use Rattle.command_runs.specs.ByThreads.{IsThreadRun}
+use Rattle.command_runs.specs.Commands.{lockstep, realise, rounds}
 use Rattle.command_runs.specs.Explained.{IsReportOf, IsVerdictOf}
 use Rattle.command_runs.specs.InChanges.{Terms}
-use Rattle.command_runs.specs.InLockstep.{IsLockstepText, IsWritten}
-use Rattle.command_runs.specs.InOmissions.{ShowsOmitting, realised_by}
+use Rattle.command_runs.specs.InLockstep.{IsWritten}
 use Rattle.command_runs.specs.InParts.{IsHeadOf, MakesWhole, TellsWhole, explored_as}
 use Rattle.command_runs.specs.InRounds.{IsFound, ShowsFailure, outcome_of}
-use Rattle.command_runs.specs.Library.{Offers}
-pub use Rattle.command_runs.specs.Sources.{ShowsSource, file_name}
 use Rattle.command_runs.specs.Texts.{Files}
-use Rattle.command_runs.specs.Within.{IsExplored, IsFitOmitting, IsFitRun}
-use Rattle.schedule_text.specs.Bytes.{IsText}
+use Rattle.command_runs.specs.Within.{IsExplored, IsFitRun}
 use Rattle.clap.specs.Words.{IsAmong, fault_of}
 use Rattle.clap.specs.declared.error.ErrorKind.TheVariants as kind
 use Rattle.command_words.specs.Commands.{roundc_app}
@@ -44,10 +33,7 @@ use Rattle.command_words.specs.declared.exploring.Exploring.{Exploring}
 use Rattle.command_words.specs.declared.forms.AnswerFormat.{AnswerFormat}
 use Rattle.command_words.specs.declared.forms.AnswerFormat.TheVariants as answer_format
 use Rattle.command_words.specs.declared.forms.Form.{Form}
-use Rattle.command_words.specs.declared.forms.Format.{Format}
-use Rattle.command_words.specs.declared.forms.Format.TheVariants as format
 use Rattle.command_words.specs.declared.values.Source.{Source}
-use Rattle.command_words.specs.declared.values.Source.TheVariants.{File, Library}
 use Rattle.command_words.specs.declared.words.Words.{Words}
 use Rattle.command_words.specs.declared.drawing.Drawing.{Drawing}
 use Rattle.command_words.specs.declared.words.Words.TheVariants.{Check, Draw, Explore, Judge}
@@ -58,69 +44,19 @@ use Rattle.exploration_texts.specs.declared.told.Told.{Told}
 use Rattle.part_answers.specs.Answers.{answers_text}
 use Rattle.part_answers.specs.declared.answered.Answered.{Answered as PartAnswer}
 use Rattle.part_answers.specs.declared.part.PartHead.{PartHead}
-use Rattle.omission_explainer.specs.Decided.{decided_line, summary_of}
-use Rattle.omission_explainer.specs.Report.{report_text}
-use Rattle.omission_explainer.specs.declared.summary.Decided.{Decided}
-use Rattle.omission_explainer.specs.declared.summary.Decided.TheVariants as decided
 use Rattle.omission_explainer.specs.Verdict.{verdict_text}
 use Rattle.omission_explainer.specs.declared.judging.Verdict.{Verdict}
 use Rattle.omission_explainer.specs.declared.report.Report.{Report}
-use Rattle.round_check.specs.Causes.{is_typed}
-use Rattle.run_data.specs.ReportData.{report_data}
-use Rattle.round_lang.specs.Limits.{max_text}
-use Rattle.round_lang.specs.Source.{IsSource}
 use Rattle.round_lang.specs.Syntax.{ProgramTree}
 use Rattle.round_meaning.specs.declared.setup.Setup.{Setup}
 use Rattle.slot_plans.specs.Named.{IsPlan, receives_of, start_of}
 use Rattle.slot_plans.specs.declared.kind.PlanKind.{PlanKind}
 use Rattle.step_machine.specs.declared.event.Event.{Event}
-
--- the text is this program, every expression of which has its type
-pub record IsCheckedSource (text : List ℕ) (p : ProgramTree) : Type 0 where
-  pub fits : IsText max_text text
-  pub source : IsSource text p
-  pub typed : is_typed p ≡ true
-
--- the program of a source, for so many nodes and faults: what the file's text is, or the library's
-abbrev pub IsProgramOf : Source → Files → (nodes faults : ℕ) → ProgramTree → Type 0
-IsProgramOf (File name) files nodes faults p =
-    IfSome (files (file_name name.now)) (λ text. IsCheckedSource text p)
-IsProgramOf (Library name values) files nodes faults p = Offers name.now values nodes faults p
-
--- a source that was opened: the program of its file, or what it names of the library
-abbrev pub Opens : Source → Files → Opened → Type 0
-Opens (File name) files (opened.File p) =
-    IfSome (files (file_name name.now)) (λ text. IsCheckedSource text p)
-Opens (Library name values) files (opened.Library n k) = (n ≡ name) × (k ≡ values)
-Opens _ files _ = ⊥
-
--- the program of an opened source, for so many nodes and faults
-abbrev pub HoldsProgram : Opened → (nodes faults : ℕ) → ProgramTree → Type 0
-HoldsProgram (opened.File q) nodes faults p = p ≡ q
-HoldsProgram (opened.Library name values) nodes faults p = Offers name.now values nodes faults p
-
--- the text is of this kind, with this setup and plan in its header, and this behind it
-pub record IsOfKind (kind : Kind) (text : List ℕ) (s : Setup) (k : PlanKind) (t : Tail kind) :
-    Type 0 where
-  pub fits : IsText max_schedule text
-  pub says : SaysOf kind text s k t
-
--- the text is this schedule
-abbrev pub IsSchedule : List ℕ → Setup → PlanKind → List Event → Type 0
-IsSchedule text s k events = IsOfKind kinds.Schedule text s k events
-
--- the text is a header, with nothing behind it, of this setup and plan
-abbrev pub IsHeader : List ℕ → Setup → PlanKind → Type 0
-IsHeader text s k = IsOfKind kinds.Header text s k tt
-
--- the text is this thread setup
-abbrev pub IsThreadSetup : List ℕ → Setup → PlanKind → Pace → List Stop → Type 0
-IsThreadSetup text s k pace stops = IsOfKind kinds.Threads text s k (pace, stops)
-
--- the text says of which messages a run is without
-pub record IsOmissionText (text : List ℕ) (ls : List OmissionLine) : Type 0 where
-  pub fits : IsText max_schedule text
-  pub says : SaysOmissions text ls
+pub use Rattle.command_runs.specs.Said.{IsCheckedSource, IsProgramOf, Opens, HoldsProgram, IsOfKind}
+pub use Rattle.command_runs.specs.Said.{IsSchedule, IsHeader, IsThreadSetup, IsOmissionText}
+pub use Rattle.command_runs.specs.Said.{IsShownOf, told_text, decided_value, decided_data}
+pub use Rattle.command_runs.specs.Said.{data_text, NamesColumns, IsFormed, IsReportText}
+pub use Rattle.command_runs.specs.Sources.{ShowsSource, file_name}
 
 -- `ok values K period P variables M`
 abbrev pub summary_text : ProgramTree → List ℕ
@@ -166,11 +102,6 @@ ReportsRun source files file report =
     × IsSchedule text s k events × IsProgramOf source files s.nodes s.faults p
     × IsPlan k × IsFitRun p s [] events × IsReportOf (start_of k s.nodes) p s events report)
 
--- a picture's nodes are the run's, and its rounds begin in the run
-pub record IsShownOf (s : Setup) (d : Drawing) : Type 0 where
-  pub nodes : All (λ n. n < s.nodes) d.nodes.items
-  pub rounds : IfSome d.rounds (λ r. r.first ≤ s.rounds)
-
 -- the source's run under the schedule in a file has a report, and the picture shows a part of it
 abbrev pub DrawsRun : Source → Files → Option (List ℕ) → Drawing → Type 0
 DrawsRun source files file d =
@@ -186,51 +117,6 @@ JudgesRun source files file correct delta gst verdict =
     × IsSchedule text s k events × IsProgramOf source files s.nodes s.faults p
     × IsPlan k × IsFitRun p s correct events
     × IsVerdictOf (start_of k s.nodes) (receives_of k) p s events correct delta gst verdict)
-
--- the lines of the file of this name; without a name there are none
-abbrev pub SaysLines : Files → Option (Bor (List ℕ)) → List OmissionLine → Type 0
-SaysLines files None ls = ls ≡ []
-SaysLines files (Some name) ls = IfSome (files name.now) (λ text. IsOmissionText text ls)
-
--- the source's program, the header in a file, and the omissions in another, if that has a name
-pub record IsPaced (source : Source) (files : Files) (header_file : Option (List ℕ))
-    (omission_name : Option (Bor (List ℕ))) (p : ProgramTree) (s : Setup) (k : PlanKind)
-    (ls : List OmissionLine) : Type 0 where
-  pub header : IfSome header_file (λ text. IsHeader text s k)
-  pub omissions : SaysLines files omission_name ls
-  pub program : IsProgramOf source files s.nodes s.faults p
-
--- the text is the schedule of a run in lockstep, of the source's program under the header in a
--- file, with the omissions in another, if that has a name
-abbrev pub MakesLockstep : Source → Files → (header : Option (List ℕ))
-    → (omissions : Option (Bor (List ℕ))) → Terms → List ℕ → Type 0
-MakesLockstep source files header omissions t made =
-    (s : Setup) × (k : PlanKind) × (ls : List OmissionLine) × (p : ProgramTree)
-    × IsPaced source files header omissions p s k ls × IsPlan k × IsFitOmitting p s ls
-    × All (λ n. n < s.nodes) t.correct × IsLockstepText (start_of k s.nodes) p s k ls t made
-
--- the source's program, the header in one file, and the omissions in another
-pub record IsAsked (source : Source) (files : Files) (header_file omission_file : Option (List ℕ))
-    (p : ProgramTree) (s : Setup) (k : PlanKind) (ls : List OmissionLine) : Type 0 where
-  pub header : IfSome header_file (λ text. IsHeader text s k)
-  pub omissions : IfSome omission_file (λ text. IsOmissionText text ls)
-  pub program : IsProgramOf source files s.nodes s.faults p
-
--- the text is the schedule that omits what the lines of a file say, under the header in another
-abbrev pub RealisesOmissions : Source → Files → (header omissions : Option (List ℕ)) → List ℕ
-    → Type 0
-RealisesOmissions source files header omissions made =
-    (s : Setup) × (k : PlanKind) × (ls : List OmissionLine) × (p : ProgramTree)
-    × IsAsked source files header omissions p s k ls × IsPlan k × IsFitOmitting p s ls
-    × IsWritten s k (realised_by (receives_of k) (start_of k s.nodes) s ls) made
-
--- the report of the run in rounds that omits what the lines of a file say, under the header in
--- another
-abbrev pub ReportsRounds : Source → Files → (header omissions : Option (List ℕ)) → Report → Type 0
-ReportsRounds source files header omissions report =
-    (s : Setup) × (k : PlanKind) × (ls : List OmissionLine) × (p : ProgramTree)
-    × IsAsked source files header omissions p s k ls × IsPlan k × IsFitOmitting p s ls
-    × ShowsOmitting (start_of k s.nodes) p s ls report
 
 -- the report of the source's run by threads under the setup in a file, which is whole if each
 -- thread had memory, and the other file is the trace of that run as a schedule
@@ -285,40 +171,6 @@ Answered start receives p s events (question.Verdict terms f) (answer.Verdict ve
     × IsVerdictOf start receives p s events terms.correct.now terms.delta terms.gst verdict
 Answered start receives p s events _ _ = ⊥
 
--- the report, with what all decisions in it come to if that was asked for
-abbrev pub told_text : Report → Bool → List ℕ
-told_text report told = report_text report ++ decided_line told (summary_of report.rows)
-
--- what all decisions come to, as data: null for none
-abbrev pub decided_value : Decided → List ℕ
-decided_value decided.None = codes "null"
-decided_value (decided.One v) = decimal v
-decided_value decided.Split = codes "\"split\""
-
--- the line of data that says it, if that was asked for
-abbrev pub decided_data : Bool → Decided → List ℕ
-decided_data told all =
-    if told then codes "{\"decided\":" ++ decided_value all ++ codes "}\n" else []
-
--- the same as data
-abbrev pub data_text : Report → Bool → List ℕ
-data_text report told = report_data report ++ decided_data told (summary_of report.rows)
-
--- a table of named variables is asked for
-abbrev pub NamesColumns : Form → Type 0
-NamesColumns form = (form.format ≡ format.Table) × IsSome form.variables
-
--- the text is the report in this format; of that of a table or a summary nothing is said
-abbrev pub IsFormed : Format → Report → Bool → List ℕ → Type 0
-IsFormed format.Text report told text = text ≡ told_text report told
-IsFormed format.Json report told text = text ≡ data_text report told
-IsFormed format.Table report told text = ⊤
-IsFormed format.Summary report told text = ⊤
-
--- the text is the report in this form
-abbrev pub IsReportText : Form → Report → List ℕ → Type 0
-IsReportText form report text = IsFormed form.format report form.decided text
-
 -- `out` gained the report in this form
 abbrev pub SaysReport : Form → Report → (old new : Option (List ℕ)) → Type 0
 SaysReport form report old new =
@@ -360,14 +212,12 @@ Prints (Judge source schedule correct delta gst f) files after text =
     × JudgesRun source files (files schedule.now) correct.items delta gst verdict
     × (text ≡ verdict_as f verdict)
 Prints (Lockstep source header correct delta gst delays orders ticks changes) files after text =
-    MakesLockstep source files (files header.now) changes.omissions
-    (terms_by correct delta gst delays orders ticks changes) text
+    (lockstep source files header.now changes.omissions
+    (terms_by correct delta gst delays orders ticks changes)).gives text
 Prints (Realise source header omissions) files after text =
-    RealisesOmissions source files (files header.now) (files omissions.now) text
+    (realise source files header.now omissions.now).gives text
 Prints (Rounds source header omissions form) files after text =
-    (report : Report)
-    × ReportsRounds source files (files header.now) (files omissions.now) report
-    × IsReportText form report text
+    (rounds source files header.now omissions.now form).gives text
 Prints (Explore source header exploring f) files after text =
     (head : Option PartHead) × (told : List Told)
     × TellsOfAll source files after (files header.now) exploring head told

@@ -5,14 +5,14 @@ use Rattle.std.specs.Prelude.{Option, Some, length}
 use Rattle.std.specs.Io.KnownBytes.{Appends}
 use Rattle.adversary.specs.Reading.{IsScheduleOf}
 use Rattle.adversary.specs.declared.fault.RunFault.TheVariants as run
-use Rattle.command_runs.specs.InChanges.{Terms}
 use Rattle.command_runs.specs.Refused.{Fault, IsNoOffer}
 use Rattle.command_runs.specs.Refused.{IsOpened, IsUnanswered, IsUnexplored}
-use Rattle.command_runs.specs.Refused.{IsUnmade, IsUnthreaded, IsUntraced}
+use Rattle.command_runs.specs.Refused.{IsUnthreaded, IsUntraced}
 use Rattle.command_runs.specs.Refused.{StartsThreads, fault_in, of_text}
 use Rattle.command_runs.specs.Explained.{IsReportOf}
 use Rattle.command_runs.specs.Served.{Answered, AnswersRun, IsHeader, IsProgramOf, IsShownOf}
-use Rattle.command_runs.specs.Served.{IsThreadSetup, MakesLockstep, NamesColumns, SaysAnswer}
+use Rattle.command_runs.specs.Served.{IsThreadSetup, NamesColumns, SaysAnswer}
+use Rattle.command_runs.specs.Stage.{Stage}
 use Rattle.command_runs.specs.Texts.{Files}
 use Rattle.command_runs.specs.Within.{IsExplored, IsFitRun}
 use Rattle.schedule_text.specs.Bytes.{IsLongText, IsNoText}
@@ -122,19 +122,14 @@ abbrev pub TellsAnswer : Source → Files → Option (List ℕ) → Question
 TellsAnswer source files file q old new =
     (a : RunAnswer) × AnswersRun source files file q a × SaysAnswer a old new
 
--- `out` gained the schedule of a run in lockstep
-abbrev pub TellsLockstep : Source → Files → (header : Option (List ℕ))
-    → (omissions : Option (Bor (List ℕ))) → Terms → (old new : Option (List ℕ)) → Type 0
-TellsLockstep source files header omissions t old new =
-    (made : List ℕ) × MakesLockstep source files header omissions t made × Appends old new made
+-- `out` gained what a stage gives
+abbrev pub Tells : Stage (List ℕ) → (old new : Option (List ℕ)) → Type 0
+Tells stage old new = (text : List ℕ) × stage.gives text × Appends old new text
 
--- why it isn't told
-abbrev pub IsRefusedLockstep : Source → Files → (header : Option (List ℕ))
-    → (omissions : Option (Bor (List ℕ))) → Terms → Refusal → Type 0
-IsRefusedLockstep source files header omissions t refusal.Write =
-    (made : List ℕ) × MakesLockstep source files header omissions t made
-IsRefusedLockstep source files header omissions t r =
-    IsUnmade source files header omissions t r
+-- why that isn't told: `out` doesn't take it, or the stage fails
+abbrev pub IsNotTold : Stage (List ℕ) → Refusal → Type 0
+IsNotTold stage refusal.Write = (text : List ℕ) × stage.gives text
+IsNotTold stage r = stage.fails r
 
 -- why a report isn't written: `out` doesn't take it, there is no memory for its text, or a table of
 -- named variables is asked for

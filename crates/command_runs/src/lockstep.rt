@@ -1,10 +1,11 @@
 //! The schedule of a run in lockstep.
 ghost use Rattle.std.specs.Prelude.{◌≡◌, ◌<◌, ◌≤◌, ℕ, All, IfErr, IfOk, IfSome, List, OnOk};
+ghost use Rattle.command_runs.specs.Causes.{IsMissing, IsNotMade};
+ghost use Rattle.command_runs.specs.Commands.{asking, lockstep, omitting_by};
 ghost use Rattle.command_runs.specs.IdleTexts.{IsReady, schedule_text};
 ghost use Rattle.command_runs.specs.InChanges.{AreFitChanges, terms_of};
 ghost use Rattle.command_runs.specs.InLockstep.{AreTerms, IsLockstepText, LockstepCause, ticks_of};
-ghost use Rattle.command_runs.specs.Refused.{IsMissing, IsNotMade, IsUnasked, IsUnmade};
-ghost use Rattle.command_runs.specs.Served.{IsHeader, IsPaced, MakesLockstep};
+ghost use Rattle.command_runs.specs.Said.{IsHeader};
 ghost use Rattle.command_runs.specs.Stages.{IsNoReadOf};
 ghost use Rattle.command_runs.specs.Within.{IsFitOmitting};
 ghost use Rattle.omission_texts.specs.Meaning.{IsKnown};
@@ -60,12 +61,12 @@ impl<'a> Paced<'a> {
         pacing: Pacing<'p>,
         desk: &mut D,
     ) -> Result<PacedSchedule<'p>, Refusal>
-        ensures made { IfOk result (λ made. MakesLockstep self.now.source (D.files desk.old)
-            (D.files desk.old self.now.header.now) self.now.omissions (terms_of pacing.entry)
+        ensures made { IfOk result (λ made. (lockstep self.now.source (D.files desk.old)
+            self.now.header.now self.now.omissions (terms_of pacing.entry)).gives
             (schedule_text made)) }
         ensures ready { IfOk result (λ made. IsReady made.idle) }
-        ensures refused { IfErr result (IsUnmade self.now.source (D.files desk.old)
-            (D.files desk.old self.now.header.now) self.now.omissions (terms_of pacing.entry)) }
+        ensures refused { IfErr result (lockstep self.now.source (D.files desk.old)
+            self.now.header.now self.now.omissions (terms_of pacing.entry)).fails }
         ensures written { D.written desk.new ≡ D.written desk.old }
     {
         let asked = self.ask(alloc, desk)?;
@@ -74,11 +75,10 @@ impl<'a> Paced<'a> {
 
     /// Reads what the files say.
     fn ask<D: Desk>(&self, alloc: Global, desk: &mut D) -> Result<Asked, Refusal>
-        ensures asked { IfOk result (λ a. IsPaced self.now.source (D.files desk.old)
-            (D.files desk.old self.now.header.now) self.now.omissions
-            a.program a.setup a.plan a.omissions) }
-        ensures refused { IfErr result (IsUnasked self.now.source (D.files desk.old)
-            (D.files desk.old self.now.header.now) self.now.omissions) }
+        ensures asked { IfOk result (asking self.now.source (D.files desk.old)
+            self.now.header.now (omitting_by (D.files desk.old) self.now.omissions)).gives }
+        ensures refused { IfErr result (asking self.now.source (D.files desk.old)
+            self.now.header.now (omitting_by (D.files desk.old) self.now.omissions)).fails }
         ensures written { D.written desk.new ≡ D.written desk.old }
     {
         let opened = Opened::open(alloc, self.source, desk)?;

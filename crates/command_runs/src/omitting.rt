@@ -1,13 +1,12 @@
 //! What is made of the messages that a file has a run omit.
-ghost use Rattle.std.specs.Prelude.{◌≡◌, All, IfErr, IfOk, IfSome, OnOk, map};
+ghost use Rattle.std.specs.Prelude.{◌≡◌, All, IfErr, IfOk, OnOk, map};
 ghost use Rattle.std.specs.Prelude.{string_bytes};
 ghost use Rattle.std.specs.List.{range_with_len};
 ghost use Rattle.command_runs.specs.InLockstep.{IsWritten};
+ghost use Rattle.command_runs.specs.Causes.{IsNotRealised, omission_fault};
+ghost use Rattle.command_runs.specs.Commands.{asking, omitting, omitting_by, realise};
+ghost use Rattle.command_runs.specs.Commands.{rounds_report};
 ghost use Rattle.command_runs.specs.InOmissions.{OmissionCause, ShowsOmitting, realised_by};
-ghost use Rattle.command_runs.specs.Refused.{HasNoLines, HasNoOmissions, IsNotRealised};
-ghost use Rattle.command_runs.specs.Refused.{IsUnrealised, omission_fault};
-ghost use Rattle.command_runs.specs.Served.{IsAsked, IsOmissionText, RealisesOmissions};
-ghost use Rattle.command_runs.specs.Served.{ReportsRounds, SaysLines};
 ghost use Rattle.command_runs.specs.Stages.{IsUnread};
 ghost use Rattle.command_runs.specs.Within.{IsFitOmitting};
 ghost use Rattle.omission_texts.specs.Meaning.{IsKnown, IsTableOf};
@@ -52,11 +51,10 @@ pub(crate) struct Asked {
 impl<'a> Omitting<'a> {
     /// The text of the schedule that omits just what the file says.
     pub(crate) fn schedule<D: Desk>(&self, alloc: Global, desk: &mut D) -> Result<String, Refusal>
-        ensures made { IfOk result (λ text. RealisesOmissions self.now.source (D.files desk.old)
-            (D.files desk.old self.now.header.now) (D.files desk.old self.now.omissions.now)
-            (string_bytes text)) }
-        ensures refused { IfErr result (IsUnrealised self.now.source (D.files desk.old)
-            (D.files desk.old self.now.header.now) (D.files desk.old self.now.omissions.now)) }
+        ensures made { IfOk result (λ text. (realise self.now.source (D.files desk.old)
+            self.now.header.now self.now.omissions.now).gives (string_bytes text)) }
+        ensures refused { IfErr result (realise self.now.source (D.files desk.old)
+            self.now.header.now self.now.omissions.now).fails }
         ensures written { D.written desk.new ≡ D.written desk.old }
     {
         let asked = self.ask(alloc, desk)?;
@@ -65,10 +63,10 @@ impl<'a> Omitting<'a> {
 
     /// The report of the run in rounds that omits just what the file says.
     pub(crate) fn report<D: Desk>(&self, alloc: Global, desk: &mut D) -> Result<Report, Refusal>
-        ensures made { IfOk result (ReportsRounds self.now.source (D.files desk.old)
-            (D.files desk.old self.now.header.now) (D.files desk.old self.now.omissions.now)) }
-        ensures refused { IfErr result (IsUnrealised self.now.source (D.files desk.old)
-            (D.files desk.old self.now.header.now) (D.files desk.old self.now.omissions.now)) }
+        ensures made { IfOk result (rounds_report self.now.source (D.files desk.old)
+            self.now.header.now self.now.omissions.now).gives }
+        ensures refused { IfErr result (rounds_report self.now.source (D.files desk.old)
+            self.now.header.now self.now.omissions.now).fails }
         ensures written { D.written desk.new ≡ D.written desk.old }
     {
         let asked = self.ask(alloc, desk)?;
@@ -77,11 +75,10 @@ impl<'a> Omitting<'a> {
 
     /// Reads all of it.
     fn ask<D: Desk>(&self, alloc: Global, desk: &mut D) -> Result<Asked, Refusal>
-        ensures asked { IfOk result (λ a. IsAsked self.now.source (D.files desk.old)
-            (D.files desk.old self.now.header.now) (D.files desk.old self.now.omissions.now)
-            a.program a.setup a.plan a.omissions) }
-        ensures refused { IfErr result (IsUnrealised self.now.source (D.files desk.old)
-            (D.files desk.old self.now.header.now) (D.files desk.old self.now.omissions.now)) }
+        ensures asked { IfOk result (asking self.now.source (D.files desk.old)
+            self.now.header.now (omitting (D.files desk.old self.now.omissions.now))).gives }
+        ensures refused { IfErr result (asking self.now.source (D.files desk.old)
+            self.now.header.now (omitting (D.files desk.old self.now.omissions.now))).fails }
         ensures written { D.written desk.new ≡ D.written desk.old }
     {
         let opened = Opened::open(alloc, self.source, desk)?;
@@ -103,8 +100,8 @@ pub(crate) fn lines_in<D: Desk>(
     name: Option<&str>,
     desk: &mut D,
 ) -> Result<Omissions, Refusal>
-    ensures said { IfOk result (SaysLines (D.files desk.old) name.entry) }
-    ensures refused { IfErr result (HasNoLines (D.files desk.old) name.entry) }
+    ensures said { IfOk result (omitting_by (D.files desk.old) name.entry).gives }
+    ensures refused { IfErr result (omitting_by (D.files desk.old) name.entry).fails }
     ensures written { D.written desk.new ≡ D.written desk.old }
 {
     match name {
@@ -115,9 +112,8 @@ pub(crate) fn lines_in<D: Desk>(
 
 /// The omissions in a file.
 fn omissions_in<D: Desk>(alloc: Global, name: &str, desk: &mut D) -> Result<Omissions, Refusal>
-    ensures said { IfOk result (λ ls. IfSome (D.files desk.old name.now)
-        (λ text. IsOmissionText text ls)) }
-    ensures refused { IfErr result (HasNoOmissions (D.files desk.old name.now)) }
+    ensures said { IfOk result (omitting (D.files desk.old name.now)).gives }
+    ensures refused { IfErr result (omitting (D.files desk.old name.now)).fails }
     ensures written { D.written desk.new ≡ D.written desk.old }
 {
     let text = schedule_text_in(alloc, name, desk)?;

@@ -3,6 +3,7 @@ ghost use Rattle.std.specs.Prelude.{◌≡◌, ◌<◌, ◌≤◌, ◌⊎◌, �
 ghost use Rattle.std.specs.Prelude.{OnOk, map, true};
 ghost use Rattle.std.specs.Io.KnownBytes.{Keeps};
 ghost use Rattle.command_runs.specs.Apart.{IsApart, IsApartIfNamed, WritesApart, WroteApart};
+ghost use Rattle.command_runs.specs.Commands.{lockstep};
 ghost use Rattle.command_runs.specs.Desks.{MayWrite, MayWriteTrace, Writes, WritesTrace, WroteAll};
 ghost use Rattle.command_runs.specs.Desks.{WroteAtMost, WroteFor};
 ghost use Rattle.command_runs.specs.InRounds.{code_of};
@@ -11,9 +12,8 @@ ghost use Rattle.command_runs.specs.Refused.{IsRefusedCommand, IsSilent, LeftByT
 ghost use Rattle.command_runs.specs.Refused.{TellsThreads};
 ghost use Rattle.command_runs.specs.Served.{AsksForHelp, Ends, IsEnded, SaysAnswer, Serves};
 ghost use Rattle.command_runs.specs.InChanges.{terms_of};
-ghost use Rattle.command_runs.specs.Stages.{IsRefusedAnswer, IsRefusedLockstep, IsRefusedThreads};
-ghost use Rattle.command_runs.specs.Stages.{IsUntold};
-ghost use Rattle.command_runs.specs.Stages.{TellsAnswer, TellsLockstep};
+ghost use Rattle.command_runs.specs.Stages.{IsNotTold, IsRefusedAnswer, IsRefusedThreads, IsUntold};
+ghost use Rattle.command_runs.specs.Stages.{Tells, TellsAnswer};
 
 use crate::asking::{Answer, Question, Run};
 use crate::desk::Desk;
@@ -359,12 +359,11 @@ fn pace<'a, D: Desk, O: Write>(
     out: &mut O,
 ) -> Result<Outcome, Refusal>
     ensures done { IfOk result (λ o. o ≡ Outcome.Done) }
-    ensures served { OnOk result (TellsLockstep paced.entry.source (D.files desk.old)
-        (D.files desk.old paced.entry.header.now) paced.entry.omissions
-        (terms_of pacing.entry) (O.contents out.old) (O.contents out.new)) }
-    ensures refused { IfErr result (IsRefusedLockstep paced.entry.source (D.files desk.old)
-        (D.files desk.old paced.entry.header.now) paced.entry.omissions
-        (terms_of pacing.entry)) }
+    ensures served { OnOk result (Tells (lockstep paced.entry.source (D.files desk.old)
+        paced.entry.header.now paced.entry.omissions (terms_of pacing.entry))
+        (O.contents out.old) (O.contents out.new)) }
+    ensures refused { IfErr result (IsNotTold (lockstep paced.entry.source (D.files desk.old)
+        paced.entry.header.now paced.entry.omissions (terms_of pacing.entry))) }
     ensures silent { IfErr result (IsSilent (O.contents out.old) (O.contents out.new)) }
     ensures written { D.written desk.new ≡ D.written desk.old }
 {

@@ -1,7 +1,7 @@
-use Rattle.std.proofs.Common.{◌≡◌, ◌∙◌, inl, inr, subst, sym}
+use Rattle.std.proofs.Common.{◌≡◌, ◌∙◌, inl, inr, refl, subst, sym}
 use Rattle.std.specs.Prelude.{IfSome}
-use Rattle.command_runs.specs.Refused.{IsUnasked}
-use Rattle.command_runs.specs.Served.{IsHeader}
+use Rattle.command_runs.specs.Commands.{asking as asking_for, omitting_by}
+use Rattle.command_runs.specs.Said.{IsHeader}
 use Rattle.command_runs.proofs.Refusing.{err_then}
 use Rattle.command_runs.proofs.Serving.{program_of}
 use Rattle.command_runs.proofs.Telling.{opened_is}
@@ -16,15 +16,16 @@ returns-clause-asked g c =
     let k = c.in_ok-setup.plan in
     let ls = c.in_ok-omissions.omissions in
     let p = c.in_ok-program.program in
-    record {
-      header = subst (λ file. IfSome file (λ text. IsHeader text s k))
-          (c.open.ensures.files asking.header.now) c.in_ok-setup.ensures.header;
-      omissions = says_as files _ asking.omissions ls
-          (λ name. c.header_in.ensures.files name ∙ c.open.ensures.files name)
-          c.in_ok-omissions.ensures.said;
-      program = program_of asking.source files c.in_ok-opened.opened s.nodes s.faults p
-          c.in_ok-opened.ensures.opened c.in_ok-program.ensures.program;
-    }
+    let read = subst (λ file. IfSome file (λ text. IsHeader text s k))
+    (c.open.ensures.files asking.header.now) c.in_ok-setup.ensures.header in
+    let said = says_as files _ asking.omissions ls
+    (λ name. c.header_in.ensures.files name ∙ c.open.ensures.files name)
+    c.in_ok-omissions.ensures.said in
+    let program = program_of asking.source files c.in_ok-opened.opened s.nodes s.faults p
+    c.in_ok-opened.ensures.opened c.in_ok-program.ensures.program in (
+      opened_is asking.source files c.in_ok-opened.opened c.in_ok-opened.ensures.opened,
+      ((s, k, tt), read, (ls, said, (p, program, refl))),
+    )
 
 pub returns-in_err-omissions-clause-refused : goal.returns-in_err-omissions-clause-refused
 returns-in_err-omissions-clause-refused g c =
@@ -40,7 +41,8 @@ returns-in_err-omissions-clause-refused g c =
     let none = no_lines_as files _ asking.omissions f
     (λ name. c.header_in.ensures.files name ∙ c.open.ensures.files name)
     c.in_err-omissions.ensures.refused in
-    let cause = IsUnasked asking.source files (files asking.header.now) asking.omissions in
+    let cause = (asking_for asking.source files asking.header.now
+    (omitting_by files asking.omissions)).fails in
     err_then c.from_residual-in_err-omissions.result (λ r. r ≡ f) cause
     c.from_residual-in_err-omissions.ensures.1
-    (λ r is. subst cause (sym is) (inr (inr (inl (opened, (s, k, read), none)))))
+    (λ r is. subst cause (sym is) (inr (opened, inr ((s, k, tt), read, inl none))))
