@@ -1,7 +1,7 @@
 -- What holds of chains of stages.
 use Rattle.std.proofs.Common.{inl, inr, ℕ, List, Option}
 use Rattle.command_runs.specs.Causes.{fault_in}
-use Rattle.command_runs.specs.Commands.{asking, offering, opening, reading}
+use Rattle.command_runs.specs.Commands.{asking, offering, opening}
 use Rattle.command_runs.specs.Refused.{IsRefusedCommand, IsUnserved, IsUnwritten}
 use Rattle.command_runs.specs.Sources.{file_name}
 use Rattle.command_runs.specs.Stage.{Stage, ◌>>=◌}

@@ -160,15 +160,15 @@ module _ (source : Source) (files : Files) (header omissions : List ℕ) where
       → (asking source files header (omitting (files omissions))).gives (asked_of p s k ls)
   asked_new p s k ls h = (
     opened_by source files s.nodes s.faults p h.program,
-    ((s, k, tt), h.header, (ls, h.omissions, (p, h.program, refl))),
+    ((s, k), h.header, (ls, h.omissions, (p, h.program, refl))),
   )
 
-  realise_old : (made : List ℕ) → (realise source files header omissions).gives made
+  pub realise_old : (made : List ℕ) → (realise source files header omissions).gives made
       → RealisesOmissions source files (files header) (files omissions) made
   realise_old made (a, asked, h) =
       (a.setup, a.plan, a.omissions, a.program, asked_old a asked, h.0, h.1, h.2)
 
-  realise_new : (made : List ℕ)
+  pub realise_new : (made : List ℕ)
       → RealisesOmissions source files (files header) (files omissions) made
       → (realise source files header omissions).gives made
   realise_new made (s, k, ls, p, asked, plan, fit, h) =
@@ -206,11 +206,11 @@ module _ (source : Source) (files : Files) (header omissions : List ℕ) where
   unrealised_new r (inl h) = inl (inl h)
   unrealised_new r (inr (inl (opened, none))) = inl (inr (opened, inl none))
   unrealised_new r (inr (inr (inl (opened, h, none)))) =
-      inl (inr (opened, inr ((h.0, h.1, tt), h.2, inl none)))
+      inl (inr (opened, inr ((h.0, h.1), h.2, inl none)))
   unrealised_new r (inr (inr (inr (opened, (s, k, ls, read, says, inl none))))) =
-      inl (inr (opened, inr ((s, k, tt), read, inr (ls, says, inl none))))
+      inl (inr (opened, inr ((s, k), read, inr (ls, says, inl none))))
   unrealised_new r (inr (inr (inr (opened, (s, k, ls, read, says, inr (p, program, none)))))) =
-      inr (asked_of p s k ls, (opened, ((s, k, tt), read, (ls, says, (p, program, refl)))), none)
+      inr (asked_of p s k ls, (opened, ((s, k), read, (ls, says, (p, program, refl)))), none)
 
   -- that of the report is the same
   report_unrealised : (r : Refusal) → (rounds_report source files header omissions).fails r
@@ -291,7 +291,7 @@ module _ (source : Source) (files : Files) (header : List ℕ) (omissions : Opti
   paced_new p s k ls h = (
     opened_by source files s.nodes s.faults p h.program,
     (
-      (s, k, tt),
+      (s, k),
       h.header,
       (ls, lines_new files omissions ls h.omissions, (p, h.program, refl)),
     ),
@@ -327,11 +327,11 @@ module _ (source : Source) (files : Files) (header : List ℕ) (omissions : Opti
   unmade_new r (inl (inl h)) = inl (inl h)
   unmade_new r (inl (inr (inl (opened, none)))) = inl (inr (opened, inl none))
   unmade_new r (inl (inr (inr (inl (opened, h, none))))) =
-      inl (inr (opened, inr ((h.0, h.1, tt), h.2, inl (no_lines_new files omissions r none))))
+      inl (inr (opened, inr ((h.0, h.1), h.2, inl (no_lines_new files omissions r none))))
   unmade_new r (inl (inr (inr (inr (opened, (s, k, ls, read, says, none)))))) =
       inl (inr (
         opened,
-        inr ((s, k, tt), read, inr (ls, lines_new files omissions ls says, inl none)),
+        inr ((s, k), read, inr (ls, lines_new files omissions ls says, inl none)),
       ))
   unmade_new r (inr (s, k, ls, p, paced, none)) =
       inr (asked_of p s k ls, paced_new p s k ls paced, none)

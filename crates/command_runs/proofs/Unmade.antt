@@ -108,9 +108,13 @@ module _ (from : Source) (files : Files) (header : Bor (List ℕ)) (correct : Ve
       (words.Lockstep from header correct delta gst delays orders ticks changes) files r
   lockstep_refused r h = command_refused (lockstep from files header.now changes.omissions t)
       (words.Lockstep from header correct delta gst delays orders ticks changes) files
-      (λ told. (files, told.0, subst
-          (λ (x : Terms). (lockstep from files header.now changes.omissions x).gives told.0) same
-          told.1))
+      (λ told. (
+        files,
+        told.0,
+        subst
+            (λ (x : Terms). (lockstep from files header.now changes.omissions x).gives told.0) same
+            told.1,
+      ))
       (never_lockstep from files header.now changes.omissions t refusal.NodeNoMemory last_nodes
       (λ a none. none))
       (λ r h. subst (λ (x : Terms). (lockstep from files header.now changes.omissions x).fails r)

@@ -6,7 +6,7 @@ use Rattle.command_runs.specs.Causes.{IsNotOpened, IsNotRealised, IsOpened, IsUn
 use Rattle.command_runs.specs.InChanges.{Terms}
 use Rattle.command_runs.specs.InLockstep.{IsLockstepText, IsWritten}
 use Rattle.command_runs.specs.InOmissions.{ShowsOmitting, realised_by}
-use Rattle.command_runs.specs.Said.{IsOfKind, IsOmissionText, IsProgramOf, IsReportText}
+use Rattle.command_runs.specs.Said.{IsHeader, IsOmissionText, IsProgramOf, IsReportText}
 use Rattle.command_runs.specs.Stage.{Stage, giving, ◌>>=◌, ◌>>◌}
 use Rattle.command_runs.specs.Texts.{Files}
 use Rattle.command_runs.specs.Within.{IsFitOmitting}
@@ -17,8 +17,6 @@ use Rattle.omission_explainer.specs.declared.report.Report.{Report}
 use Rattle.omission_texts.specs.declared.line.OmissionLine.{OmissionLine}
 use Rattle.round_lang.specs.Syntax.{ProgramTree}
 use Rattle.round_meaning.specs.declared.setup.Setup.{Setup}
-use Rattle.schedule_text.specs.Texts.{Tail}
-use Rattle.schedule_text.specs.declared.kind.Kind.{Kind}
 use Rattle.schedule_text.specs.declared.kind.Kind.TheVariants as kinds
 use Rattle.slot_plans.specs.Named.{IsPlan, receives_of, start_of}
 use Rattle.slot_plans.specs.declared.kind.PlanKind.{PlanKind}
@@ -30,11 +28,11 @@ abbrev pub opening : Source → Files → Stage (Unit {0})
 opening source files =
     record { gives = λ _. IsOpened source files; fails = IsNotOpened source files }
 
--- reading the text of this kind in a file: its setup, its plan, and what is behind them
-abbrev pub reading : (kind : Kind) → Option (List ℕ) → Stage (Setup × PlanKind × Tail kind)
-reading kind file = record {
-  gives = λ (s, k, t). IfSome file (λ text. IsOfKind kind text s k t);
-  fails = IsMissing kind file;
+-- reading the header in a file
+abbrev pub reading : Option (List ℕ) → Stage (Setup × PlanKind)
+reading file = record {
+  gives = λ (s, k). IfSome file (λ text. IsHeader text s k);
+  fails = IsMissing kinds.Header file;
 }
 
 -- reading the omissions in a file
@@ -92,7 +90,7 @@ telling form report = record { gives = IsReportText form report; fails = IsUnfor
 abbrev pub asking : Source → Files → (header : List ℕ) → Stage (List OmissionLine) → Stage Asked
 asking source files header omissions = do
   opening source files
-  (s, k, _) ← reading kinds.Header (files header)
+  (s, k) ← reading (files header)
   ls ← omissions
   p ← offering source files s
   giving (record { program = p; setup = s; plan = k; omissions = ls })

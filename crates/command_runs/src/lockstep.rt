@@ -82,9 +82,10 @@ impl<'a> Paced<'a> {
         ensures written { D.written desk.new ≡ D.written desk.old }
     {
         let opened = Opened::open(alloc, self.source, desk)?;
-        let (setup, plan) = header_in(alloc, self.header, desk)?;
+        let header = header_in(alloc, self.header, desk)?;
         let omissions = lines_in(alloc, self.omissions, desk)?;
-        let program = opened.program(alloc, setup.nodes, setup.faults)?;
+        let program = opened.program(alloc, header.0.nodes, header.0.faults)?;
+        let (setup, plan) = header;
         Ok(Asked {
             program,
             setup,
