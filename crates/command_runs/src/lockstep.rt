@@ -74,6 +74,7 @@ impl<'a> Paced<'a> {
     }
 
     /// Reads what the files say.
+    #[tactic(auto, using(crate::proofs::Serving::program_of, crate::proofs::Telling::held_back, crate::proofs::Telling::opened_is, crate::proofs::Unmade::no_lines_as, crate::proofs::Unmade::says_as))]
     fn ask<D: Desk>(&self, alloc: Global, desk: &mut D) -> Result<Asked, Refusal>
         ensures asked { IfOk result (asking self.now.source (D.files desk.old)
             self.now.header.now (omitting_by (D.files desk.old) self.now.omissions)).gives }

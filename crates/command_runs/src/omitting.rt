@@ -74,6 +74,7 @@ impl<'a> Omitting<'a> {
     }
 
     /// Reads all of it.
+    #[tactic(auto, using(crate::proofs::Serving::program_of, crate::proofs::Telling::held_back, crate::proofs::Telling::opened_is))]
     fn ask<D: Desk>(&self, alloc: Global, desk: &mut D) -> Result<Asked, Refusal>
         ensures asked { IfOk result (asking self.now.source (D.files desk.old)
             self.now.header.now (omitting (D.files desk.old self.now.omissions.now))).gives }
