@@ -2,6 +2,7 @@ use Rattle.std.proofs.Common.{◌≡◌, List, subst, sym, ℕ}
 use Rattle.std.proofs.lemmas.Result.{IfErr-weaker, IfOk-weaker}
 use Rattle.std.specs.Prelude.{string_bytes}
 use Rattle.command_runs.proofs.Refusing.{err_then, no_text, no_text_of, omission_text}
+use Rattle.command_runs.proofs.Trial.{realise_old}
 use Rattle.command_runs.proofs.omitting.omissions_in.Goals as goal
 use Rattle.command_runs.specs.Refused.{HasNoOmissions, omission_fault}
 use Rattle.command_runs.specs.Stages.{IsUnread}

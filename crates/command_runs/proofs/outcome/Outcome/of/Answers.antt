@@ -1,6 +1,4 @@
 use Rattle.command_runs.proofs.Explored.{outcome_no}
-use Rattle.command_runs.proofs.Trial.{realise_old}
-use Rattle.command_runs.proofs.Unmade.{lockstep_refused}
 use Rattle.command_runs.proofs.outcome.Outcome.of.Goals as goal
 
 pub returns-in-Some : goal.returns-in-Some
