@@ -54,6 +54,17 @@ use Rattle.schedule_text.specs.declared.fault.ScheduleFault.TheVariants as sched
 use Rattle.slot_plans.specs.declared.kind.PlanKind.{PlanKind}
 use Rattle.step_machine.specs.declared.event.Event.{Event}
 use Rattle.slot_plans.specs.Named.{IsPlan, start_of}
+use Rattle.std.specs.Borrow.{Bor}
+use Rattle.clap.specs.Words.{fault_of}
+use Rattle.command_words.specs.declared.words.Words.{Words}
+use Rattle.command_words.specs.declared.words.Words.TheVariants.{Check, Run}
+use Rattle.command_runs.specs.InParts.{HasNoPartText, MakesNoWhole}
+use Rattle.command_runs.specs.declared.refusal.Refusal.TheVariants as refusal
+use Rattle.adversary.specs.declared.fault.RunFault.TheVariants as run
+use Rattle.command_runs.specs.Served.{IsShownOf, NamesColumns}
+use Rattle.command_runs.specs.declared.texts.Text.TheVariants as text
+use Rattle.round_lang.specs.declared.fault.LangFault.TheVariants as lang
+use Rattle.schedule_text.specs.declared.fault.ScheduleFault.TheVariants as schedule
 
 -- the fault of a layer below as a refusal; out of memory is one of its own
 abbrev pub of_words : WordsFault → Refusal
@@ -278,3 +289,10 @@ omission_fault held fault = IsOmissionReading held (Err fault)
 -- why a file says no omissions
 abbrev pub HasNoOmissions : Option (List ℕ) → Refusal → Type 0
 HasNoOmissions file r = HasNoText omission_fault file r
+
+-- why nothing is made of the answers of parts
+abbrev pub IsNotTogether : Files → List (Bor (List ℕ)) → Refusal → Type 0
+IsNotTogether files names refusal.File = HasNoPartText files names
+IsNotTogether files names (refusal.Part cause) = MakesNoWhole files names cause
+IsNotTogether files names refusal.NoMemory = ⊤
+IsNotTogether files names _ = ⊥

@@ -1,6 +1,6 @@
--- What texts say, the programs of sources, and the text of a report.
+-- What texts say, the programs of sources, and the texts of answers.
 use Rattle.std.specs.Prelude.{◌≡◌, ◌<◌, ◌≤◌, ◌++◌, ⊤, ℕ, All, Bool, List, None, IfSome, IsSome, []}
-use Rattle.std.specs.Prelude.{codes, true, if◌then◌else◌}
+use Rattle.std.specs.Prelude.{codes, true, if◌then◌else◌, Option, Some, false, length}
 use Rattle.std.specs.Fmt.{decimal}
 use Rattle.omission_texts.specs.Texts.{Says as SaysOmissions}
 use Rattle.omission_texts.specs.declared.line.OmissionLine.{OmissionLine}
@@ -34,6 +34,14 @@ use Rattle.round_lang.specs.Syntax.{ProgramTree}
 use Rattle.round_meaning.specs.declared.setup.Setup.{Setup}
 use Rattle.slot_plans.specs.declared.kind.PlanKind.{PlanKind}
 use Rattle.step_machine.specs.declared.event.Event.{Event}
+use Rattle.schedule_text.specs.declared.kind.Kind.TheVariants as kinds
+use Rattle.command_words.specs.declared.forms.AnswerFormat.{AnswerFormat}
+use Rattle.command_words.specs.declared.forms.AnswerFormat.TheVariants as answer_format
+use Rattle.command_words.specs.declared.words.Words.TheVariants.{Threads}
+use Rattle.omission_explainer.specs.Verdict.{verdict_text}
+use Rattle.omission_explainer.specs.declared.judging.Verdict.{Verdict}
+use Rattle.command_runs.specs.declared.sources.Opened.TheVariants as opened
+use Rattle.command_runs.specs.declared.texts.Text.TheVariants as text
 
 -- the text is this program, every expression of which has its type
 pub record IsCheckedSource (text : List ℕ) (p : ProgramTree) : Type 0 where
@@ -120,3 +128,40 @@ IsFormed format.Summary report told text = ⊤
 -- the text is the report in this form
 abbrev pub IsReportText : Form → Report → List ℕ → Type 0
 IsReportText form report text = IsFormed form.format report form.decided text
+
+-- `ok values K period P variables M`
+abbrev pub summary_text : ProgramTree → List ℕ
+summary_text p =
+    codes "ok values " ++ decimal p.values ++ codes " period " ++ decimal p.period
+    ++ codes " variables " ++ decimal (length p.variables) ++ codes "\n"
+
+-- `{"values":K,"period":P,"variables":M}`
+abbrev pub summary_data : ProgramTree → List ℕ
+summary_data p =
+    codes "{\"values\":" ++ decimal p.values ++ codes ",\"period\":" ++ decimal p.period
+    ++ codes ",\"variables\":" ++ decimal (length p.variables) ++ codes "}\n"
+
+-- what a program declares, in a format
+abbrev pub summary_as : AnswerFormat → ProgramTree → List ℕ
+summary_as answer_format.Text p = summary_text p
+summary_as answer_format.Json p = summary_data p
+
+abbrev pub truth_text : Bool → List ℕ
+truth_text true = codes "true"
+truth_text false = codes "false"
+
+-- the number of a round, or null
+abbrev pub round_data : Option ℕ → List ℕ
+round_data None = codes "null"
+round_data (Some r) = decimal r
+
+-- `{"lockstep":true,"bound":false,"clear":5}`
+abbrev pub verdict_data : Verdict → List ℕ
+verdict_data v =
+    codes "{\"lockstep\":" ++ truth_text v.lockstep ++ codes ",\"bound\":" ++ truth_text v.bound
+    ++ codes ",\"clear\":" ++ round_data v.clear ++ codes "}\n"
+
+-- the line of a verdict in a format
+abbrev pub verdict_as : AnswerFormat → Verdict → List ℕ
+verdict_as answer_format.Text v = verdict_text v ++ codes "\n"
+verdict_as answer_format.Json v = verdict_data v

@@ -1,20 +1,16 @@
 -- What the parts of a command answer, which proofs pass through.
 use Rattle.std.specs.Borrow.{Bor}
-use Rattle.std.specs.Prelude.{◌≡◌, ◌≢◌, ◌<◌, ◌⊎◌, ◌++◌, ◌∷◌, ⊤, ℕ, IfSome, List, []}
-use Rattle.std.specs.Prelude.{Option, Some, length}
+use Rattle.std.specs.Prelude.{◌≡◌, ◌≢◌, ◌<◌, ◌⊎◌, ◌++◌, ◌∷◌, ⊤, ℕ, IfSome, List, [], Option, Some}
+use Rattle.std.specs.Prelude.{length}
 use Rattle.std.specs.Io.KnownBytes.{Appends}
 use Rattle.adversary.specs.Reading.{IsScheduleOf}
 use Rattle.adversary.specs.declared.fault.RunFault.TheVariants as run
-use Rattle.command_runs.specs.Refused.{Fault, IsNoOffer}
-use Rattle.command_runs.specs.Refused.{IsOpened, IsUnanswered, IsUnexplored}
-use Rattle.command_runs.specs.Refused.{IsUnthreaded, IsUntraced}
-use Rattle.command_runs.specs.Refused.{StartsThreads, fault_in, of_text}
+use Rattle.command_runs.specs.Refused.{Fault, IsNoOffer, fault_in, of_text}
 use Rattle.command_runs.specs.Explained.{IsReportOf}
-use Rattle.command_runs.specs.Served.{Answered, AnswersRun, IsHeader, IsProgramOf, IsShownOf}
-use Rattle.command_runs.specs.Served.{IsThreadSetup, NamesColumns, SaysAnswer}
+use Rattle.command_runs.specs.Served.{Answered, IsShownOf, NamesColumns}
 use Rattle.command_runs.specs.Stage.{Stage}
 use Rattle.command_runs.specs.Texts.{Files}
-use Rattle.command_runs.specs.Within.{IsExplored, IsFitRun}
+use Rattle.command_runs.specs.Within.{IsFitRun}
 use Rattle.schedule_text.specs.Bytes.{IsLongText, IsNoText}
 use Rattle.command_runs.specs.declared.asking.Answer.{Answer as RunAnswer}
 use Rattle.command_runs.specs.declared.asking.Answer.TheVariants as answer
@@ -25,12 +21,9 @@ use Rattle.command_runs.specs.declared.refusal.Refusal.{Refusal}
 use Rattle.command_runs.specs.declared.refusal.Refusal.TheVariants as refusal
 use Rattle.command_runs.specs.declared.sources.Opened.{Opened}
 use Rattle.command_runs.specs.declared.sources.Opened.TheVariants as opened
-use Rattle.command_runs.specs.declared.texts.Text.TheVariants as text
 use Rattle.command_words.specs.declared.drawing.Drawing.{Drawing}
-use Rattle.command_words.specs.declared.exploring.Exploring.{Exploring}
 use Rattle.command_words.specs.declared.forms.Form.{Form}
 use Rattle.command_words.specs.declared.values.Source.{Source}
-use Rattle.node_threads.specs.Ends.{IsFitForThreads}
 use Rattle.omission_explainer.specs.declared.report.Report.{Report}
 use Rattle.part_answers.specs.Parts.{IsWellFormed, part_text}
 use Rattle.part_answers.specs.Wholes.{IsFaultOf}
@@ -47,10 +40,8 @@ use Rattle.schedule_text.specs.Texts.{max_text as max_schedule}
 use Rattle.schedule_text.specs.declared.kind.Kind.{Kind}
 use Rattle.slot_plans.specs.declared.kind.PlanKind.{PlanKind}
 use Rattle.schedule_text.specs.declared.fault.ScheduleFault.TheVariants as schedule
-use Rattle.schedule_text.specs.declared.reading.ThreadSetup.{ThreadSetup}
 use Rattle.schedule_text.specs.declared.source.TextFault.{TextFault}
 use Rattle.step_machine.specs.declared.event.Event.{Event}
-use Rattle.slot_plans.specs.Named.{IsPlan}
 
 -- why a text in UTF-8 has no program
 abbrev pub IsNoProgramOf : List ℕ → Refusal → Type 0
@@ -116,12 +107,6 @@ IsDrawnAs start p s r d =
     (events : List Event) × (report : Report) × IsScheduleOf s r events × IsShownOf s d
     × IsFitRun p s [] events × IsReportOf start p s events report
 
--- `out` gained the answer to a question on a run
-abbrev pub TellsAnswer : Source → Files → Option (List ℕ) → Question
-    → Option (List ℕ) → Option (List ℕ) → Type 0
-TellsAnswer source files file q old new =
-    (a : RunAnswer) × AnswersRun source files file q a × SaysAnswer a old new
-
 -- `out` gained what a stage gives
 abbrev pub Tells : Stage (List ℕ) → (old new : Option (List ℕ)) → Type 0
 Tells stage old new = (text : List ℕ) × stage.gives text × Appends old new text
@@ -144,52 +129,11 @@ abbrev pub IsUntold : RunAnswer → Refusal → Type 0
 IsUntold (answer.Report report form) r = IsUntoldReport form r
 IsUntold (answer.Verdict verdict f) r = r ≡ refusal.Write
 
--- the question is for a table of named variables
-abbrev pub AsksForColumns : Question → Type 0
-AsksForColumns (question.Report form) = NamesColumns form
-AsksForColumns (question.Verdict terms f) = ⊥
-
--- why an answer isn't told
-abbrev pub IsRefusedAnswer : Source → Files → Option (List ℕ) → Question → Refusal → Type 0
-IsRefusedAnswer source files file q refusal.Write =
-    (a : RunAnswer) × AnswersRun source files file q a
-IsRefusedAnswer source files file q refusal.NoVariable =
-    AsksForColumns q × ((a : RunAnswer) × AnswersRun source files file q a)
-IsRefusedAnswer source files file q r = IsUnanswered source files file (listed_by q) r
-
--- the program and the setup of a run by threads, which fit each other
-pub record AreReady (source : Source) (files : Files) (file : Option (List ℕ)) (p : ProgramTree)
-    (t : ThreadSetup) : Type 0 where
-  pub opened : IsOpened source files
-  pub read : IfSome file (λ text. IsThreadSetup text t.setup t.plan t.pace t.stops.items)
-  pub program : IsProgramOf source files t.setup.nodes t.setup.faults p
-  pub fit : IsFitForThreads p.values t.setup t.stops.items
-  pub plan : IsPlan t.plan
-
 -- the refusals of a run whose threads were to start
 abbrev pub IsAfterStart : Refusal → Type 0
 IsAfterStart (refusal.Run run.NoThread) = ⊤
 IsAfterStart (refusal.Run run.Unmatched) = ⊤
 IsAfterStart _ = ⊥
-
--- the program and the header of a search that begins
-pub record AreSearchable (source : Source) (files : Files) (file : Option (List ℕ)) (e : Exploring)
-    (p : ProgramTree) (s : Setup) (k : PlanKind) : Type 0 where
-  pub opened : IsOpened source files
-  pub read : IfSome file (λ text. IsHeader text s k)
-  pub program : IsProgramOf source files s.nodes s.faults p
-  pub explored : IsExplored p s k e
-
--- why what is found in all runs isn't told
-abbrev pub IsRefusedSearch : Source → Files → Option (List ℕ) → Exploring → Refusal → Type 0
-IsRefusedSearch source files file e refusal.Write = IsUntraced source files file e
-IsRefusedSearch source files file e r = IsUnexplored source files file e r
-
--- why the report of a run by threads isn't told
-abbrev pub IsRefusedThreads : Source → Files → Option (List ℕ) → Refusal → Type 0
-IsRefusedThreads source files file refusal.Write = StartsThreads source files file
-IsRefusedThreads source files file refusal.NodeNoMemory = StartsThreads source files file
-IsRefusedThreads source files file r = IsUnthreaded source files file r
 
 -- the text is that of no part; the place is that of its file in the order of the words
 abbrev pub IsBadPart : (place : ℕ) → List ℕ → Refusal → Type 0
