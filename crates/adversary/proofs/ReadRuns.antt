@@ -5,7 +5,7 @@ use Rattle.std.proofs.lemmas.List.{get_or-take, length-append, length-take, take
 use Rattle.std.proofs.lemmas.List.Elements.{All-append, All-push}
 use Rattle.round_lang.specs.Syntax.{ProgramTree}
 use Rattle.round_meaning.specs.declared.setup.Setup.{Setup}
-use Rattle.schedule_text.specs.Readers.{AdvancesTo, HasRead, IsAll, IsOpened, IsRefusedAs}
+use Rattle.schedule_text.specs.Readers.{AdvancesTo, HasRead, HasReadHeader, IsAll, IsRefusedAs}
 use Rattle.schedule_text.specs.Readers.{Reading, last_events}
 use Rattle.schedule_text.specs.declared.source.TextFault.{TextFault}
 use Rattle.slot_plans.specs.declared.kind.PlanKind.{PlanKind}
@@ -13,7 +13,7 @@ use Rattle.step_book.specs.Log.{Recorded, opened}
 use Rattle.step_machine.specs.declared.event.Event.{Event}
 use Rattle.adversary.specs.Driving.{AreMore, IsFaultOf, IsKnown, IsOneMore, IsUnknownAt}
 use Rattle.adversary.specs.Driving.{IsUnknownPast}
-use Rattle.adversary.specs.Reading.{IsNotRead, IsReadAs, IsRefusedAfter}
+use Rattle.adversary.specs.Reading.{IsNotRead, IsRefusedAfter, IsScheduleOf}
 use Rattle.adversary.specs.declared.fault.ReadFault.{ReadFault}
 use Rattle.adversary.specs.declared.fault.ReadFault.TheVariants as read
 use Rattle.adversary.specs.declared.fault.RunFault.{RunFault}
@@ -28,7 +28,7 @@ pub record IsReadTo {P : Type 0} (p : ProgramTree) (s : Setup) (plan : P) (first
   pub setup : j.log.setup ≡ s
   pub planned : j.plan ≡ plan
   pub known : All (IsKnown s) j.log.trace
-  pub read : (held : List ℕ) (k : PlanKind) → IsOpened held s k first
+  pub read : (held : List ℕ) (k : PlanKind) → HasReadHeader held s k first
       → HasRead held s k (j.log.trace ++ last_events now) now
 
 -- and these too
@@ -38,7 +38,7 @@ pub record IsReadOut {P : Type 0} (p : ProgramTree) (s : Setup) (plan : P) (firs
   pub setup : j.log.setup ≡ s
   pub planned : j.plan ≡ plan
   pub known : All (IsKnown s) j.log.trace
-  pub read : (held : List ℕ) (k : PlanKind) → IsOpened held s k first
+  pub read : (held : List ℕ) (k : PlanKind) → HasReadHeader held s k first
       → HasRead held s k j.log.trace now
 
 pub read_first : {P : Type 0} (p : ProgramTree) (s : Setup) (plan : P) (first : Reading)
@@ -80,7 +80,7 @@ module _ {P : Type 0} (p : ProgramTree) (s : Setup) (plan : P) (first : Reading)
     read = λ held k begun. on held s k j.log.trace (h.read held k begun);
   }
 
-  pub read_whole : IsAll now → IsReadOut p s plan first j now → IsReadAs s first j.log.trace
+  pub read_whole : IsAll now → IsReadOut p s plan first j now → IsScheduleOf s first j.log.trace
   read_whole all h held k begun = all held s k j.log.trace (h.read held k begun)
 
   -- the text is refused
@@ -90,7 +90,7 @@ module _ {P : Type 0} (p : ProgramTree) (s : Setup) (plan : P) (first : Reading)
 
 -- the cause of a run that stops at an event
 stops : (Fits : Type 0) (s : Setup) (first : Reading) (events : List Event) (f : RunFault) → Fits
-    → IsUnknownAt s events f → IsReadAs s first events → IsNotRead Fits s first (read.Run f)
+    → IsUnknownAt s events f → IsScheduleOf s first events → IsNotRead Fits s first (read.Run f)
 stops Fits s first events (fault.UnknownNode k) fits at read = (events, (fits, at), read)
 stops Fits s first events (fault.UnknownMessage k) fits at read = (events, (fits, at), read)
 stops Fits s first events fault.BadSetup fits at read = absurd at

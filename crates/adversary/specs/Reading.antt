@@ -1,7 +1,7 @@
 -- Runs of schedules that are read as they are run.
 use Rattle.std.specs.Prelude.{◌≡◌, ⊤, ℕ, List, Some}
 use Rattle.round_meaning.specs.declared.setup.Setup.{Setup}
-use Rattle.schedule_text.specs.Readers.{IsBegun, IsOpened, IsRefusedAs, Reading}
+use Rattle.schedule_text.specs.Readers.{HasReadHeader, IsBegun, IsRefusedAs, Reading}
 use Rattle.schedule_text.specs.Sources.{IsNoSchedule, IsScheduleText}
 use Rattle.slot_plans.specs.declared.kind.PlanKind.{PlanKind}
 use Rattle.step_machine.specs.declared.event.Event.{Event}
@@ -12,9 +12,9 @@ use Rattle.adversary.specs.declared.fault.RunFault.{RunFault}
 use Rattle.adversary.specs.declared.fault.RunFault.TheVariants as fault
 
 -- whatever text the reader was opened on, it is the schedule of these events
-abbrev pub IsReadAs : Setup → Reading → List Event → Type 0
-IsReadAs s r events =
-    (held : List ℕ) (k : PlanKind) → IsOpened held s k r → IsScheduleText held s k events
+abbrev pub IsScheduleOf : Setup → Reading → List Event → Type 0
+IsScheduleOf s r events =
+    (held : List ℕ) (k : PlanKind) → HasReadHeader held s k r → IsScheduleText held s k events
 
 -- why a schedule's events aren't run: the run doesn't fit, or else it does, and this is the first
 -- event that names what the run hasn't; of memory nothing is said
@@ -27,10 +27,10 @@ StopsRun Fits s events f = Fits × IsUnknownAt s events f
 -- events aren't run
 abbrev pub IsNotRead : (Fits : Type 0) → Setup → Reading → ReadFault → Type 0
 IsNotRead Fits s r (read.Text e) =
-    (held : List ℕ) (k : PlanKind) → IsOpened held s k r → IsNoSchedule (Some held) e
+    (held : List ℕ) (k : PlanKind) → HasReadHeader held s k r → IsNoSchedule (Some held) e
 IsNotRead Fits s r (read.Run fault.NoMemory) = ⊤
 IsNotRead Fits s r (read.Run f) =
-    (events : List Event) × StopsRun Fits s events f × IsReadAs s r events
+    (events : List Event) × StopsRun Fits s events f × IsScheduleOf s r events
 
 -- a run was refused, and either the text that the reader goes on with is a schedule, or its own
 -- fault is told

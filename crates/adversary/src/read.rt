@@ -2,7 +2,7 @@
 ghost use Rattle.std.specs.Prelude.{◌≡◌, ◌⊎◌, All, IfErr, IfOk, length};
 ghost use Rattle.round_meaning.specs.Setups.{IsLawful, IsSetup};
 ghost use Rattle.adversary.specs.Driving.{AreMore, ClosedAreDue, IsKnown, IsUnknownPast};
-ghost use Rattle.adversary.specs.Reading.{IsNotRead, IsReadAs, IsRefusedAfter};
+ghost use Rattle.adversary.specs.Reading.{IsNotRead, IsRefusedAfter, IsScheduleOf};
 
 use crate::driver::Driver;
 use crate::fault::{ReadFault, RunFault};
@@ -37,7 +37,7 @@ pub fn run_read<P: Plan, S: TextSource + Drop>(
     ensures program { IfOk result (λ j. j.log.program ≡ program.now) }
     ensures setup { IfOk result (λ j. j.log.setup ≡ setup.now) }
     ensures plan { IfOk result (λ j. j.plan ≡ plan) }
-    ensures read { IfOk result (λ j. IsReadAs setup.now reader j.log.trace) }
+    ensures read { IfOk result (λ j. IsScheduleOf setup.now reader j.log.trace) }
     ensures closed { IfOk result (λ j. ClosedAreDue (P.start j.plan) j.log) }
 {
     if !setup.is_lawful(program) {

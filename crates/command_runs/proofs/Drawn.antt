@@ -3,14 +3,14 @@ use Rattle.std.proofs.Common.{◌≡◌, ◌⊎◌, inl, inr, ℕ, List, Option,
 use Rattle.std.proofs.Common.{Err, Ok, Result, subst, sym}
 use Rattle.std.specs.Borrow.{Bor}
 use Rattle.std.specs.Prelude.{IfOk, IfSome}
-use Rattle.adversary.specs.Reading.{IsNotRead, IsReadAs}
+use Rattle.adversary.specs.Reading.{IsNotRead, IsScheduleOf}
 use Rattle.adversary.specs.declared.fault.ReadFault.{ReadFault}
 use Rattle.adversary.specs.declared.fault.ReadFault.TheVariants as read
 use Rattle.adversary.specs.declared.fault.RunFault.TheVariants as run
 use Rattle.command_runs.proofs.Refusing.{bad_schedule, read_as}
 use Rattle.command_runs.proofs.Telling.{last_nodes, last_write, not_in_turn}
 use Rattle.command_runs.specs.Refused.{IsDrawable, IsMissing, IsNotDrawn, IsNotOffered}
-use Rattle.command_runs.specs.Refused.{IsOpened as IsSourceOpened, IsRefusedCommand}
+use Rattle.command_runs.specs.Refused.{IsOpened, IsRefusedCommand}
 use Rattle.command_runs.specs.Refused.{IsUndrawn, of_read}
 use Rattle.command_runs.specs.Served.{DrawsRun, IsProgramOf, IsShownOf}
 use Rattle.command_runs.specs.Stages.{IsDrawnAs, StopsSchedule}
@@ -23,7 +23,7 @@ use Rattle.command_words.specs.declared.words.Words.TheVariants as words
 use Rattle.round_lang.specs.Syntax.{ProgramTree}
 use Rattle.round_meaning.specs.Setups.{IsLawful}
 use Rattle.round_meaning.specs.declared.setup.Setup.{Setup}
-use Rattle.schedule_text.specs.Readers.{IsOpened, Reading}
+use Rattle.schedule_text.specs.Readers.{HasReadHeader, Reading}
 use Rattle.schedule_text.specs.declared.fault.ScheduleFault.TheVariants as schedule
 use Rattle.schedule_text.specs.declared.kind.Kind.TheVariants as kinds
 use Rattle.schedule_text.specs.declared.source.TextFault.TheVariants as fault
@@ -34,10 +34,10 @@ use Rattle.slot_plans.specs.Named.{IsPlan, start_of}
 
 -- the text that was opened is the file's
 pub opened_in : (file : Option (List ℕ)) (text : List ℕ) (s : Setup) (k : PlanKind) (r : Reading)
-    → IfSome file (λ held. text ≡ held) → IsOpened text s k r
-    → IfSome file (λ held. IsOpened held s k r)
+    → IfSome file (λ held. text ≡ held) → HasReadHeader text s k r
+    → IfSome file (λ held. HasReadHeader held s k r)
 opened_in None text s k r same is = tt
-opened_in (Some held) text s k r same is = subst (λ (t : List ℕ). IsOpened t s k r) same is
+opened_in (Some held) text s k r same is = subst (λ (t : List ℕ). HasReadHeader t s k r) same is
 
 -- and what isn't there isn't in the file
 nowhere : (text : List ℕ) (r : Refusal) → IsMissing kinds.Schedule (Some text) r
@@ -75,7 +75,7 @@ module _ (p : ProgramTree) (s : Setup) (k : PlanKind) (r : Reading) (d : Drawing
 
   -- a run that was made isn't drawn for want of memory, or for its many events
   pub undrawn_report : (x : Refusal) → IsLawful p.values s
-      → ((events : List Event) × IsReadAs s r events)
+      → ((events : List Event) × IsScheduleOf s r events)
       → (x ≡ refusal.NoMemory) ⊎ (x ≡ refusal.TooManyEvents)
       → StopsSchedule (λ events y. IsNotDrawn p s k events d y) s r x
   undrawn_report x lawful ran (inl same) =
@@ -100,7 +100,7 @@ no_picture p s k d none is =
 -- the run of a schedule that is read is that of its file
 pub draws_run : (source : Source) (files : Files) (p : ProgramTree) (s : Setup) (k : PlanKind)
     (r : Reading) (d : Drawing) (file : Option (List ℕ))
-    → IsProgramOf source files s.nodes s.faults p → IfSome file (λ held. IsOpened held s k r)
+    → IsProgramOf source files s.nodes s.faults p → IfSome file (λ held. HasReadHeader held s k r)
     → IsPlan k → IsDrawnAs (start_of k s.nodes) p s r d → DrawsRun source files file d
 draws_run source files p s k r d None is begun plan said = tt
 draws_run source files p s k r d (Some held) is begun plan said = (
@@ -126,8 +126,8 @@ drawn_as start starts p s r d same h =
 -- why a source's run isn't drawn, from why nothing comes of its schedule: the run is refused,
 pub undrawn_run : (source : Source) (files : Files) (p : ProgramTree) (s : Setup) (k : PlanKind)
     (r : Reading) (d : Drawing) (x : Refusal) (file : Option (List ℕ))
-    → IsSourceOpened source files → IsProgramOf source files s.nodes s.faults p
-    → IfSome file (λ held. IsOpened held s k r)
+    → IsOpened source files → IsProgramOf source files s.nodes s.faults p
+    → IfSome file (λ held. HasReadHeader held s k r)
     → StopsSchedule (λ events y. IsNotDrawn p s k events d y) s r x
     → IsUndrawn source files file d x
 undrawn_run source files p s k r d x file opened is begun (inl bad) =
@@ -138,7 +138,7 @@ undrawn_run source files p s k r d x file opened is begun (inr h) =
 -- or the library has no program for it
 pub undrawn_offer : (source : Source) (files : Files) (s : Setup) (k : PlanKind)
     (r : Reading) (d : Drawing) (x : Refusal) (file : Option (List ℕ))
-    → IsSourceOpened source files → IfSome file (λ held. IsOpened held s k r)
+    → IsOpened source files → IfSome file (λ held. HasReadHeader held s k r)
     → StopsSchedule (λ events y. IsNotOffered source s.nodes s.faults y) s r x
     → IsUndrawn source files file d x
 undrawn_offer source files s k r d x file opened begun (inl bad) =

@@ -3,13 +3,13 @@ use Rattle.std.proofs.Common.{◌≡◌, ◌≢◌, ◌⊎◌, inl, inr, ℕ, �
 use Rattle.std.proofs.Common.{Some, None, Result, Ok, Err, length, refl, sym, ap, ◌∙◌, subst}
 use Rattle.std.proofs.Common.{arith}
 use Rattle.std.specs.Prelude.{◌++◌, IfErr, IfSome, IsErrAnd, true}
-use Rattle.adversary.specs.Reading.{IsNotRead, IsReadAs}
+use Rattle.adversary.specs.Reading.{IsNotRead, IsScheduleOf}
 use Rattle.adversary.specs.declared.fault.ReadFault.{ReadFault}
 use Rattle.adversary.specs.declared.fault.ReadFault.TheVariants as read
 use Rattle.adversary.specs.declared.fault.RunFault.TheVariants as run
 use Rattle.command_runs.specs.Refused.{Fault, HasNoText, IsBadText, IsMissing, IsNoProgram}
 use Rattle.command_runs.specs.Refused.{IsNoSource, no_fault}
-use Rattle.command_runs.specs.Refused.{IsNotOffered, IsOpened as IsSourceOpened, IsUnanswered}
+use Rattle.command_runs.specs.Refused.{IsNotOffered, IsOpened, IsUnanswered}
 use Rattle.command_runs.specs.Refused.{IsNotRun, IsRunnable, of_check, of_read, of_schedule}
 use Rattle.command_runs.specs.Refused.{of_source, of_text}
 use Rattle.command_runs.specs.Served.{IsCheckedSource, IsOfKind, IsOmissionText, IsProgramOf}
@@ -38,7 +38,7 @@ use Rattle.schedule_text.specs.Bytes.{IsLongText, IsNoText, IsText}
 use Rattle.schedule_text.specs.Outcome.{IsReadOf}
 use Rattle.schedule_text.specs.Readings.{IsReadingOf, ReadOf}
 use Rattle.schedule_text.specs.Texts.{SaysOf, Tail, max_text as max_schedule}
-use Rattle.schedule_text.specs.Readers.{IsOpened, Reading, last_events}
+use Rattle.schedule_text.specs.Readers.{HasReadHeader, Reading, last_events}
 use Rattle.schedule_text.specs.Sources.{IsNoSchedule}
 use Rattle.schedule_text.specs.declared.kind.Kind.{Kind}
 use Rattle.schedule_text.specs.declared.kind.Kind.TheVariants.{Schedule as schedules}
@@ -289,7 +289,8 @@ told_after Cause s r refused told cause (inr t) =
 
 -- and what a file's schedule is refused for
 pub bad_schedule : (file : Option (List ℕ)) (s : Setup) (k : PlanKind) (r : Reading) (x : Refusal)
-    → IfSome file (λ held. IsOpened held s k r) → IsBadSchedule s r x → IsMissing schedules file x
+    → IfSome file (λ held. HasReadHeader held s k r) → IsBadSchedule s r x
+    → IsMissing schedules file x
 bad_schedule None s k r x begun bad = subst (IsMissing schedules None) (sym bad.1) (unknown bad.0)
   where
     unknown : (e : TextFault) → IsMissing schedules None (of_text e)
@@ -304,7 +305,7 @@ bad_schedule (Some held) s k r x begun bad =
     (no_schedule (Some held) (Some held) bad.0 refl (bad.2 held k begun))
 
 pub read_as : (file : Option (List ℕ)) (s : Setup) (k : PlanKind) (r : Reading)
-    (events : List Event) → IfSome file (λ held. IsOpened held s k r) → IsReadAs s r events
+    (events : List Event) → IfSome file (λ held. HasReadHeader held s k r) → IsScheduleOf s r events
     → IfSome file (λ held. IsSchedule held s k events)
 read_as None s k r events begun is = tt
 read_as (Some held) s k r events begun is = let said =
@@ -313,8 +314,8 @@ read_as (Some held) s k r events begun is = let said =
 -- why a source isn't run, from why nothing comes of its schedule: the run is refused,
 pub unanswered_run : (source : Source) (files : Files) (p : ProgramTree) (s : Setup) (k : PlanKind)
     (r : Reading) (correct : List ℕ) (x : Refusal) (file : Option (List ℕ))
-    → IsSourceOpened source files → IsProgramOf source files s.nodes s.faults p
-    → IfSome file (λ held. IsOpened held s k r)
+    → IsOpened source files → IsProgramOf source files s.nodes s.faults p
+    → IfSome file (λ held. HasReadHeader held s k r)
     → StopsSchedule (λ events y. IsNotRun p s k events correct y) s r x
     → IsUnanswered source files file correct x
 unanswered_run source files p s k r correct x file opened is begun (inl bad) =
@@ -325,7 +326,7 @@ unanswered_run source files p s k r correct x file opened is begun (inr h) =
 -- or the library has no program for it
 pub unanswered_offer : (source : Source) (files : Files) (s : Setup) (k : PlanKind) (r : Reading)
     (correct : List ℕ) (x : Refusal) (file : Option (List ℕ))
-    → IsSourceOpened source files → IfSome file (λ held. IsOpened held s k r)
+    → IsOpened source files → IfSome file (λ held. HasReadHeader held s k r)
     → StopsSchedule (λ events y. IsNotOffered source s.nodes s.faults y) s r x
     → IsUnanswered source files file correct x
 unanswered_offer source files s k r correct x file opened begun (inl bad) =

@@ -4,7 +4,7 @@ use Rattle.std.proofs.Common.{subst}
 use Rattle.std.specs.Prelude.{IfOk, IfSome, IsOk, OnOk}
 use Rattle.std.specs.Io.KnownBytes.{Appends, Keeps}
 use Rattle.round_meaning.specs.declared.setup.Setup.{Setup}
-use Rattle.schedule_text.specs.Readers.{IsOpened, Reading}
+use Rattle.schedule_text.specs.Readers.{HasReadHeader, Reading}
 use Rattle.command_words.specs.declared.values.Source.{Source}
 use Rattle.command_words.specs.declared.values.Source.TheVariants as source
 use Rattle.round_lang.specs.Syntax.{ProgramTree}
@@ -38,7 +38,7 @@ program_of (source.Library name values) files (opened.File q) n t p opens holds 
 -- an answer on a schedule that is read is one on its file
 pub answers_run : (source : Source) (files : Files) (p : ProgramTree) (s : Setup) (k : PlanKind)
     (r : Reading) (q : Question) (file : Option (List ℕ)) (a : Answer)
-    → IsProgramOf source files s.nodes s.faults p → IfSome file (λ held. IsOpened held s k r)
+    → IsProgramOf source files s.nodes s.faults p → IfSome file (λ held. HasReadHeader held s k r)
     → IsPlan k → IsAnswered (start_of k s.nodes) (receives_of k) p s r q a
     → AnswersRun source files file q a
 answers_run source files p s k r (question.Report told) None (answer.Report report shown) is begun

@@ -3,11 +3,11 @@ use Rattle.std.specs.Borrow.{Bor}
 use Rattle.std.specs.Prelude.{◌≡◌, ◌≢◌, ◌<◌, ◌⊎◌, ◌++◌, ◌∷◌, ⊤, ℕ, IfSome, List, []}
 use Rattle.std.specs.Prelude.{Option, Some, length}
 use Rattle.std.specs.Io.KnownBytes.{Appends}
-use Rattle.adversary.specs.Reading.{IsReadAs}
+use Rattle.adversary.specs.Reading.{IsScheduleOf}
 use Rattle.adversary.specs.declared.fault.RunFault.TheVariants as run
 use Rattle.command_runs.specs.InChanges.{Terms}
 use Rattle.command_runs.specs.Refused.{Fault, IsNoOffer}
-use Rattle.command_runs.specs.Refused.{IsOpened as IsOpenedSource, IsUnanswered, IsUnexplored}
+use Rattle.command_runs.specs.Refused.{IsOpened, IsUnanswered, IsUnexplored}
 use Rattle.command_runs.specs.Refused.{IsUnmade, IsUnthreaded, IsUntraced}
 use Rattle.command_runs.specs.Refused.{StartsThreads, fault_in, of_text}
 use Rattle.command_runs.specs.Explained.{IsReportOf}
@@ -41,7 +41,7 @@ use Rattle.round_lang.specs.Source.{IsSource}
 use Rattle.round_lang.specs.Syntax.{ProgramTree}
 use Rattle.round_lang.specs.declared.fault.LangFault.TheVariants as lang
 use Rattle.round_meaning.specs.declared.setup.Setup.{Setup}
-use Rattle.schedule_text.specs.Readers.{IsBegun, IsOpened, IsRefusedAs, Reading}
+use Rattle.schedule_text.specs.Readers.{HasReadHeader, IsBegun, IsRefusedAs, Reading}
 use Rattle.schedule_text.specs.Sources.{IsNoSchedule}
 use Rattle.schedule_text.specs.Texts.{max_text as max_schedule}
 use Rattle.schedule_text.specs.declared.kind.Kind.{Kind}
@@ -88,14 +88,14 @@ listed_by (question.Verdict terms f) = terms.correct.now
 abbrev pub IsBadSchedule : Setup → Reading → Refusal → Type 0
 IsBadSchedule s r refused =
     (e : TextFault) × (refused ≡ of_text e)
-    × ((held : List ℕ) (k : PlanKind) → IsOpened held s k r → IsNoSchedule (Some held) e)
+    × ((held : List ℕ) (k : PlanKind) → HasReadHeader held s k r → IsNoSchedule (Some held) e)
 
 -- why nothing comes of the schedule that a reader was opened on: its text is none, or it is one,
 -- and its events have this cause
 abbrev pub StopsSchedule : (List Event → Refusal → Type 0) → Setup → Reading → Refusal → Type 0
 StopsSchedule Cause s r refused =
     IsBadSchedule s r refused
-    ⊎ ((events : List Event) × IsReadAs s r events × Cause events refused)
+    ⊎ ((events : List Event) × IsScheduleOf s r events × Cause events refused)
 
 -- a refusal is told where the text that a reader goes on with is a schedule, and else that of the
 -- text
@@ -107,13 +107,13 @@ IsToldAfter r refused told =
 abbrev pub IsAnswered : (start receives : ℕ → ℕ) → ProgramTree → Setup → Reading → Question
     → RunAnswer → Type 0
 IsAnswered start receives p s r q a =
-    (events : List Event) × IsReadAs s r events × Answered start receives p s events q a
+    (events : List Event) × IsScheduleOf s r events × Answered start receives p s events q a
 
 -- the run of the schedule that a reader was opened on has a report, and the picture shows a part
 -- of it
 abbrev pub IsDrawnAs : (start : ℕ → ℕ) → ProgramTree → Setup → Reading → Drawing → Type 0
 IsDrawnAs start p s r d =
-    (events : List Event) × (report : Report) × IsReadAs s r events × IsShownOf s d
+    (events : List Event) × (report : Report) × IsScheduleOf s r events × IsShownOf s d
     × IsFitRun p s [] events × IsReportOf start p s events report
 
 -- `out` gained the answer to a question on a run
@@ -165,7 +165,7 @@ IsRefusedAnswer source files file q r = IsUnanswered source files file (listed_b
 -- the program and the setup of a run by threads, which fit each other
 pub record AreReady (source : Source) (files : Files) (file : Option (List ℕ)) (p : ProgramTree)
     (t : ThreadSetup) : Type 0 where
-  pub opened : IsOpenedSource source files
+  pub opened : IsOpened source files
   pub read : IfSome file (λ text. IsThreadSetup text t.setup t.plan t.pace t.stops.items)
   pub program : IsProgramOf source files t.setup.nodes t.setup.faults p
   pub fit : IsFitForThreads p.values t.setup t.stops.items
@@ -180,7 +180,7 @@ IsAfterStart _ = ⊥
 -- the program and the header of a search that begins
 pub record AreSearchable (source : Source) (files : Files) (file : Option (List ℕ)) (e : Exploring)
     (p : ProgramTree) (s : Setup) (k : PlanKind) : Type 0 where
-  pub opened : IsOpenedSource source files
+  pub opened : IsOpened source files
   pub read : IfSome file (λ text. IsHeader text s k)
   pub program : IsProgramOf source files s.nodes s.faults p
   pub explored : IsExplored p s k e

@@ -5,7 +5,7 @@ ghost use Rattle.command_runs.specs.Served.{AnswersRun};
 ghost use Rattle.command_runs.specs.Stages.{IsAnswered, IsToldAfter, StopsSchedule};
 ghost use Rattle.command_runs.specs.Stages.{listed_by};
 ghost use Rattle.command_runs.specs.declared.refusal.Refusal.TheVariants as refusal;
-ghost use Rattle.schedule_text.specs.Readers.{IsOpened};
+ghost use Rattle.schedule_text.specs.Readers.{HasReadHeader};
 ghost use Rattle.schedule_text.specs.declared.kind.Kind.TheVariants as kinds;
 ghost use Rattle.slot_plans.specs.Named.{IsPlan, receives_of, start_of};
 
@@ -25,14 +25,14 @@ use std::mem;
 
 /// A source and the file of a schedule.
 #[derive(Clone, Copy)]
-pub struct Run<'a> {
+pub(crate) struct Run<'a> {
     pub source: Source<'a>,
     pub schedule: &'a str,
 }
 
 /// A question about a run.
 #[derive(Clone, Copy)]
-pub enum Question<'a> {
+pub(crate) enum Question<'a> {
     /// The report, in this form.
     Report {
         form: Form<'a>,
@@ -46,7 +46,7 @@ pub enum Question<'a> {
 
 /// The answer to a question.
 #[derive(Drop)]
-pub enum Answer<'a> {
+pub(crate) enum Answer<'a> {
     Report {
         report: Report,
         form: Form<'a>,
@@ -59,7 +59,7 @@ pub enum Answer<'a> {
 
 /// A schedule that was opened: its header, and what reads its events.
 #[derive(Drop)]
-pub struct OpenedSchedule<S: TextSource> {
+pub(crate) struct OpenedSchedule<S: TextSource> {
     pub setup: Setup,
     pub plan: PlanKind,
     pub reader: ScheduleReader<S>,
@@ -67,7 +67,7 @@ pub struct OpenedSchedule<S: TextSource> {
 
 impl<'a> Run<'a> {
     /// Runs the schedule and answers the question.
-    pub fn answer<'q, D: Desk>(
+    pub(crate) fn answer<'q, D: Desk>(
         &self,
         alloc: Global,
         question: Question<'q>,
@@ -95,7 +95,7 @@ fn open_schedule<D: Desk>(
     desk: &mut D,
 ) -> Result<OpenedSchedule<D::File>, Refusal>
     ensures opened { IfOk result (λ o. IfSome (D.files desk.old name.now)
-        (λ held. IsOpened held o.setup o.plan o.reader)) }
+        (λ held. HasReadHeader held o.setup o.plan o.reader)) }
     ensures refused { IfErr result (IsMissing kinds.Schedule (D.files desk.old name.now)) }
     ensures written { D.written desk.new ≡ D.written desk.old }
 {

@@ -6,7 +6,7 @@ ghost use Rattle.command_runs.specs.Refused.{IsUndrawn};
 ghost use Rattle.command_runs.specs.Served.{DrawsRun, IsShownOf, Serves};
 ghost use Rattle.command_runs.specs.Stages.{IsDrawnAs, StopsSchedule};
 ghost use Rattle.round_meaning.specs.Setups.{IsLawful};
-ghost use Rattle.schedule_text.specs.Readers.{IsOpened};
+ghost use Rattle.schedule_text.specs.Readers.{HasReadHeader};
 ghost use Rattle.schedule_text.specs.declared.kind.Kind.TheVariants as kinds;
 ghost use Rattle.slot_plans.specs.Named.{IsPlan, start_of};
 
@@ -57,7 +57,7 @@ pub(crate) fn draw<'a, D: Desk, O: Write>(
 /// What a picture is made of, beside the run: the words for its title, the text of the schedule,
 /// and what is drawn.
 #[derive(Clone, Copy)]
-pub struct Sheet<'a> {
+pub(crate) struct Sheet<'a> {
     pub run: Run<'a>,
     pub text: &'a str,
     pub drawing: &'a Drawing,
@@ -65,7 +65,7 @@ pub struct Sheet<'a> {
 
 impl<'a> Run<'a> {
     /// Runs the schedule and draws what is asked for, as the text of a picture or of a page.
-    pub fn picture<D: Desk>(
+    pub(crate) fn picture<D: Desk>(
         &self,
         alloc: Global,
         drawing: &Drawing,
@@ -96,7 +96,7 @@ impl<'a> Run<'a> {
 
 /// Opens the schedule that a text is.
 fn open_text(alloc: Global, text: &str) -> Result<OpenedSchedule<MemoryFile>, Refusal>
-    ensures opened { IfOk result (λ o. IsOpened text.now o.setup o.plan o.reader) }
+    ensures opened { IfOk result (λ o. HasReadHeader text.now o.setup o.plan o.reader) }
     ensures refused { IfErr result (IsMissing kinds.Schedule (Some text.now)) }
 {
     let file = MemoryFile::of(alloc, text.as_bytes())?;

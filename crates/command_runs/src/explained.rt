@@ -1,7 +1,7 @@
 //! From a checked program and any schedule to what is said of its run.
 ghost use Rattle.std.specs.Prelude.{◌≡◌, ◌<◌, All, IfErr, IfNone, IfOk, IfSome, OnOk};
 ghost use Rattle.adversary.specs.Driving.{IsKnown};
-ghost use Rattle.adversary.specs.Reading.{IsNotRead, IsReadAs};
+ghost use Rattle.adversary.specs.Reading.{IsNotRead, IsScheduleOf};
 ghost use Rattle.command_runs.specs.Explained.{AreListed, IsReportOf, IsVerdictOf};
 ghost use Rattle.omission_explainer.specs.Decided.{AreAgreed, AreInputs};
 ghost use Rattle.round_meaning.specs.Agreement.{RunsAlgorithm1};
@@ -35,7 +35,7 @@ pub fn explained_run<P: Plan, S: TextSource + Drop>(
     ensures cause { IfErr result (IsNotRead (IsLawful program.now.values setup.now) setup.now
         reader) }
     ensures known { IfOk result (λ answer. All (IsKnown setup.now) answer.1.log.trace) }
-    ensures read { IfOk result (λ answer. IsReadAs setup.now reader answer.1.log.trace) }
+    ensures read { IfOk result (λ answer. IsScheduleOf setup.now reader answer.1.log.trace) }
     ensures explained { IfOk result (λ answer. IsReportOf (P.start plan) program.now setup.now
         answer.1.log.trace answer.0) }
     ensures agreement { IfOk result
@@ -77,7 +77,7 @@ pub fn judged_run<P: Plan, S: TextSource + Drop>(
         × All (λ n. n < setup.now.nodes) terms.entry.correct.now) setup.now reader) }
     ensures listed { OnOk result (All (λ n. n < setup.now.nodes) terms.entry.correct.now) }
     ensures known { IfOk result (λ answer. All (IsKnown setup.now) answer.1.log.trace) }
-    ensures read { IfOk result (λ answer. IsReadAs setup.now reader answer.1.log.trace) }
+    ensures read { IfOk result (λ answer. IsScheduleOf setup.now reader answer.1.log.trace) }
     ensures judged { IfOk result (λ answer. IsVerdictOf (P.start plan) (P.receives plan) program.now
         setup.now answer.1.log.trace terms.entry.correct.now terms.entry.delta terms.entry.gst
         answer.0) }

@@ -38,7 +38,7 @@ use std::thread::Threads;
 
 /// A source, the file of a header, and what is asked of all runs.
 #[derive(Clone, Copy)]
-pub struct Exploration<'a> {
+pub(crate) struct Exploration<'a> {
     pub source: Source<'a>,
     pub header: &'a str,
     pub exploring: Exploring<'a>,
@@ -47,21 +47,21 @@ pub struct Exploration<'a> {
 /// What is told of the properties, and if a trace is asked for and one fails, the schedule that
 /// shows the first that does.
 #[derive(Drop)]
-pub struct Found {
+pub(crate) struct Found {
     pub told: Vec<Told>,
     pub trace: Option<String>,
 }
 
 /// What is found, and which part of which question it answers, if only a part was asked about.
 #[derive(Drop)]
-pub struct Explored {
+pub(crate) struct Explored {
     pub head: Option<PartHead>,
     pub found: Found,
 }
 
 impl<'a> Exploration<'a> {
     /// Goes through all runs, once the file of the trace was tried.
-    pub fn find<R: Threads + Sync, D: Desk>(
+    pub(crate) fn find<R: Threads + Sync, D: Desk>(
         &self,
         rt: &R,
         alloc: Global,

@@ -46,7 +46,7 @@ pub struct Pacing<'a> {
 
 /// A source, the file of a header, and that of omissions if there are any.
 #[derive(Clone, Copy)]
-pub struct Paced<'a> {
+pub(crate) struct Paced<'a> {
     pub source: Source<'a>,
     pub header: &'a str,
     pub omissions: Option<&'a str>,
@@ -54,7 +54,7 @@ pub struct Paced<'a> {
 
 impl<'a> Paced<'a> {
     /// The schedule.
-    pub fn schedule<'p, D: Desk>(
+    pub(crate) fn schedule<'p, D: Desk>(
         &self,
         alloc: Global,
         pacing: Pacing<'p>,

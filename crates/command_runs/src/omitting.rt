@@ -34,7 +34,7 @@ use std::alloc::Global;
 
 /// A source, the file of a header and the file of omissions.
 #[derive(Clone, Copy)]
-pub struct Omitting<'a> {
+pub(crate) struct Omitting<'a> {
     pub source: Source<'a>,
     pub header: &'a str,
     pub omissions: &'a str,
@@ -42,7 +42,7 @@ pub struct Omitting<'a> {
 
 /// What they say.
 #[derive(Drop)]
-pub struct Asked {
+pub(crate) struct Asked {
     pub program: Checked,
     pub setup: Setup,
     pub plan: PlanKind,
@@ -51,7 +51,7 @@ pub struct Asked {
 
 impl<'a> Omitting<'a> {
     /// The text of the schedule that omits just what the file says.
-    pub fn schedule<D: Desk>(&self, alloc: Global, desk: &mut D) -> Result<String, Refusal>
+    pub(crate) fn schedule<D: Desk>(&self, alloc: Global, desk: &mut D) -> Result<String, Refusal>
         ensures made { IfOk result (λ text. RealisesOmissions self.now.source (D.files desk.old)
             (D.files desk.old self.now.header.now) (D.files desk.old self.now.omissions.now)
             (string_bytes text)) }
@@ -64,7 +64,7 @@ impl<'a> Omitting<'a> {
     }
 
     /// The report of the run in rounds that omits just what the file says.
-    pub fn report<D: Desk>(&self, alloc: Global, desk: &mut D) -> Result<Report, Refusal>
+    pub(crate) fn report<D: Desk>(&self, alloc: Global, desk: &mut D) -> Result<Report, Refusal>
         ensures made { IfOk result (ReportsRounds self.now.source (D.files desk.old)
             (D.files desk.old self.now.header.now) (D.files desk.old self.now.omissions.now)) }
         ensures refused { IfErr result (IsUnrealised self.now.source (D.files desk.old)

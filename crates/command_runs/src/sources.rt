@@ -19,14 +19,14 @@ use std::alloc::Global;
 /// A source that was opened: the program of a file, or where the library has one. What the library
 /// refuses is refused later than what a file has.
 #[derive(Drop)]
-pub enum Opened<'a> {
+pub(crate) enum Opened<'a> {
     File(Checked),
     Library { name: &'a str, values: u32 },
 }
 
 impl<'a> Opened<'a> {
     /// Reads and checks a source file; a source of the library is only named.
-    pub fn open<D: Desk>(
+    pub(crate) fn open<D: Desk>(
         alloc: Global,
         source: Source<'a>,
         desk: &mut D,
@@ -43,7 +43,7 @@ impl<'a> Opened<'a> {
     }
 
     /// The program, for a run on so many nodes of which up to `faults` may fail.
-    pub fn program(self, alloc: Global, nodes: u32, faults: u32) -> Result<Checked, Refusal>
+    pub(crate) fn program(self, alloc: Global, nodes: u32, faults: u32) -> Result<Checked, Refusal>
         ensures program { IfOk result (HoldsProgram self.entry nodes faults) }
         ensures refused { IfErr result (IsHeldBack self.entry nodes faults) }
     {

@@ -16,7 +16,7 @@ use std::alloc::Global;
 
 /// What was read of a file.
 #[derive(Drop)]
-pub enum Text {
+pub(crate) enum Text {
     /// All its bytes, no more than the limit.
     Whole(Vec<u8>),
     /// It is longer than the limit; these are its first bytes, one more than the limit.
@@ -25,7 +25,7 @@ pub enum Text {
 
 /// Why a file has no text within its limit.
 #[derive(Clone, Copy, Debug, PartialEq, Eq)]
-pub enum Unfit {
+pub(crate) enum Unfit {
     /// It can't be read, or isn't UTF-8.
     NoText,
     TooLong,
@@ -71,7 +71,7 @@ impl Text {
 }
 
 /// Reads the whole text of a file, up to its limit.
-pub fn read_whole<D: Desk>(
+pub(crate) fn read_whole<D: Desk>(
     alloc: Global,
     name: &str,
     limit: usize,

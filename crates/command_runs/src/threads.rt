@@ -39,7 +39,7 @@ use step_journal::Journal;
 
 /// A source, the file of a thread setup, and the file that gets the trace.
 #[derive(Clone, Copy)]
-pub struct Threaded<'a> {
+pub(crate) struct Threaded<'a> {
     pub source: Source<'a>,
     pub setup: &'a str,
     pub trace: &'a str,
@@ -59,7 +59,7 @@ pub struct ThreadRun {
 impl<'a> Threaded<'a> {
     /// Runs the source's program by threads, under the setup in its file. No thread starts before
     /// the file of the trace was tried.
-    pub fn run<R: Threads + Wait + Sync, D: Desk>(
+    pub(crate) fn run<R: Threads + Wait + Sync, D: Desk>(
         &self,
         rt: &R,
         alloc: Global,

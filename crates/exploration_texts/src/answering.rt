@@ -19,7 +19,7 @@ use std::thread::Threads;
 
 /// Which runs are gone through.
 #[derive(Clone, Copy)]
-pub struct Search<'a> {
+pub(crate) struct Search<'a> {
     pub program: &'a Checked,
     pub setup: &'a Setup,
     pub question: Question,

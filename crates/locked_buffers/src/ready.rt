@@ -78,7 +78,7 @@ pub(crate) fn make_ready<P: Plan>(
 /// Whether a buffer has a frame in flight at the place of a message. The frame itself, which lies
 /// in the memory of its sender's thread, isn't looked at: its name is compared when it's handed
 /// out.
-pub(crate) fn has_frame<P: Plan>(run: &Run<P>, buffer: &Buffer, name: Name) -> bool
+fn has_frame<P: Plan>(run: &Run<P>, buffer: &Buffer, name: Name) -> bool
     requires { IsName run.now.setup name }
     ensures { HasFrame (flying_as run.now.setup.nodes buffer.now name) result }
 {
@@ -106,11 +106,7 @@ pub(crate) fn note_names<P: Plan>(
 }
 
 /// The frame in flight as copy 0 of a message, as the copy of this name.
-pub(crate) fn copy_of<P: Plan>(
-    run: &Run<P>,
-    buffer: &Buffer,
-    name: Name,
-) -> Result<Option<Sealed>, NoMemory>
+fn copy_of<P: Plan>(run: &Run<P>, buffer: &Buffer, name: Name) -> Result<Option<Sealed>, NoMemory>
     requires { IsName run.now.setup name }
     ensures { IfOk result (λ copied. copied ≡ option_map (copied_as name.copy)
         (flying_as run.now.setup.nodes buffer.now (original name))) }

@@ -14,7 +14,7 @@ use Rattle.step_machine.specs.declared.event.Event.{Event}
 use Rattle.step_machine.specs.declared.event.Event.TheVariants.{Step, Release}
 use Rattle.step_machine.specs.declared.event.Name.{Name}
 use Rattle.lockstep_runs.specs.Lockstep.{IsAloft, due_in}
-use Rattle.lockstep_runs.specs.Pacing.{Flies, Flight, IsFlight, IsOther, waits_at}
+use Rattle.lockstep_runs.specs.Pacing.{Flies, Flight, HoldsByTicks, IsOther, waits_at}
 use Rattle.lockstep_runs.specs.Timing.{Timing}
 use Rattle.step_book.specs.Serials.{sent, serial}
 use Rattle.step_book.proofs.Serials.{serial_kept, slot_on}
@@ -51,8 +51,8 @@ module _ (w : World) (b : Timing) where
   -- nothing that isn't omitted takes off, and nothing lands
   pub flight_kept : (e : Event) (t : List Event) (f : Flight) → sent w t ≤ sent w (e ∷ t)
       → ((n : Name) → IsAloft w t n → Stays w e t n)
-      → ((n : Name) → IsAloft w (e ∷ t) n → b.omits n ≡ false → IsAloft w t n) → IsFlight w b t f
-      → IsFlight w b (e ∷ t) f
+      → ((n : Name) → IsAloft w (e ∷ t) n → b.omits n ≡ false → IsAloft w t n) → HoldsByTicks w b t f
+      → HoldsByTicks w b (e ∷ t) f
   flight_kept e t f up stays came h = record {
     only = λ d k n g. (let old = h.only d k n g in flies_on e t d k n up (stays n old.aloft) old);
     all = λ n a kept.
@@ -65,7 +65,7 @@ module _ (w : World) (b : Timing) where
       (now : IsAloft w (e ∷ t) m) (goes : b.omits m ≡ false) (last : serial w (e ∷ t) m ≡ sent w t)
       (here : waits_at g (due_in w b (e ∷ t) m) (sent w t) ≡ Some m)
       (others : (d k : ℕ) → IsOther (due_in w b (e ∷ t) m) (sent w t) d k
-      → waits_at g d k ≡ waits_at f d k) (h : IsFlight w b t f) where
+      → waits_at g d k ≡ waits_at f d k) (h : HoldsByTicks w b t f) where
     only_old : (d k : ℕ) (n : Name) → waits_at f d k ≡ Some n → Flies w b (e ∷ t) d k n
     only_old d k n is = let old =
         h.only d k n is in flies_on e t d k n (omega arith) (stays n old.aloft) old
@@ -104,7 +104,7 @@ module _ (w : World) (b : Timing) where
         ∙ waits_on e t f n s (h.all n old kept)
 
     pub flight_more : ((n : Name) → IsAloft w (e ∷ t) n → (n ≡ m) ⊎ IsAloft w t n)
-        → IsFlight w b (e ∷ t) g
+        → HoldsByTicks w b (e ∷ t) g
     flight_more came = record {
       only = λ d k n is. only_by d k n is (cases_eq _ _) (cases_eq _ _);
       all = λ n a kept. all_by n kept (came n a);
@@ -116,7 +116,7 @@ module _ (w : World) (b : Timing) where
       → Stays w e t n)
       (found : waits_at f due turn ≡ Some m) (gone : waits_at g due turn ≡ None)
       (others : (d k : ℕ) → IsOther due turn d k → waits_at g d k ≡ waits_at f d k)
-      (h : IsFlight w b t f) where
+      (h : HoldsByTicks w b t f) where
     -- what still waits did so before, elsewhere
     pub left_by : (d k : ℕ) (n : Name) → waits_at g d k ≡ Some n → (d ≡ due) ⊎ (d ≡ due → ⊥)
         → (k ≡ turn) ⊎ (k ≡ turn → ⊥) → (waits_at f d k ≡ Some n) × IsOther due turn d k
@@ -155,7 +155,7 @@ module _ (w : World) (b : Timing) where
         others _ _ other ∙ was
 
     pub flight_less : ((n : Name) → IsAloft w (e ∷ t) n → (n ≡ m → ⊥) × IsAloft w t n)
-        → IsFlight w b (e ∷ t) g
+        → HoldsByTicks w b (e ∷ t) g
     flight_less came = record {
       only = λ d k n is. only_left d k n (left d k n is);
       all = λ n a kept. (let old = came n a in all_left n old.0 old.1 kept);

@@ -31,7 +31,7 @@ use Rattle.lockstep_runs.specs.Changes.{timing_by}
 use Rattle.lockstep_runs.specs.IdleTicks.{IsWholeRun, followed, goes_on, idle_steps, node_in_turn}
 use Rattle.lockstep_runs.specs.IdleTicks.{turn_step, turn_steps}
 use Rattle.lockstep_runs.specs.Lockstep.{IsOriginal, first_in}
-use Rattle.lockstep_runs.specs.Pacing.{Flight, IsFlight}
+use Rattle.lockstep_runs.specs.Pacing.{Flight, HoldsByTicks}
 use Rattle.lockstep_runs.specs.Timing.{Timing}
 use Rattle.lockstep_runs.specs.declared.changes.Changes.{Changes}
 use Rattle.lockstep_runs.proofs.Judged.{judged}
@@ -141,7 +141,7 @@ module _ {P : Type 0} (start : P → ℕ → ℕ) (b : Timing) (tick : ℕ) (fir
       let w = world_of (start j.plan) j.log in
       let n = nodes_are (start j.plan) j.log in
       let flight = on_record start j (after j (Step node ∷ [])) (Step node)
-      (λ w t. IsFlight w b t f) refl more
+      (λ w t. HoldsByTicks w b t f) refl more
       (step_quiet w h.stepping.paced.plan b node (history j.log) f (omega (arith, inside, n))
       (λ m o at. no_slot w node (history j.log) m h.stepping.paced.plan (omega (arith, over, count))
       o at) h.stepping.paced.flight) in

@@ -28,7 +28,7 @@ use Rattle.lockstep_runs.specs.Timing.{Timing}
 use Rattle.lockstep_runs.specs.Lockstep.{AllBefore, IsAloft, IsBefore, IsTimedRun}
 use Rattle.lockstep_runs.specs.Lockstep.{IsOriginal, Key, MayHappen, Part, Tick, Turn, due_in}
 use Rattle.lockstep_runs.specs.Lockstep.{key_of, turn_in}
-use Rattle.lockstep_runs.specs.Pacing.{AreSteps, Flies, Flight, IsFlight, IsOther, IsPaced}
+use Rattle.lockstep_runs.specs.Pacing.{AreSteps, Flies, Flight, HoldsByTicks, IsOther, IsPaced}
 use Rattle.lockstep_runs.specs.Pacing.{IsPopped, NoneBefore, due_key, tick_key, waits_at}
 use Rattle.step_book.specs.Serials.{sends, sent, serial}
 use Rattle.lockstep_runs.proofs.Flights.{flight_kept, flight_less, flight_more, left, release_came}
@@ -121,7 +121,7 @@ module _ (w : World) (p : IsPlan w) (b : Timing) (i : ℕ) (t : List Event) wher
     pub sent_quiet : sent w (Step i ∷ t) ≡ sent w t
     sent_quiet = sent_same w (Step i) t quiet
 
-    pub step_quiet : IsFlight w b t f → IsFlight w b (Step i ∷ t) f
+    pub step_quiet : HoldsByTicks w b t f → HoldsByTicks w b (Step i ∷ t) f
     step_quiet h = flight_kept w b (Step i) t f (let same = sent_quiet in omega arith)
         (step_stays w p i t) (λ n a kept. came_quiet n a (cases_Bool _)) h
 
@@ -168,8 +168,8 @@ module _ (w : World) (p : IsPlan w) (b : Timing) (i : ℕ) (t : List Event) wher
         sent_same w (Step i) t (sends_now ∙ said_by (message w t m) (λ e. silent (marked_now ∙ e)))
 
     -- with silence
-    pub step_silent : (mark_of w (Step i ∷ t) m ≡ Flying → ⊥) → IsFlight w b t f
-        → IsFlight w b (Step i ∷ t) f
+    pub step_silent : (mark_of w (Step i ∷ t) m ≡ Flying → ⊥) → HoldsByTicks w b t f
+        → HoldsByTicks w b (Step i ∷ t) f
     step_silent silent h =
         flight_kept w b (Step i) t f (let same = sent_silent silent in omega arith)
         (step_stays w p i t) (λ n a kept. came_silent silent n a (came n a)) h
@@ -188,8 +188,8 @@ module _ (w : World) (p : IsPlan w) (b : Timing) (i : ℕ) (t : List Event) wher
     came_omitted omitted n kept (inr old) = old
 
     -- with a message that is omitted
-    pub step_omitted : mark_of w (Step i ∷ t) m ≡ Flying → b.omits m ≡ true → IsFlight w b t f
-        → IsFlight w b (Step i ∷ t) f
+    pub step_omitted : mark_of w (Step i ∷ t) m ≡ Flying → b.omits m ≡ true → HoldsByTicks w b t f
+        → HoldsByTicks w b (Step i ∷ t) f
     step_omitted flies omitted h =
         flight_kept w b (Step i) t f (let more = sent_spoken flies in omega arith)
         (step_stays w p i t) (λ n a kept. came_omitted omitted n kept (came n a)) h
@@ -198,7 +198,7 @@ module _ (w : World) (p : IsPlan w) (b : Timing) (i : ℕ) (t : List Event) wher
     pub step_spoken : (g : Flight) → b.omits m ≡ false → mark_of w (Step i ∷ t) m ≡ Flying
         → waits_at g (due_in w b (Step i ∷ t) m) (sent w t) ≡ Some m
         → ((d k : ℕ) → IsOther (due_in w b (Step i ∷ t) m) (sent w t) d k
-        → waits_at g d k ≡ waits_at f d k) → IsFlight w b t f → IsFlight w b (Step i ∷ t) g
+        → waits_at g d k ≡ waits_at f d k) → HoldsByTicks w b t f → HoldsByTicks w b (Step i ∷ t) g
     step_spoken g goes flies here others h =
         flight_more w b (Step i) t f g m (sent_spoken flies) (step_stays w p i t)
         (record { original = original; flies = flies }) goes serial_spoken here others h came
@@ -208,7 +208,7 @@ module _ (w : World) (p : IsPlan w) (b : Timing) (i : ℕ) (t : List Event) wher
 pub paced_step : (w : World) (b : Timing) (ticks tick turn i : ℕ) (t : List Event) (f g : Flight)
     → IfSome (b.stop i) (λ s. tick < s) → steps i t ≡ tick → turn_in b (nodes_of w) tick i ≡ turn
     → IsPaced w b ticks (turn_key tick turn) t f
-    → IsFlight w b (Step i ∷ t) g → IsPaced w b ticks (turn_key tick (turn + 1)) (Step i ∷ t) g
+    → HoldsByTicks w b (Step i ∷ t) g → IsPaced w b ticks (turn_key tick (turn + 1)) (Step i ∷ t) g
 paced_step w b ticks tick turn i t f g member number at h flight =
     let key : key_of w b (Step i) t ≡ turn_key tick turn =
     ap (λ x. record { tick = x; part = 1; turn = turn_in b (nodes_of w) x i }) number
@@ -295,7 +295,7 @@ module _ (w : World) (b : Timing) (now : ℕ) (t : List Event) (f g : Flight) (m
       (left w b (Release m) t f g m x.due x.turn (sent_release w m t)
       (release_stays w h.paced.plan m t) x.there x.gone x.others h.paced.flight d k n is).0
 
-  flight_released : IsFlight w b (Release m ∷ t) g
+  flight_released : HoldsByTicks w b (Release m ∷ t) g
   flight_released =
       flight_less w b (Release m) t f g m x.due x.turn (sent_release w m t)
       (release_stays w h.paced.plan m t) x.there x.gone x.others h.paced.flight

@@ -21,7 +21,7 @@ use Rattle.adversary.specs.Driving.{IsOneMore}
 use Rattle.lockstep_runs.specs.Timing.{Timing, steps_in}
 use Rattle.lockstep_runs.specs.Lockstep.{AllBefore, IsAloft, IsOriginal, IsTimedRun, Turn}
 use Rattle.lockstep_runs.specs.Lockstep.{due_in, first_in, turn_in}
-use Rattle.lockstep_runs.specs.Pacing.{AreSteps, Flight, IsFlight, IsFlightIn, IsPaced}
+use Rattle.lockstep_runs.specs.Pacing.{AreSteps, Flight, HoldsByTicks, IsFlightIn, IsPaced}
 use Rattle.lockstep_runs.specs.Pacing.{IsOther, IsPacedIn, IsPopped, IsSameRun}
 use Rattle.lockstep_runs.specs.Pacing.{NoneBefore, tick_key, waits_at}
 use Rattle.lockstep_runs.proofs.Keys.{all_before, each_none}
@@ -143,7 +143,7 @@ module _ {P : Type 0} (start : P → ℕ → ℕ) (b : Timing) (now : ℕ) where
           (λ w t. IsPaced w b (now + 1) (turn_key now (turn + 1)) t g) same more
           (paced_step (world_of (start j.plan) j.log) b (now + 1) now turn node (history j.log) f g
           member (stepping_count member) turn_now h.paced
-          (off_record start j k (Step node) (λ w t. IsFlight w b t g) same more flight));
+          (off_record start j k (Step node) (λ w t. HoldsByTicks w b t g) same more flight));
       waits = waits;
       taken = on_record start j k (Step node) (λ w t. AreStepsIn w b t now (turn + 1)) same more
           (subst (λ x. AreStepsIn (world_of (start j.plan) j.log) b (Step x ∷ history j.log) now
@@ -218,7 +218,7 @@ no_steps : (i : ℕ) → steps i [] ≡ 0
 unfolding steps
 no_steps i = refl
 
-no_flight : (w : World) (b : Timing) (f : Flight) → f.entries ≡ [] → IsFlight w b [] f
+no_flight : (w : World) (b : Timing) (f : Flight) → f.entries ≡ [] → HoldsByTicks w b [] f
 no_flight w b f e = record {
   only = λ d k n is. absurd (none_waits f e d k n is);
   all = λ n a kept. absurd (grounded w n a);
@@ -300,7 +300,7 @@ pub stays_down : {P : Type 0} (start : P → ℕ → ℕ) (b : Timing) (j k : Re
     → k.plan ≡ j.plan → IsOneMore j.log k.log (Step i) → (IsFlying (start k.plan) k.log m → ⊥)
     → IsFlightIn (start j.plan) j.log b f → IsFlightIn (start k.plan) k.log b f
 stays_down start b j k i f m p s same more down h =
-    on_record start j k (Step i) (λ w t. IsFlight w b t f) same more
+    on_record start j k (Step i) (λ w t. HoldsByTicks w b t f) same more
     (step_silent (world_of (start j.plan) j.log) p b i (history j.log) f m s.original s.own s.at
     (λ e. down (on_record start j k (Step i) (λ w t. mark_of w t m ≡ Flying) same more e)) h)
 
@@ -311,7 +311,7 @@ pub stays_aloft : {P : Type 0} (start : P → ℕ → ℕ) (b : Timing) (j k : R
     → b.omits m ≡ true → IsFlightIn (start j.plan) j.log b f → IsFlightIn (start k.plan) k.log b f
 stays_aloft start b j k i f m p s same more up omitted h =
     let flies = off_record start j k (Step i) (λ w t. mark_of w t m ≡ Flying) same more up in
-    on_record start j k (Step i) (λ w t. IsFlight w b t f) same more
+    on_record start j k (Step i) (λ w t. HoldsByTicks w b t f) same more
     (step_omitted (world_of (start j.plan) j.log) p b i (history j.log) f m s.original s.own s.at
     flies omitted h)
 
@@ -335,7 +335,7 @@ takes_off start b j k i now count f g m key p s same more number counted due tur
     due ∙ ap (λ z. b.due (record { name = m; sent_at = z; serial = count })) step
     ∙ ap (λ z. b.due (record { name = m; sent_at = w.start m.round + m.to; serial = z }))
     (counted ∙ sym (serial_spoken w p b i t f m s.original s.own s.at)) in
-    on_record start j k (Step i) (λ w t. IsFlight w b t g) same more
+    on_record start j k (Step i) (λ w t. HoldsByTicks w b t g) same more
     (step_spoken w p b i t f m s.original s.own s.at g goes flies
     (sym (ap (λ z. waits_at g z (sent w t)) tick) ∙ sym (ap (waits_at g key.0) place) ∙ x.0)
     (λ d n o. x.1 d n (λ y. o (y.0 ∙ tick, y.1 ∙ place))) h)

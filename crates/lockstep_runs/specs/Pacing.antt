@@ -32,7 +32,7 @@ pub record Flies (w : World) (timing : Timing) (t : List Event)
   pub sent : turn < sent w t
 
 -- each message in flight that isn't omitted stands there, and nothing else
-pub record IsFlight (w : World) (timing : Timing) (t : List Event) (f : Flight) : Type 0 where
+pub record HoldsByTicks (w : World) (timing : Timing) (t : List Event) (f : Flight) : Type 0 where
   pub only : (tick turn : ℕ) (n : Name) → waits_at f tick turn ≡ Some n
       → Flies w timing t tick turn n
   pub all : (n : Name) → IsAloft w t n → timing.omits n ≡ false
@@ -45,11 +45,11 @@ pub record IsPaced (w : World) (timing : Timing) (ticks : ℕ) (up_to : Key)
   pub events : Each (MayHappen w timing ticks) t
   pub rising : Each (λ e past. AllBefore w timing (key_of w timing e past) past) t
   pub before : AllBefore w timing up_to t
-  pub flight : IsFlight w timing t f
+  pub flight : HoldsByTicks w timing t f
 
 -- the flight is that of the run that is recorded
 abbrev pub IsFlightIn : (ℕ → ℕ) → Log → Timing → Flight → Type 0
-IsFlightIn start v timing f = IsFlight (world_of start v) timing (history v) f
+IsFlightIn start v timing f = HoldsByTicks (world_of start v) timing (history v) f
 
 -- the run that is recorded was one of lockstep so far
 abbrev pub IsPacedIn : (ℕ → ℕ) → Log → Timing → ℕ → Key → Flight → Type 0

@@ -54,7 +54,7 @@ impl Changes {
 }
 
 /// The number of steps of a node's last stop, or 0 if it has none.
-pub fn last_stop(stops: &[Stop], node: u32) -> u32
+pub(crate) fn last_stop(stops: &[Stop], node: u32) -> u32
     ensures { result ≡ stop_or 0 stops.now node }
 {
     let mut found = 0;
@@ -67,7 +67,7 @@ pub fn last_stop(stops: &[Stop], node: u32) -> u32
 }
 
 /// A message's own delay, if it has one; the last entry for it counts.
-pub fn own_delay(delays: &[MessageDelay], name: Name) -> Option<u32>
+pub(crate) fn own_delay(delays: &[MessageDelay], name: Name) -> Option<u32>
     ensures { result ≡ own_delay delays.now name }
 {
     let mut found = None;

@@ -17,10 +17,10 @@ use std::collections::BTreeMap;
 use step_machine::{Event, InFlight, Name};
 
 /// The messages in flight, by the tick in which each is due and its serial.
-pub type Flight = BTreeMap<(u64, usize), Name>;
+pub(crate) type Flight = BTreeMap<(u64, usize), Name>;
 
 /// One tick: the releases that are due, and a step of each node that hasn't stopped.
-pub fn tick<P: Plan>(
+pub(crate) fn tick<P: Plan>(
     driver: Driver<P>,
     flight: &mut Flight,
     course: &Course<'_>,

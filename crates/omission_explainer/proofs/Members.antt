@@ -9,7 +9,7 @@ use Rattle.std.proofs.lemmas.Bool.Decides.{nat_tests}
 use Rattle.std.proofs.lemmas.List.{take_more, drop_more}
 use Rattle.round_lang.specs.Sets.{is_in, first_or, least, members, minus, only, size}
 use Rattle.omission_explainer.specs.Report.{numbers_text}
-use Rattle.omission_explainer.specs.Short.{Spells}
+use Rattle.omission_explainer.specs.Short.{ListsMembers}
 use Rattle.round_lang.proofs.SetLaws.{is_in-wide}
 use Rattle.omission_explainer.proofs.Texts.{separator_after, with_commas-push}
 
@@ -100,7 +100,7 @@ unfolding members is_in
 no_members = refl
 
 -- so its text is empty
-pub spells_nothing : (text : List ℕ) (s : ℕ) → text ≡ [] → s ≡ 0 → Spells text s
+pub spells_nothing : (text : List ℕ) (s : ℕ) → text ≡ [] → s ≡ 0 → ListsMembers text s
 spells_nothing text s none empty = record {
   is = none ∙ sym (ap numbers_text (ap members empty ∙ no_members));
   short = omega (arith, ap length none);
@@ -108,7 +108,7 @@ spells_nothing text s none empty = record {
 
 -- what was spelt behind nothing
 pub spells_anew : (before text : List ℕ) (s : ℕ) → before ≡ []
-    → text ≡ before ++ numbers_text (members s) → length text ≤ length before + 192 → Spells text s
+    → text ≡ before ++ numbers_text (members s) → length text ≤ length before + 192 → ListsMembers text s
 spells_anew before text s none spelt short = record {
   is = spelt ∙ ap (λ l. l ++ numbers_text (members s)) none;
   short = omega (arith, short, ap length none);

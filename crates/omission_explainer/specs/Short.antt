@@ -17,6 +17,6 @@ pub record Tells (written : Option (List ℕ)) (kept : List ℕ) (written_now : 
   pub joined : gone ++ kept_now ≡ kept ++ bytes
 
 -- The text lists a set's members, separated by commas, in at most 192 bytes.
-pub record Spells (text : List ℕ) (set : ℕ) : Type 0 where
+pub record ListsMembers (text : List ℕ) (set : ℕ) : Type 0 where
   pub is : text ≡ numbers_text (members set)
   pub short : length text ≤ 192

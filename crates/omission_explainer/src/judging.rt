@@ -1,19 +1,18 @@
 //! Whether a run kept what its plan counts on.
-ghost use Rattle.std.specs.Prelude.{◌≡◌, ◌+◌, ◌<◌, ◌≤◌, ◌↔◌, IfSome, IsTrue, Some, length, max};
+ghost use Rattle.std.specs.Prelude.{◌≡◌, ◌+◌, ◌<◌, ◌↔◌, IfSome, IsTrue, Some, length};
 ghost use Rattle.slot_plans.specs.Plan.{IsClearRound};
-ghost use Rattle.step_book.specs.Log.{count_of, history, mark_in, world_of};
-ghost use Rattle.step_book.specs.Names.{IsName};
+ghost use Rattle.step_book.specs.Log.{history, world_of};
 ghost use Rattle.omission_explainer.specs.Lateness.{HasReceive, KeepsBound, KeepsPace};
-ghost use Rattle.omission_explainer.specs.Lateness.{copy_open_until, marks_of, open_until};
 ghost use Rattle.omission_explainer.specs.Verdict.{AreNodes, HearsFrom, IsDelayBound, IsLockstep};
 ghost use Rattle.omission_explainer.specs.Verdict.{yes_or_no};
 
+use crate::lateness::open_until;
 use round_meaning::NodeSet;
 use slot_plans::{MAX_NODES, Plan, Slot};
 use std::fmt;
-use step_book::{Book, Mark};
+use step_book::Book;
 use step_journal::Journal;
-use step_machine::{Event, Name};
+use step_machine::Event;
 
 /// The judgement of a run for a set of correct nodes: whether they stepped in lockstep, whether
 /// their messages kept the bound on the delay, and the first round, from 1, from which on messages
@@ -146,34 +145,6 @@ fn keeps_bound<P: Plan>(book: &Book<P>, terms: Terms, counts: &[u64], node: u32)
             !has_receive(book, low, open_until(book, name))
         }
         None => true,
-    }
-}
-
-/// Up to which step number its receiver lacks a message: its copies' least.
-fn open_until<P: Plan>(book: &Book<P>, name: Name) -> u64
-    requires { IsName book.now.log.setup name }
-    ensures { result ≡ open_until (count_of book.now.log name.to)
-        (marks_of (world_of (P.start book.now.plan) book.now.log) (history book.now.log) name) }
-{
-    match book.mark(name.original()) {
-        Mark::Unsent | Mark::Silent => 0,
-        Mark::Flying | Mark::Released(_) | Mark::Lost => copy_open_until(book, name, 0)
-            .min(copy_open_until(book, name, 1))
-            .min(copy_open_until(book, name, 2))
-            .min(copy_open_until(book, name, 3)),
-    }
-}
-
-/// Up to which step number its receiver lacks a copy of a message.
-fn copy_open_until<P: Plan>(book: &Book<P>, name: Name, copy: u32) -> u64
-    requires name { IsName book.now.log.setup name }
-    requires copy { copy ≤ 3 }
-    ensures { result ≡ copy_open_until (count_of book.now.log name.to)
-        (mark_in (P.start book.now.plan) book.now.log (record name { copy = copy })) }
-{
-    match book.mark(Name { copy, ..name }) {
-        Mark::Released(count) => count,
-        Mark::Unsent | Mark::Silent | Mark::Flying | Mark::Lost => book.count_of(name.to),
     }
 }
 

@@ -4,6 +4,7 @@
 mod deciding;
 mod explaining;
 mod judging;
+mod lateness;
 mod listed;
 mod printed;
 mod report;
@@ -16,6 +17,7 @@ mod writing;
 pub use deciding::decided;
 pub use explaining::explain;
 pub use judging::{Verdict, judge};
+pub use lateness::open_until;
 pub use listed::Listed;
 pub use printed::{omissions_give_inbox, sets_part_nodes};
 pub use report::{Report, ReportRow};

@@ -1,6 +1,5 @@
 //! The members of sets as text.
-ghost use Rattle.std.specs.Prelude.{◌≡◌, ◌+◌, ◌<◌, ◌≤◌, ◌++◌, length};
-ghost use Rattle.std.specs.Fmt.{decimal};
+ghost use Rattle.std.specs.Prelude.{◌≡◌, ◌+◌, ◌≤◌, ◌++◌, length};
 ghost use Rattle.round_lang.specs.Sets.{members};
 ghost use Rattle.omission_explainer.specs.Report.{numbers_text};
 ghost use Rattle.short_text.specs.Short.{room};
@@ -19,13 +18,13 @@ pub(crate) struct SpeltSet {
 
 impl Model for SpeltSet {
     ghost use Rattle.std.specs.Prelude.{ℕ};
-    ghost use Rattle.omission_explainer.specs.Short.{Spells};
+    ghost use Rattle.omission_explainer.specs.Short.{ListsMembers};
 
     ghost Value = { ℕ };
 
     ghost view = { λ s. s.set.bits };
 
-    ghost invariant = { λ s. Spells s.text s.set.bits };
+    ghost invariant = { λ s. ListsMembers s.text s.set.bits };
 }
 
 impl SpeltSet {

@@ -11,7 +11,7 @@ use round_meaning::OmissionTable;
 use std::alloc::Global;
 
 /// Adds the messages of these rounds from these senders to these receivers.
-pub fn add_block(
+pub(crate) fn add_block(
     table: &mut OmissionTable,
     receivers: &[u32],
     rounds: RoundRange,
@@ -62,7 +62,7 @@ fn add_round(
 }
 
 /// The nodes below a number that are in the list.
-pub fn inside(alloc: Global, nodes: u32, list: &NodeList) -> Result<Vec<u32>, NoMemory>
+pub(crate) fn inside(alloc: Global, nodes: u32, list: &NodeList) -> Result<Vec<u32>, NoMemory>
     ensures { IfOk result
         (λ v. v.items ≡ filter (has_node list.now) (range_with_len 0 nodes)) }
 {
@@ -74,7 +74,7 @@ pub fn inside(alloc: Global, nodes: u32, list: &NodeList) -> Result<Vec<u32>, No
 }
 
 /// The nodes below a number that aren't in the list.
-pub fn outside(alloc: Global, nodes: u32, list: &NodeList) -> Result<Vec<u32>, NoMemory>
+pub(crate) fn outside(alloc: Global, nodes: u32, list: &NodeList) -> Result<Vec<u32>, NoMemory>
     ensures { IfOk result
         (λ v. v.items ≡ filter (λ i. not (has_node list.now i)) (range_with_len 0 nodes)) }
 {

@@ -8,7 +8,7 @@ use std::alloc::AllocFailed;
 
 /// Why a line is refused.
 #[derive(Clone, Copy, PartialEq, Eq, Debug)]
-pub enum LineFault {
+pub(crate) enum LineFault {
     Bad,
     Large,
     NoMemory,
@@ -16,7 +16,7 @@ pub enum LineFault {
 
 impl LineFault {
     /// The fault of the line of this number.
-    pub fn at(self, number: u64) -> ScheduleFault
+    pub(crate) fn at(self, number: u64) -> ScheduleFault
         ensures { result ≡ at_line number self }
     {
         match self {

@@ -1,12 +1,12 @@
 //! Which lines name what is of a run.
-ghost use Rattle.std.specs.Prelude.{◌<◌, ◌≤◌, ◌↔◌, All, IsTrue};
-ghost use Rattle.omission_texts.specs.Meaning.{AreNodesOf, AreRoundsOf, IsFirstUnknown, IsKnown};
+ghost use Rattle.std.specs.Prelude.{◌<◌, ◌↔◌, All, IsTrue};
+ghost use Rattle.omission_texts.specs.Meaning.{AreRoundsOf, IsFirstUnknown, IsKnown};
 
 use crate::line::{OmissionLine, RoundRange};
 use round_meaning::Setup;
 
 /// The place of the first line that names what isn't of the run.
-pub fn first_unknown(lines: &[OmissionLine], setup: &Setup) -> Option<usize>
+pub(crate) fn first_unknown(lines: &[OmissionLine], setup: &Setup) -> Option<usize>
     ensures { IsFirstUnknown setup.now lines.now result }
 {
     for (place, line) in lines.iter().enumerate() {

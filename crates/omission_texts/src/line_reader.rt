@@ -10,7 +10,7 @@ use std::alloc::Global;
 
 /// What a line says.
 #[tactic(auto, unfolding(crate::specs::Forms::line_in))]
-pub fn read_line(alloc: Global, line: &str) -> Result<OmissionLine, LineFault>
+pub(crate) fn read_line(alloc: Global, line: &str) -> Result<OmissionLine, LineFault>
     ensures { Gives result (form.line_in line.now) }
 {
     let words = parts(alloc, line, ' ')?;

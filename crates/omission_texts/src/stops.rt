@@ -12,7 +12,7 @@ use slot_plans::Plan;
 use std::alloc::Global;
 
 /// How many steps each node takes by what these lines say.
-pub fn stops_of<P: Plan>(
+pub(crate) fn stops_of<P: Plan>(
     alloc: Global,
     setup: &Setup,
     lines: &[OmissionLine],

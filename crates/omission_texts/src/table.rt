@@ -14,7 +14,7 @@ use round_meaning::{OmissionTable, Setup};
 use std::alloc::Global;
 
 /// The table of the messages of the run that the lines omit.
-pub fn table_of(
+pub(crate) fn table_of(
     alloc: Global,
     setup: &Setup,
     lines: &[OmissionLine],

@@ -13,7 +13,7 @@ use round_lang::NoMemory;
 use std::alloc::Global;
 
 /// The parts of a text between these marks.
-pub fn parts<'a>(alloc: Global, text: &'a str, mark: char) -> Result<Vec<&'a str>, NoMemory>
+pub(crate) fn parts<'a>(alloc: Global, text: &'a str, mark: char) -> Result<Vec<&'a str>, NoMemory>
     requires { mark < 128 }
     ensures { IfOk result
         (λ parts. map (λ x. x.now) parts.items ≡ slice_split (λ b. b == mark) text.now) }
@@ -27,7 +27,7 @@ fn are_digits(text: &[u8]) -> bool
     text.iter().all(|b| b.is_ascii_digit())
 }
 
-pub fn is_number(word: &str) -> bool
+pub(crate) fn is_number(word: &str) -> bool
     ensures { result ≡ is_number word.now }
 {
     match word.as_bytes() {
@@ -37,7 +37,7 @@ pub fn is_number(word: &str) -> bool
 }
 
 /// What the digits of a word spell.
-pub fn number(word: &str) -> Result<u32, LineFault>
+pub(crate) fn number(word: &str) -> Result<u32, LineFault>
     requires { is_number word.now ≡ true }
     ensures { result ≡ form.number_in word.now }
 {
@@ -48,7 +48,7 @@ pub fn number(word: &str) -> Result<u32, LineFault>
 }
 
 /// Whether a word is a round, or a first and a last one.
-pub fn are_rounds(word: &str) -> bool
+pub(crate) fn are_rounds(word: &str) -> bool
     ensures { result ≡ form.are_rounds word.now }
 {
     match word.split_once('-') {
@@ -58,7 +58,7 @@ pub fn are_rounds(word: &str) -> bool
 }
 
 /// The rounds that such a word names.
-pub fn rounds(word: &str) -> Result<RoundRange, LineFault>
+pub(crate) fn rounds(word: &str) -> Result<RoundRange, LineFault>
     requires { form.are_rounds word.now ≡ true }
     ensures { result ≡ form.rounds_in word.now }
 {
@@ -81,14 +81,14 @@ fn range(first: &str, last: &str) -> Result<RoundRange, LineFault>
 }
 
 /// Whether a word is nodes with commas between them, or `-`.
-pub fn are_nodes(word: &str) -> bool
+pub(crate) fn are_nodes(word: &str) -> bool
     ensures { result ≡ form.are_nodes word.now }
 {
     word == "-" || word.split(',').all(|item| is_number(item))
 }
 
 /// The nodes that such a word names.
-pub fn nodes(alloc: Global, word: &str) -> Result<NodeList, LineFault>
+pub(crate) fn nodes(alloc: Global, word: &str) -> Result<NodeList, LineFault>
     requires { form.are_nodes word.now ≡ true }
     ensures { Gives result (form.nodes_in word.now) }
 {

@@ -3,7 +3,7 @@ ghost use Rattle.std.specs.Prelude.{◌≡◌, ◌≢◌, ◌<◌, ◌++◌, ℕ
 ghost use Rattle.part_answers.specs.Cuts.{IsCut, Lacks};
 
 /// The texts before and after the first mark.
-pub fn cut_at(text: &str, mark: char) -> Option<(&str, &str)>
+pub(crate) fn cut_at(text: &str, mark: char) -> Option<(&str, &str)>
     requires { mark < 128 }
     ensures { MatchOption result (Lacks mark text.now) (λ p. IsCut mark text.now p.0.now p.1.now) }
 {
@@ -11,7 +11,7 @@ pub fn cut_at(text: &str, mark: char) -> Option<(&str, &str)>
 }
 
 /// What follows these words at a text's beginning.
-pub fn after_words<'a>(text: &'a str, words: &str) -> Option<&'a str>
+pub(crate) fn after_words<'a>(text: &'a str, words: &str) -> Option<&'a str>
     ensures { MatchOption result ((rest : List ℕ) → text.now ≢ words.now ++ rest)
         (λ rest. text.now ≡ words.now ++ rest.now) }
 {

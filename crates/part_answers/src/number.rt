@@ -6,7 +6,7 @@ ghost use Rattle.part_answers.specs.Answers.{IsRound};
 use itoa::Buffer;
 
 /// The number that a text is in decimal digits, with neither a sign nor a leading zero.
-pub fn read_number(text: &str) -> Option<u32>
+pub(crate) fn read_number(text: &str) -> Option<u32>
     ensures some { IfSome result (λ n. text.now ≡ decimal n) }
     ensures none { IfNone result ((n : ℕ) → n < 2 ^ 32 → text.now ≢ decimal n) }
 {
@@ -19,10 +19,10 @@ pub fn read_number(text: &str) -> Option<u32>
 }
 
 /// The largest round.
-pub const MAX_ROUND: u32 = 4096;
+pub(crate) const MAX_ROUND: u32 = 4096;
 
 /// The round that a text is.
-pub fn read_round(text: &str) -> Option<u32>
+pub(crate) fn read_round(text: &str) -> Option<u32>
     ensures some { IfSome result (λ n. (text.now ≡ decimal n) × IsRound n) }
     ensures none { IfNone result ((n : ℕ) → IsRound n → text.now ≢ decimal n) }
 {

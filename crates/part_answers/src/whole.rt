@@ -10,7 +10,7 @@ use crate::property::Property;
 use std::alloc::{AllocError, Global};
 
 /// The answers to these properties of all parts together.
-pub fn whole_of(
+pub(crate) fn whole_of(
     alloc: Global,
     answers: &[Answered],
     parts: &[PartAnswers],

@@ -18,7 +18,7 @@ impl Policy for Prompt {
 }
 
 /// The release of the first message in flight, if there is one.
-pub fn release_first(flight: &[InFlight]) -> Option<Choice>
+pub(crate) fn release_first(flight: &[InFlight]) -> Option<Choice>
     ensures { result ≡ prompt_choice flight.now }
 {
     match flight {

@@ -156,7 +156,7 @@ fn call_word(name: &[u8]) -> Option<UnaryOperator>
 
 /// The keyword that is spelt, if one is.
 #[tactic(auto, unfolding(crate::specs::Keywords::keyword))]
-pub fn keyword(name: &[u8]) -> Option<Word<'static>>
+pub(crate) fn keyword(name: &[u8]) -> Option<Word<'static>>
     ensures { option_map lexeme_of result ≡ spec.keyword name.now }
 {
     if let Some(mark) = frame_word(name) {
@@ -182,7 +182,7 @@ pub fn keyword(name: &[u8]) -> Option<Word<'static>>
 
 /// The symbol of one byte.
 #[tactic(auto, unfolding(crate::specs::Keywords::short_symbol))]
-pub fn short_symbol(a: u8) -> Option<Word<'static>>
+pub(crate) fn short_symbol(a: u8) -> Option<Word<'static>>
     ensures { option_map lexeme_of result ≡ spec.short_symbol a }
 {
     match a {
@@ -206,7 +206,7 @@ pub fn short_symbol(a: u8) -> Option<Word<'static>>
 
 /// The symbol of two bytes.
 #[tactic(auto, unfolding(crate::specs::Keywords::long_symbol))]
-pub fn long_symbol(a: u8, b: u8) -> Option<Word<'static>>
+pub(crate) fn long_symbol(a: u8, b: u8) -> Option<Word<'static>>
     ensures { option_map lexeme_of result ≡ spec.long_symbol a b }
 {
     match (a, b) {

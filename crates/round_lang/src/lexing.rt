@@ -18,7 +18,7 @@ use std::alloc::{AllocError, AllocFailed, Global};
 
 /// What stands at the front of a text, with its length.
 #[derive(Clone, Copy, Debug)]
-pub enum Piece<'a> {
+pub(crate) enum Piece<'a> {
     Blank(usize),
     Word(Word<'a>, usize),
     Bad,
@@ -82,7 +82,7 @@ fn is_spelt_as_name(bytes: &[u8]) -> bool
 }
 
 /// Whether the bytes are a name within its limit.
-pub fn is_name(bytes: &[u8]) -> bool
+pub(crate) fn is_name(bytes: &[u8]) -> bool
     ensures { IsTrue result ↔ spec.IsName bytes.now }
 {
     bytes.len() <= MAX_NAME && is_spelt_as_name(bytes) && keyword(bytes).is_none()

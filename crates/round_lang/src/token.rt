@@ -59,7 +59,7 @@ pub struct Token<'a> {
 
 /// Whether two marks are the same.
 #[tactic(auto, unfolding(crate::specs::Lexemes::same_mark))]
-pub fn is_mark(a: Mark, b: Mark) -> bool
+pub(crate) fn is_mark(a: Mark, b: Mark) -> bool
     ensures { result ≡ same_mark a b }
 {
     a == b

@@ -219,7 +219,7 @@ fn meaning(sign: Sign) -> &'static str {
         Sign::End => "a round, and its end",
         Sign::Idle => "has nothing to do",
         Sign::Stop => "takes no more steps",
-        Sign::Decision => "decides, or changes the decision",
+        Sign::Decision => "a new or changed decision",
         Sign::Heard => "heard in its round",
         Sign::NotInTime => "received too late or too early",
         Sign::Dropped => "dropped",

@@ -22,18 +22,18 @@ use Rattle.round_explorer.specs.Reached.{end_without}
 use Rattle.round_explorer.specs.Searched.{AreInputs, AreSame, Breaks, Case, ComesTo, End, IsEnd}
 use Rattle.round_explorer.specs.Searched.{IsEndWithout, IsPart, IsRowOf, IsTrack, IsWhole, Keeps}
 use Rattle.round_explorer.specs.Searched.{LeavesEnough, Note, Search, Track, note_of, search_of}
-use Rattle.round_explorer.specs.Searched.{with_note}
+use Rattle.round_explorer.specs.Searched.{Loses, with_note}
 use Rattle.round_meaning.proofs.Lists.{filter_map_push, filter_map_skip}
 use Rattle.round_explorer.proofs.AllRows.{row_same, stopped_row}
 use Rattle.round_explorer.proofs.Following.{end_without_same, states_after_past}
 use Rattle.round_explorer.proofs.Holding.{breaks_fails, keeps_holds}
 use Rattle.round_explorer.proofs.Lost.{is_omitted-lost}
-use Rattle.round_explorer.proofs.Noting.{seen_after_past}
+use Rattle.round_explorer.proofs.Notes.{seen_after_past}
 use Rattle.round_explorer.proofs.Parts.{part_is_track, part_more}
 use Rattle.round_explorer.proofs.Searching.{holds_none}
 use Rattle.run_samples.specs.Found.{IsFound}
 use Rattle.run_samples.specs.Samples.{AgreeUpTo, EndsWithout, Follows, HoldsBefore, IsFailing}
-use Rattle.run_samples.specs.Samples.{IsCaseOf, IsFailingRun, IsToldOf, Loses, inbox_with}
+use Rattle.run_samples.specs.Samples.{IsCaseOf, IsFailingRun, IsToldOf, inbox_with}
 use Rattle.run_samples.specs.Samples.{run_of_case}
 
 -- an inbox with one sender more

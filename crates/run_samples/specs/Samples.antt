@@ -14,7 +14,7 @@ use Rattle.round_explorer.specs.declared.question.Question.{Question}
 use Rattle.round_explorer.specs.Answers.{with_inputs}
 use Rattle.round_explorer.specs.Properties.{HoldsUpTo, Run}
 use Rattle.round_explorer.specs.Questions.{AreAsked, IsPattern, IsTable, Messages}
-use Rattle.round_explorer.specs.Searched.{AreLost, Case, End, IsEndWithout, IsTrack, IsWhole}
+use Rattle.round_explorer.specs.Searched.{Case, End, IsEndWithout, IsTrack, IsWhole}
 use Rattle.round_explorer.specs.Searched.{LeavesEnough, Search, Track, search_of, with_end}
 
 -- the case is that of a question, with inputs and failures that are asked about
@@ -88,12 +88,6 @@ pub record IsToldOf (c : Case) (r : ℕ) (run : Track) (found : Counterexample) 
 abbrev pub inbox_with : (j : ℕ) → Option (List Value) → List Received → List Received
 inbox_with j None inbox = inbox
 inbox_with j (Some m) inbox = inbox ++ record { from = j; message = m } ∷ []
-
--- the run loses just these nodes' messages of round r to node i more
-pub record Loses (old new : Track) (i r n : ℕ) (missed : ℕ → Bool) : Type 0 where
-  pub more : List Omission
-  pub are_lost : AreLost more i r n missed
-  pub is : new ≡ record { lost = old.lost ++ more; states = old.states; seen = old.seen }
 
 -- the run gets the end of one node more, which misses these nodes in round r
 pub record EndsWithout (w : Search) (before : List (List Value)) (r i : ℕ) (missed : ℕ → Bool)

@@ -4,10 +4,9 @@ ghost use Rattle.round_meaning.specs.Setups.{IsSetup};
 ghost use Rattle.round_explorer.specs.Questions.{AreAsked, IsInPart, IsOfKind, IsPattern};
 ghost use Rattle.run_samples.specs.Samples.{IsCaseOf};
 
-use crate::case::Case;
 use crate::dice::{Dice, Rate};
 use round_check::Checked;
-use round_explorer::{AskedInputs, Failure, FaultKind, Part, Property, Question};
+use round_explorer::{AskedInputs, Case, Failure, FaultKind, Part, Property, Question};
 use round_lang::NoMemory;
 use round_meaning::{Inputs, Setup};
 use std::alloc::Global;

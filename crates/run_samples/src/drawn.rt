@@ -1,9 +1,8 @@
 //! Rows of missed nodes that are drawn by dice.
-use crate::case::Case;
 use crate::dice::Dice;
 use crate::losses::Losses;
 use crate::missing::Rows;
-use crate::rows::{may_be_heard, may_be_missed};
+use round_explorer::{Case, may_be_heard, may_be_missed};
 use round_meaning::NodeSet;
 
 /// The dice, and how messages are lost in the round that is run.

@@ -10,23 +10,16 @@
 //! out of it as long as the property first fails in the same round.
 #![tactic(auto)]
 
-mod case;
-mod checking;
 mod dice;
 mod drawing;
 mod drawn;
-mod failures;
 mod listed;
 mod losses;
 mod machine;
 mod missing;
-mod noting;
-mod path;
-mod rows;
 mod running;
 mod sampling;
 mod shrinking;
-mod tables;
 mod tally;
 
 pub use sampling::{Sampling, sample};

@@ -1,7 +1,6 @@
 //! Rows of missed nodes that are given, some of which a trial leaves out.
-use crate::case::Case;
 use crate::missing::Rows;
-use crate::rows::may_be_heard;
+use round_explorer::{Case, may_be_heard};
 use round_lang::NoMemory;
 use round_meaning::{NodeSet, OmissionTable};
 use std::alloc::Global;

@@ -3,8 +3,7 @@ ghost use Rattle.std.specs.Prelude.{IfSome};
 ghost use Rattle.round_meaning.specs.Nodes.{has_node};
 ghost use Rattle.round_explorer.specs.Questions.{IsRow};
 
-use crate::case::Case;
-use crate::rows::is_row;
+use round_explorer::{Case, is_row};
 use round_meaning::NodeSet;
 
 /// Where a run takes from which nodes each node misses in a round. No contract speaks of it:

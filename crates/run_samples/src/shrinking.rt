@@ -4,13 +4,12 @@ ghost use Rattle.round_meaning.specs.Setups.{IsSetup};
 ghost use Rattle.run_samples.specs.Samples.{Covers, case_of};
 ghost use Rattle.run_samples.specs.Shrunk.{IsPartOf, StaysFailure};
 
-use crate::case::Case;
 use crate::listed::{Block, Listed};
 use crate::machine::Machine;
 use crate::running::{Failing, failing_run, told_of};
 use crate::tally::Tally;
 use round_check::Checked;
-use round_explorer::{Counterexample, Property, Question, Unwatched};
+use round_explorer::{Case, Counterexample, Property, Question, Unwatched};
 use round_lang::NoMemory;
 use round_meaning::{NodeSet, Omission, OmissionTable, Setup};
 use std::alloc::Global;

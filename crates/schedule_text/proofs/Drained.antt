@@ -9,7 +9,8 @@ use Rattle.schedule_text.specs.Intakes.{header_at, header_in, says, without_even
 use Rattle.schedule_text.specs.Outcome.{state_of}
 use Rattle.schedule_text.specs.Readers.{IsOf, behind}
 use Rattle.schedule_text.specs.Stages.{State, answer_at_end, by_stage, event_of, from_line, go_on}
-use Rattle.schedule_text.specs.Stages.{inputs_of, line_step, mapped, one_after, plan_of, stop_of}
+use Rattle.schedule_text.specs.Stages.{inputs_of, line_step, mapped, one_after, plan_of, sizes_of}
+use Rattle.schedule_text.specs.Stages.{stop_of}
 use Rattle.schedule_text.specs.declared.draft.Stage.{Stage}
 use Rattle.schedule_text.specs.declared.draft.Stage.TheVariants.{Start, Nodes, Faults, Inputs}
 use Rattle.schedule_text.specs.declared.draft.Stage.TheVariants.{Rounds, Whole, Paced}
@@ -36,17 +37,19 @@ staged es (Nodes n) s text = fused (onto es) (λ t. record (onto es s) { stage =
 staged es (Faults n t) s text =
     fused (onto es) (λ vs. record (onto es s) { stage = Inputs n t; inputs = vs })
     (λ vs. record s { stage = Inputs n t; inputs = vs }) (λ vs. refl) (inputs_of text)
-staged es (Inputs n t) s text = fused (onto es) (λ r. record (onto es s) { stage = Rounds n t r })
-    (λ r. record s { stage = Rounds n t r }) (λ r. refl) (one_after (codes "rounds ") text)
-staged es (Rounds n t r) s text =
-    fused (onto es) (λ p. record (onto es s) { stage = Whole n t r p })
-    (λ p. record s { stage = Whole n t r p }) (λ p. refl) (plan_of text)
-staged es (Whole n t r p) s text =
+staged es (Inputs n t) s text =
+    fused (onto es) (λ r. record (onto es s) { stage = Rounds (sizes_of n t r) })
+    (λ r. record s { stage = Rounds (sizes_of n t r) }) (λ r. refl)
+    (one_after (codes "rounds ") text)
+staged es (Rounds z) s text =
+    fused (onto es) (λ p. record (onto es s) { stage = Whole z p })
+    (λ p. record s { stage = Whole z p }) (λ p. refl) (plan_of text)
+staged es (Whole z p) s text =
     fused (onto es) (λ e. record (onto es s) { events = (es ++ s.events) ++ e ∷ [] })
     (λ e. record s { events = s.events ++ e ∷ [] })
     (λ e. ap (λ (all : List Event). record s { events = all }) (append_assoc es s.events (e ∷ [])))
     (event_of text)
-staged es (Paced n t r p x) s text =
+staged es (Paced z p x) s text =
     fused (onto es) (λ c. record (onto es s) { stops = s.stops ++ c ∷ [] })
     (λ c. record s { stops = s.stops ++ c ∷ [] }) (λ c. refl) (stop_of text)
 
@@ -67,9 +70,9 @@ ended es Start k s = refl
 ended es (Nodes n) k s = refl
 ended es (Faults n t) k s = refl
 ended es (Inputs n t) k s = refl
-ended es (Rounds n t r) k s = refl
-ended es (Whole n t r p) k s = refl
-ended es (Paced n t r p x) k s = refl
+ended es (Rounds z) k s = refl
+ended es (Whole z p) k s = refl
+ended es (Paced z p x) k s = refl
 
 drained : (es : List Event) (ls : List (List ℕ)) (k : ℕ) (s : State)
     → from_line schedules k (onto es s) ls ≡ behind es (from_line schedules k s ls)
@@ -121,10 +124,10 @@ kept_at h Start s at is text = absurd (none_some at)
 kept_at h (Nodes n) s at is text = absurd (none_some at)
 kept_at h (Faults n t) s at is text = absurd (none_some at)
 kept_at h (Inputs n t) s at is text = absurd (none_some at)
-kept_at h (Rounds n t r) s at is text = absurd (none_some at)
-kept_at h (Whole n t r p) s at is text =
+kept_at h (Rounds z) s at is text = absurd (none_some at)
+kept_at h (Whole z p) s at is text =
     kept_by (HasHeader h) (λ e. record s { events = s.events ++ e ∷ [] }) (λ e. is) (event_of text)
-kept_at h (Paced n t r p x) s at is text = absurd (none_some at)
+kept_at h (Paced z p x) s at is text = absurd (none_some at)
 
 kept_step : (h : Setup × PlanKind) (s : State) → HasHeader h s → (l : List ℕ)
     → IfOk (line_step schedules s l) (HasHeader h)
@@ -143,10 +146,10 @@ kept_end h Start k s at = absurd (none_some at)
 kept_end h (Nodes n) k s at = absurd (none_some at)
 kept_end h (Faults n t) k s at = absurd (none_some at)
 kept_end h (Inputs n t) k s at = absurd (none_some at)
-kept_end h (Rounds n t r) k s at = absurd (none_some at)
-kept_end h (Whole n t r p) k s at = let same = some_same at in
+kept_end h (Rounds z) k s at = absurd (none_some at)
+kept_end h (Whole z p) k s at = let same = some_same at in
     (ap (λ (g : Setup × PlanKind). g.0) same, ap (λ (g : Setup × PlanKind). g.1) same)
-kept_end h (Paced n t r p x) k s at = absurd (none_some at)
+kept_end h (Paced z p x) k s at = absurd (none_some at)
 
 kept : (h : Setup × PlanKind) (ls : List (List ℕ)) (k : ℕ) (s : State) → HasHeader h s
     → IfOk (from_line schedules k s ls)

@@ -16,6 +16,7 @@ use Rattle.std.proofs.lemmas.List.Splits.{slice_split_at, slice_split_none, leng
 use Rattle.slot_plans.specs.declared.kind.PlanKind.{PlanKind}
 use Rattle.step_machine.specs.declared.event.Event.{Event}
 use Rattle.step_machine.specs.declared.event.Event.TheVariants.{Step, Release}
+use Rattle.schedule_text.specs.declared.draft.Sizes.{Sizes}
 use Rattle.schedule_text.specs.declared.draft.Stage.TheVariants.{Whole}
 use Rattle.schedule_text.specs.declared.kind.Kind.TheVariants.{Schedule}
 use Rattle.schedule_text.specs.Numbers.{is_number, max_number, value_of}
@@ -165,12 +166,12 @@ unfolding event_of after
 no_comment_event bs e h = cc
 
 -- a line of an event, where the header is whole
-pub event_taken : (s : State) (n t r : ℕ) (p : PlanKind) (l : List ℕ) (e : Event)
-    → s.stage ≡ Whole n t r p → event_of l ≡ Ok e
+pub event_taken : (s : State) (z : Sizes) (p : PlanKind) (l : List ℕ) (e : Event)
+    → s.stage ≡ Whole z p → event_of l ≡ Ok e
     → line_step Schedule s l ≡ Ok (record s { events = s.events ++ e ∷ [] })
 unfolding line_step
-event_taken s n t r p [] e stage h = absurd (no_empty_event e h)
-event_taken s n t r p (b ∷ bs) e stage h = go (eqb b 35) refl
+event_taken s z p [] e stage h = absurd (no_empty_event e h)
+event_taken s z p (b ∷ bs) e stage h = go (eqb b 35) refl
   where
     go : (is : Bool) → is ≡ eqb b 35
         → cond (eqb b 35) (Ok s) (by_stage Schedule s.stage s (b ∷ bs))

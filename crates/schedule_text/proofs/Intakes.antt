@@ -6,8 +6,9 @@ use Rattle.std.specs.Str.Lines.{lines}
 use Rattle.schedule_text.specs.Intakes.{EndsIntake, header_at, said, says}
 use Rattle.schedule_text.specs.Outcome.{state_of}
 use Rattle.schedule_text.specs.Readings.{Answer}
-use Rattle.schedule_text.specs.Stages.{answer_at_end, from_line}
+use Rattle.schedule_text.specs.Stages.{answer_at_end, from_line, setup_in}
 use Rattle.schedule_text.specs.declared.draft.Draft.{Draft}
+use Rattle.schedule_text.specs.declared.draft.Sizes.{Sizes}
 use Rattle.schedule_text.specs.declared.draft.Stage.{Stage}
 use Rattle.schedule_text.specs.declared.draft.Stage.TheVariants.{Start, Nodes, Faults, Inputs}
 use Rattle.schedule_text.specs.declared.draft.Stage.TheVariants.{Rounds, Whole, Paced}
@@ -34,13 +35,14 @@ unfolding from_line
 said_last j none = ap (λ f. says j.reader f []) none
 
 -- the header is whole at the end
-pub ends_whole : (bytes : List ℕ) (answer : Answer) (d : Draft) (k n t r : ℕ) (p : PlanKind)
-    → IsUtf8 bytes → d.stage ≡ Whole n t r p
+pub ends_whole : (bytes : List ℕ) (answer : Answer) (d : Draft) (k : ℕ) (z : Sizes)
+    (p : PlanKind)
+    → IsUtf8 bytes → d.stage ≡ Whole z p
     → answer ≡ answer_at_end schedules k d.stage (state_of d) → EndsIntake (Ok tt) bytes answer d
-ends_whole bytes answer d k n t r p u whole is = (
+ends_whole bytes answer d k z p u whole is = (
   u,
   (
-    (record { nodes = n; faults = t; inputs = d.inputs.items; rounds = r }, p),
+    (setup_in z d.inputs.items, p),
     ap (λ g. header_at g d.inputs.items) whole,
     is ∙ ap (λ g. answer_at_end schedules k g (state_of d)) whole,
   ),
@@ -59,16 +61,16 @@ no_fault None h = refl
 no_fault (Some e) h = absurd (h e refl)
 
 -- the header isn't whole at the end
-pub ends_short : (d : Draft) (k : ℕ) → ((n t r : ℕ) (p : PlanKind) → d.stage ≡ Whole n t r p → ⊥)
+pub ends_short : (d : Draft) (k : ℕ) → ((z : Sizes) (p : PlanKind) → d.stage ≡ Whole z p → ⊥)
     → answer_at_end schedules k d.stage (state_of d) ≡ Err (schedule.BadLine k)
 ends_short d k h = go d.stage h
   where
-    go : (g : Stage) → ((n t r : ℕ) (p : PlanKind) → g ≡ Whole n t r p → ⊥)
+    go : (g : Stage) → ((z : Sizes) (p : PlanKind) → g ≡ Whole z p → ⊥)
         → answer_at_end schedules k g (state_of d) ≡ Err (schedule.BadLine k)
     go Start h = refl
     go (Nodes n) h = refl
     go (Faults n t) h = refl
     go (Inputs n t) h = refl
-    go (Rounds n t r) h = refl
-    go (Whole n t r p) h = absurd (h n t r p refl)
-    go (Paced n t r p x) h = refl
+    go (Rounds z) h = refl
+    go (Whole z p) h = absurd (h z p refl)
+    go (Paced z p x) h = refl

@@ -6,6 +6,7 @@ use Rattle.std.proofs.lemmas.List.{append-nil, nil_from_length}
 use Rattle.std.specs.Str.Lines.{lines}
 use Rattle.slot_plans.specs.declared.kind.PlanKind.{PlanKind}
 use Rattle.step_machine.specs.declared.event.Event.{Event}
+use Rattle.schedule_text.specs.declared.draft.Sizes.{Sizes}
 use Rattle.schedule_text.specs.declared.draft.Stage.TheVariants.{Whole}
 use Rattle.schedule_text.specs.declared.draft.Draft.{Draft}
 use Rattle.schedule_text.specs.declared.kind.Kind.{Kind}
@@ -59,14 +60,14 @@ module _ (kind : Kind) (text l rest : List ℕ) (s : State)
   front_refused line.NoMemory d is = tt
 
 -- a first line of a schedule that is an event
-pub event_front : (kind : Kind) (text rest : List ℕ) (s after : State) (n t r : ℕ) (p : PlanKind)
-    (e : Event) → kind ≡ Schedule → s.stage ≡ Whole n t r p → IsFrontEvent text e rest
+pub event_front : (kind : Kind) (text rest : List ℕ) (s after : State) (z : Sizes) (p : PlanKind)
+    (e : Event) → kind ≡ Schedule → s.stage ≡ Whole z p → IsFrontEvent text e rest
     → after ≡ record s { events = s.events ++ e ∷ [] } → (k : ℕ) (behind : List (List ℕ))
     → from_line kind k s (lines text ++ behind) ≡ from_line kind (k + 1) after
     (lines rest ++ behind)
-event_front kind text rest s after n t r p e is stage front after-is =
+event_front kind text rest s after z p e is stage front after-is =
     line_taken kind text front.line rest s front.first after (ap (λ c. line_step c s front.line) is
-    ∙ event_taken s n t r p front.line e stage front.event
+    ∙ event_taken s z p front.line e stage front.event
     ∙ ap (λ (x : State). Ok x) (sym after-is))
 
 -- at the end nothing is left but the lines behind the text

@@ -16,7 +16,7 @@ use Rattle.schedule_text.specs.Intakes.{EndsIntake, HasNoEvents, IsFresh, IsLong
 use Rattle.schedule_text.specs.Intakes.{header_in, said, says, without_events}
 use Rattle.schedule_text.specs.Outcome.{state_of}
 use Rattle.schedule_text.specs.Readers.{AdvancesTo, EndsAs, GoesOn, HasRead, IsAhead, IsAll}
-use Rattle.schedule_text.specs.Readers.{IsBegun, IsOf, IsOpened, IsRefusedAhead, IsRefusedAs}
+use Rattle.schedule_text.specs.Readers.{HasReadHeader, IsBegun, IsOf, IsRefusedAhead, IsRefusedAs}
 use Rattle.schedule_text.specs.Readers.{Reading, behind, last_events}
 use Rattle.schedule_text.specs.Readings.{Answer, IsReadingOf}
 use Rattle.schedule_text.specs.Sources.{Adds, IsNoSchedule, IsScheduleText, fault_of}
@@ -321,7 +321,7 @@ refused_unknown (fault.Schedule (schedule.NumberTooLarge n)) = tt
 pub opened : (held : List ℕ) (old new : Reading) (h : Setup × PlanKind)
     → header_in new.intake.reader.draft ≡ Some h → IsAhead held None [] old
     → (new.is_ended ≡ false → GoesOn old new) → (new.is_ended ≡ true → EndsAs old new)
-    → IsOpened held h.0 h.1 new
+    → HasReadHeader held h.0 h.1 new
 opened held old new h whole a goes ends = record {
   before = [];
   parts = refl;
@@ -447,7 +447,7 @@ all_refused (Some held) r e a refused = refused held None [] a
 pub all_opened : (o : Option (List ℕ)) (old new : Reading) (h : Setup × PlanKind)
     → Some h ≡ header_in new.intake.reader.draft → AreAhead o old
     → (new.is_ended ≡ false → GoesOn old new) → (new.is_ended ≡ true → EndsAs old new)
-    → IfSome o (λ held. IsOpened held h.0 h.1 new)
+    → IfSome o (λ held. HasReadHeader held h.0 h.1 new)
 all_opened None old new h is a on ends = tt
 all_opened (Some held) old new h is a on ends = opened held old new h (sym is) a on ends
 

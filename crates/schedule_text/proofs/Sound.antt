@@ -12,6 +12,7 @@ use Rattle.std.proofs.lemmas.List.{append-nil}
 use Rattle.std.proofs.lemmas.List.Elements.{filter-append}
 use Rattle.slot_plans.specs.declared.kind.PlanKind.{PlanKind}
 use Rattle.step_machine.specs.declared.event.Event.{Event}
+use Rattle.schedule_text.specs.declared.draft.Sizes.{Sizes}
 use Rattle.schedule_text.specs.declared.draft.Stage.{Stage}
 use Rattle.schedule_text.specs.declared.draft.Stage.TheVariants.{Start, Nodes, Faults, Inputs}
 use Rattle.schedule_text.specs.declared.draft.Stage.TheVariants.{Rounds, Whole, Paced}
@@ -44,7 +45,8 @@ use Rattle.schedule_text.specs.Stages.{
   mapped,
   one_after,
 }
-use Rattle.schedule_text.specs.Stages.{pace_at_end, pace_of, plan_of, sized, start, stop_of}
+use Rattle.schedule_text.specs.Stages.{pace_at_end, pace_of, plan_of, setup_in, sized, sizes_of}
+use Rattle.schedule_text.specs.Stages.{start, stop_of}
 use Rattle.schedule_text.proofs.Forms.{Formed, line_formed, line_of, stands_at}
 use Rattle.schedule_text.proofs.Places.{may_stand, place_at, sized_err, sized_ok, tells_read}
 
@@ -54,10 +56,11 @@ said_by Start vs es cs = []
 said_by (Nodes n) vs es cs = nodes n ∷ []
 said_by (Faults n t) vs es cs = nodes n ∷ faults t ∷ []
 said_by (Inputs n t) vs es cs = nodes n ∷ faults t ∷ inputs vs ∷ []
-said_by (Rounds n t r) vs es cs = nodes n ∷ faults t ∷ inputs vs ∷ rounds r ∷ []
-said_by (Whole n t r p) vs es cs = nodes n ∷ faults t ∷ inputs vs ∷ rounds r ∷ plan p ∷ map event es
-said_by (Paced n t r p x) vs es cs = nodes n ∷ faults t ∷ inputs vs ∷ rounds r ∷ plan p ∷ pace x
-    ∷ map stop cs
+said_by (Rounds z) vs es cs = nodes z.nodes ∷ faults z.faults ∷ inputs vs ∷ rounds z.rounds ∷ []
+said_by (Whole z p) vs es cs =
+    nodes z.nodes ∷ faults z.faults ∷ inputs vs ∷ rounds z.rounds ∷ plan p ∷ map event es
+said_by (Paced z p x) vs es cs =
+    nodes z.nodes ∷ faults z.faults ∷ inputs vs ∷ rounds z.rounds ∷ plan p ∷ pace x ∷ map stop cs
 
 -- behind a header only a schedule has events, and a thread setup has no stop yet
 abbrev IsEarlyTail : Kind → List Event → List Stop → Type 0
@@ -67,8 +70,8 @@ IsEarlyTail Header es cs = es ≡ []
 
 -- there is no event or stop before the header is whole, and only thread setups have a pace
 abbrev IsEarly : Kind → Stage → List Event → List Stop → Type 0
-IsEarly kind (Whole n t r p) es cs = IsEarlyTail kind es cs
-IsEarly kind (Paced n t r p x) es cs = kind ≡ Threads
+IsEarly kind (Whole z p) es cs = IsEarlyTail kind es cs
+IsEarly kind (Paced z p x) es cs = kind ≡ Threads
 IsEarly kind _ es cs = (es ≡ []) × (cs ≡ [])
 
 abbrev said_of : State → List Line
@@ -99,18 +102,18 @@ early_tail Threads es cs e c = (e, c)
 early_tail Header es cs e c = e
 
 -- behind the header
-module _ (n t r : ℕ) (p : PlanKind) (vs : List ℕ) where
+module _ (z : Sizes) (p : PlanKind) (vs : List ℕ) where
   abbrev head : List Line → List Line
-  head xs = nodes n ∷ faults t ∷ inputs vs ∷ rounds r ∷ plan p ∷ xs
+  head xs = nodes z.nodes ∷ faults z.faults ∷ inputs vs ∷ rounds z.rounds ∷ plan p ∷ xs
 
   abbrev behind : List Event → List Stop → State
-  behind es cs = record { stage = Whole n t r p; inputs = vs; events = es; stops = cs }
+  behind es cs = record { stage = Whole z p; inputs = vs; events = es; stops = cs }
 
   abbrev paced : Pace → List Event → List Stop → State
-  paced x es cs = record { stage = Paced n t r p x; inputs = vs; events = es; stops = cs }
+  paced x es cs = record { stage = Paced z p x; inputs = vs; events = es; stops = cs }
 
   event_stepped : (es : List Event) (cs : List Stop) (l : List ℕ)
-      → Follows Schedule (head (map event es)) (by_stage Schedule (Whole n t r p) (behind es cs) l)
+      → Follows Schedule (head (map event es)) (by_stage Schedule (Whole z p) (behind es cs) l)
       (line_of (place_at Schedule (length (head (map event es)))) l)
   event_stepped es cs l = go (event_of l)
     where
@@ -121,7 +124,7 @@ module _ (n t r : ℕ) (p : PlanKind) (vs : List ℕ) where
       go (Err e) = refl
 
   pace_stepped : (es : List Event) (cs : List Stop) (l : List ℕ) → es ≡ [] → cs ≡ []
-      → Follows Threads (head (map event es)) (by_stage Threads (Whole n t r p) (behind es cs) l)
+      → Follows Threads (head (map event es)) (by_stage Threads (Whole z p) (behind es cs) l)
       (line_of (place_at Threads (length (head (map event es)))) l)
   pace_stepped (e ∷ es) cs l none free = absurd cc
   pace_stepped [] (c ∷ cs) l none free = absurd cc
@@ -133,14 +136,14 @@ module _ (n t r : ℕ) (p : PlanKind) (vs : List ℕ) where
       go (Err e) = refl
 
   end_stepped : (es : List Event) (cs : List Stop) (l : List ℕ) → es ≡ []
-      → Follows Header (head (map event es)) (by_stage Header (Whole n t r p) (behind es cs) l)
+      → Follows Header (head (map event es)) (by_stage Header (Whole z p) (behind es cs) l)
       (line_of (place_at Header (length (head (map event es)))) l)
   end_stepped (e ∷ es) cs l none = absurd cc
   end_stepped [] cs l none = refl
 
   tail_stepped : (kind : Kind) (es : List Event) (cs : List Stop) (l : List ℕ)
       → IsEarlyTail kind es cs
-      → Follows kind (head (map event es)) (by_stage kind (Whole n t r p) (behind es cs) l)
+      → Follows kind (head (map event es)) (by_stage kind (Whole z p) (behind es cs) l)
       (line_of (place_at kind (length (head (map event es)))) l)
   tail_stepped Schedule es cs l early = event_stepped es cs l
   tail_stepped Threads es cs l early = pace_stepped es cs l early.0 early.1
@@ -149,7 +152,7 @@ module _ (n t r : ℕ) (p : PlanKind) (vs : List ℕ) where
   stop_stepped : (kind : Kind) (x : Pace) (es : List Event) (cs : List Stop) (l : List ℕ)
       → kind ≡ Threads
       → Follows kind (head (pace x ∷ map stop cs))
-      (by_stage kind (Paced n t r p x) (paced x es cs) l)
+      (by_stage kind (Paced z p x) (paced x es cs) l)
       (line_of (place_at kind (length (head (pace x ∷ map stop cs)))) l)
   stop_stepped Schedule x es cs l is = absurd cc
   stop_stepped Header x es cs l is = absurd cc
@@ -197,23 +200,29 @@ stepped kind (Inputs n t) vs es cs l early = go (one_after (codes "rounds ") l)
   where
     go : (r : Result ℕ LineFault)
         → Follows kind (nodes n ∷ faults t ∷ inputs vs ∷ [])
-        (mapped (λ r. record { stage = Rounds n t r; inputs = vs; events = es; stops = cs }) r)
+        (mapped (λ r. record {
+          stage = Rounds (sizes_of n t r);
+          inputs = vs;
+          events = es;
+          stops = cs;
+        }) r)
         (mapped (λ n. rounds n) r)
     go (Ok r) = record { said = refl; early = early }
     go (Err e) = refl
-stepped kind (Rounds n t r) vs es cs l early = go (plan_of l)
+stepped kind (Rounds z) vs es cs l early = go (plan_of l)
   where
     go : (a : Result PlanKind LineFault)
-        → Follows kind (nodes n ∷ faults t ∷ inputs vs ∷ rounds r ∷ [])
-        (mapped (λ p. record { stage = Whole n t r p; inputs = vs; events = es; stops = cs }) a)
+        → Follows kind (nodes z.nodes ∷ faults z.faults ∷ inputs vs ∷ rounds z.rounds ∷ [])
+        (mapped (λ p. record { stage = Whole z p; inputs = vs; events = es; stops = cs }) a)
         (mapped (λ p. plan p) a)
     go (Ok p) = record {
-      said = ap (λ xs. nodes n ∷ faults t ∷ inputs vs ∷ rounds r ∷ plan p ∷ map event xs) early.0;
+      said = ap (λ xs. nodes z.nodes ∷ faults z.faults ∷ inputs vs ∷ rounds z.rounds ∷ plan p
+          ∷ map event xs) early.0;
       early = early_tail kind es cs early.0 early.1;
     }
     go (Err e) = refl
-stepped kind (Whole n t r p) vs es cs l early = tail_stepped n t r p vs kind es cs l early
-stepped kind (Paced n t r p x) vs es cs l early = stop_stepped n t r p vs kind x es cs l early
+stepped kind (Whole z p) vs es cs l early = tail_stepped z p vs kind es cs l early
+stepped kind (Paced z p x) vs es cs l early = stop_stepped z p vs kind x es cs l early
 
 -- a line that doesn't count, and one that does
 skipped : (kind : Kind) (s : State) (l : List ℕ) → counts l ≡ false → line_step kind s l ≡ Ok s
@@ -319,13 +328,13 @@ at_end kind all good (Faults n t) vs es cs e told =
     early kind all good (nodes n ∷ faults t ∷ []) told (omega arith)
 at_end kind all good (Inputs n t) vs es cs e told =
     early kind all good (nodes n ∷ faults t ∷ inputs vs ∷ []) told (omega arith)
-at_end kind all good (Rounds n t r) vs es cs e told =
-    early kind all good (nodes n ∷ faults t ∷ inputs vs ∷ rounds r ∷ []) told (omega arith)
-at_end kind all good (Whole n t r p) vs es cs e told =
-    header_ends kind all good (record { nodes = n; faults = t; inputs = vs; rounds = r }) p es cs e
-    told
-at_end kind all good (Paced n t r p x) vs es cs e told =
-    pace_ends kind all (record { nodes = n; faults = t; inputs = vs; rounds = r }) p x cs e told
+at_end kind all good (Rounds z) vs es cs e told =
+    early kind all good (nodes z.nodes ∷ faults z.faults ∷ inputs vs ∷ rounds z.rounds ∷ []) told
+    (omega arith)
+at_end kind all good (Whole z p) vs es cs e told =
+    header_ends kind all good (setup_in z vs) p es cs e told
+at_end kind all good (Paced z p x) vs es cs e told =
+    pace_ends kind all (setup_in z vs) p x cs e told
 
 -- a line behind those that are done, all of them good
 module _ (kind : Kind) (all done : List (List ℕ)) (l : List ℕ) (ls : List (List ℕ))

@@ -22,7 +22,7 @@ use Rattle.schedule_text.specs.Small.{IsSmall, IsSmallPlan, IsSmallName, IsSmall
 use Rattle.schedule_text.specs.Readings.{Answer, IsReading}
 use Rattle.schedule_text.specs.Texts.{Says, max_text}
 use Rattle.schedule_text.specs.Stages.{State, start, after, one_after, inputs_of, plan_of, event_of}
-use Rattle.schedule_text.specs.Stages.{mapped, line_step, go_on, from_line}
+use Rattle.schedule_text.specs.Stages.{mapped, line_step, go_on, from_line, sizes_of}
 use Rattle.schedule_text.specs.Writing.{number_line, inputs_line, plan_line, name_line, copy_ending}
 use Rattle.schedule_text.specs.Writing.{event_line, line_text, header_lines, text_of}
 use Rattle.schedule_text.proofs.Digits.{digits, one_read, values_read, name_read, whole_name_read}
@@ -101,23 +101,25 @@ inputs_read n t (v ∷ vs) lt h =
 rounds_read : (n t r : ℕ) (vs : List ℕ) → IsSmall r
     → line_step Schedule (record { stage = Inputs n t; inputs = vs; events = []; stops = [] })
     (number_line (codes "rounds ") r)
-    ≡ Ok (record { stage = Rounds n t r; inputs = vs; events = []; stops = [] })
+    ≡ Ok (record { stage = Rounds (sizes_of n t r); inputs = vs; events = []; stops = [] })
 unfolding line_step one_after after
 rounds_read n t r vs h =
-    ap (λ x. mapped (λ r. record start { stage = Rounds n t r; inputs = vs }) x) (one_read r h)
+    ap (λ x. mapped (λ r. record start { stage = Rounds (sizes_of n t r); inputs = vs }) x)
+    (one_read r h)
 
 plan_read : (n t r : ℕ) (vs : List ℕ) (p : PlanKind) → IsSmallPlan p
-    → line_step Schedule (record { stage = Rounds n t r; inputs = vs; events = []; stops = [] })
-    (plan_line p) ≡ Ok (record { stage = Whole n t r p; inputs = vs; events = []; stops = [] })
+    → line_step Schedule
+    (record { stage = Rounds (sizes_of n t r); inputs = vs; events = []; stops = [] }) (plan_line p)
+    ≡ Ok (record { stage = Whole (sizes_of n t r) p; inputs = vs; events = []; stops = [] })
 unfolding line_step plan_of one_after after
 plan_read n t r vs (Known d) h =
-    ap (λ x. mapped (λ p. record start { stage = Whole n t r p; inputs = vs })
+    ap (λ x. mapped (λ p. record start { stage = Whole (sizes_of n t r) p; inputs = vs })
     (mapped (λ d. Known d) x)) (one_read d h)
 plan_read n t r vs Growing h = refl
 
 module _ (n t r : ℕ) (vs : List ℕ) (p : PlanKind) where
   abbrev whole : List Event → State
-  whole es = record { stage = Whole n t r p; inputs = vs; events = es; stops = [] }
+  whole es = record { stage = Whole (sizes_of n t r) p; inputs = vs; events = es; stops = [] }
 
   event_read : (seen : List Event) (e : Event) → IsSmallEvent e
       → line_step Schedule (whole seen) (event_line e) ≡ Ok (whole (seen ++ e ∷ []))

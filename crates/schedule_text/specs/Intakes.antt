@@ -7,7 +7,7 @@ use Rattle.schedule_text.specs.Bytes.{BeginsUtf8}
 use Rattle.round_meaning.specs.declared.setup.Setup.{Setup}
 use Rattle.schedule_text.specs.Outcome.{said_by, state_of}
 use Rattle.schedule_text.specs.Readings.{Answer}
-use Rattle.schedule_text.specs.Stages.{start}
+use Rattle.schedule_text.specs.Stages.{setup_in, start}
 use Rattle.schedule_text.specs.declared.draft.Draft.{Draft}
 use Rattle.schedule_text.specs.declared.draft.Stage.{Stage}
 use Rattle.schedule_text.specs.declared.draft.Stage.TheVariants.{Whole}
@@ -56,8 +56,8 @@ HasNoEvents old new = new ≡ record old { reader = without_events old.reader }
 
 -- the setup and the plan of the header, if it is whole
 abbrev pub header_at : Stage → List ℕ → Option (Setup × PlanKind)
-header_at (Whole n t r p) vs =
-    Some (record { nodes = n; faults = t; inputs = vs; rounds = r }, p)
+header_at (Whole z p) vs =
+    Some (setup_in z vs, p)
 header_at _ vs = None
 
 abbrev pub header_in : Draft → Option (Setup × PlanKind)

@@ -18,7 +18,7 @@ use Rattle.schedule_text.specs.declared.kind.Kind.TheVariants as kinds
 use Rattle.schedule_text.specs.declared.reading.Schedule.{Schedule}
 use Rattle.schedule_text.specs.declared.reading.ThreadSetup.{ThreadSetup}
 use Rattle.schedule_text.specs.Readings.{Answer, AnswerOf, IsReadingOf, ReadOf}
-use Rattle.schedule_text.specs.Stages.{State, answer_at_end, at_line, from_line}
+use Rattle.schedule_text.specs.Stages.{State, answer_at_end, at_line, from_line, setup_in}
 
 -- the state that a draft shows
 abbrev pub state_of : Draft → State
@@ -75,8 +75,8 @@ GivesEnd kind (Err e) said = said ≡ Err e
 
 -- the header at this stage where it is whole, or else the fault at line k
 abbrev pub whole_header : ℕ → Stage → List ℕ → Result (Setup × PlanKind) ScheduleFault
-whole_header k (Whole n t r p) vs =
-    Ok (record { nodes = n; faults = t; inputs = vs; rounds = r }, p)
+whole_header k (Whole z p) vs =
+    Ok (setup_in z vs, p)
 whole_header k _ vs = Err (fault.BadLine k)
 
 -- what was returned shows this answer, and only memory excuses another

@@ -71,8 +71,8 @@ pub record HasRead (held : List ℕ) (s : Setup) (k : PlanKind) (events : List E
   pub whole : r.is_ended ≡ true → IsScheduleText held s k events
 
 -- the header was read, and no events but those that were read last
-abbrev pub IsOpened : List ℕ → Setup → PlanKind → Reading → Type 0
-IsOpened held s k r = HasRead held s k (last_events r) r
+abbrev pub HasReadHeader : List ℕ → Setup → PlanKind → Reading → Type 0
+HasReadHeader held s k r = HasRead held s k (last_events r) r
 
 -- whatever was read before, the events that were read last come behind it
 abbrev pub AdvancesTo : (old new : Reading) → Type 0

@@ -14,6 +14,7 @@ use Rattle.schedule_text.specs.declared.fault.LineFault.{LineFault}
 use Rattle.schedule_text.specs.declared.fault.LineFault.TheVariants as line
 use Rattle.schedule_text.specs.declared.fault.ScheduleFault.{ScheduleFault}
 use Rattle.schedule_text.specs.declared.fault.ScheduleFault.TheVariants as fault
+use Rattle.schedule_text.specs.declared.draft.Sizes.{Sizes}
 use Rattle.schedule_text.specs.declared.draft.Stage.{Stage}
 use Rattle.schedule_text.specs.declared.draft.Stage.TheVariants.{Start, Nodes, Faults, Inputs}
 use Rattle.schedule_text.specs.declared.draft.Stage.TheVariants.{Rounds, Whole, Paced}
@@ -139,6 +140,14 @@ stop_in _ = Err line.Bad
 unfoldable pub stop_of : List ℕ → Result Stop LineFault
 stop_of text = stop_in (numbers_after (codes "stop ") text)
 
+-- the sizes that three numbers say
+abbrev pub sizes_of : (nodes faults rounds : ℕ) → Sizes
+sizes_of n t r = record { nodes = n; faults = t; rounds = r }
+
+-- the setup of these sizes and inputs
+abbrev pub setup_in : Sizes → List ℕ → Setup
+setup_in z vs = record { nodes = z.nodes; faults = z.faults; inputs = vs; rounds = z.rounds }
+
 -- what is read so far: how far the header and the pace have come, and beside it the inputs, the
 -- events and the stops
 pub record State : Type 0 where
@@ -157,15 +166,15 @@ by_stage kind (Nodes n) s text =
 by_stage kind (Faults n t) s text =
     mapped (λ vs. record s { stage = Inputs n t; inputs = vs }) (inputs_of text)
 by_stage kind (Inputs n t) s text =
-    mapped (λ r. record s { stage = Rounds n t r }) (one_after (codes "rounds ") text)
-by_stage kind (Rounds n t r) s text =
-    mapped (λ p. record s { stage = Whole n t r p }) (plan_of text)
-by_stage Schedule (Whole n t r p) s text =
+    mapped (λ r. record s { stage = Rounds (sizes_of n t r) }) (one_after (codes "rounds ") text)
+by_stage kind (Rounds z) s text =
+    mapped (λ p. record s { stage = Whole z p }) (plan_of text)
+by_stage Schedule (Whole z p) s text =
     mapped (λ e. record s { events = s.events ++ e ∷ [] }) (event_of text)
-by_stage Threads (Whole n t r p) s text =
-    mapped (λ x. record s { stage = Paced n t r p x }) (pace_of text)
-by_stage Header (Whole n t r p) s text = Err line.Bad
-by_stage kind (Paced n t r p x) s text =
+by_stage Threads (Whole z p) s text =
+    mapped (λ x. record s { stage = Paced z p x }) (pace_of text)
+by_stage Header (Whole z p) s text = Err line.Bad
+by_stage kind (Paced z p x) s text =
     mapped (λ c. record s { stops = s.stops ++ c ∷ [] }) (stop_of text)
 
 -- empty lines and lines that begin with # change nothing
@@ -203,12 +212,10 @@ pace_at_end Header k u p x ss = Err (fault.BadLine k)
 -- at the end the header has to be whole, and a thread setup's pace read; k is the number after the
 -- last line's
 abbrev pub answer_at_end : (kind : Kind) → ℕ → Stage → State → AnswerOf kind
-answer_at_end kind k (Whole n t r p) s =
-    header_at_end kind k (record { nodes = n; faults = t; inputs = s.inputs; rounds = r }) p
-    s.events
-answer_at_end kind k (Paced n t r p x) s =
-    pace_at_end kind k (record { nodes = n; faults = t; inputs = s.inputs; rounds = r }) p x
-    s.stops
+answer_at_end kind k (Whole z p) s =
+    header_at_end kind k (setup_in z s.inputs) p s.events
+answer_at_end kind k (Paced z p x) s =
+    pace_at_end kind k (setup_in z s.inputs) p x s.stops
 answer_at_end kind k _ s = Err (fault.BadLine k)
 
 -- the lines from number k on

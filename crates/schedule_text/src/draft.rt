@@ -16,22 +16,45 @@ use std::alloc::Global;
 use step_machine::Event;
 use stored_events::Events;
 
+/// The numbers of a header, but for the inputs.
+#[derive(Clone, Copy)]
+pub(crate) struct Sizes {
+    pub nodes: u32,
+    pub faults: u32,
+    pub rounds: u32,
+}
+
+impl Sizes {
+    ghost use Rattle.schedule_text.specs.Stages.{setup_in};
+
+    fn setup(self, inputs: Vec<u32>) -> Setup
+        ensures { result ≡ setup_in self inputs.items }
+    {
+        Setup {
+            nodes: self.nodes,
+            faults: self.faults,
+            inputs: Inputs::new(inputs),
+            rounds: self.rounds,
+        }
+    }
+}
+
 /// How far the header and the pace behind it have come: what their lines say so far, but for the
 /// inputs.
 #[derive(Clone, Copy)]
-pub enum Stage {
+pub(crate) enum Stage {
     Start,
     Nodes(u32),
-    Faults(u32, u32),
-    Inputs(u32, u32),
-    Rounds(u32, u32, u32),
-    Whole(u32, u32, u32, PlanKind),
-    Paced(u32, u32, u32, PlanKind, Pace),
+    Faults { nodes: u32, faults: u32 },
+    Inputs { nodes: u32, faults: u32 },
+    Rounds(Sizes),
+    Whole(Sizes, PlanKind),
+    Paced(Sizes, PlanKind, Pace),
 }
 
 /// What is read so far.
 #[derive(Drop)]
-pub struct Draft {
+pub(crate) struct Draft {
     pub stage: Stage,
     pub inputs: Vec<u32>,
     pub events: Events,
@@ -47,7 +70,7 @@ impl Draft {
     ghost use Rattle.schedule_text.specs.declared.kind.Kind.TheVariants as kinds;
 
     /// Nothing read.
-    pub fn new(alloc: Global) -> Draft
+    pub(crate) fn new(alloc: Global) -> Draft
         ensures { state_of result ≡ spec.start }
     {
         Draft {
@@ -60,7 +83,7 @@ impl Draft {
 
     /// Takes in the first line of a text of this kind and answers what follows it; a draft that has
     /// refused one is of no use. The last round is that of the lines before.
-    pub fn read_front<'a>(
+    pub(crate) fn read_front<'a>(
         &mut self,
         alloc: Global,
         kind: Kind,
@@ -109,23 +132,25 @@ impl Draft {
         match self.stage {
             Stage::Start => self.stage = Stage::Nodes(number_after(line, b"nodes ")?),
             Stage::Nodes(nodes) => {
-                self.stage = Stage::Faults(nodes, number_after(line, b"faults ")?)
+                let faults = number_after(line, b"faults ")?;
+                self.stage = Stage::Faults { nodes, faults };
             }
-            Stage::Faults(nodes, faults) => {
+            Stage::Faults { nodes, faults } => {
                 self.inputs = inputs_of(alloc, line)?;
-                self.stage = Stage::Inputs(nodes, faults);
+                self.stage = Stage::Inputs { nodes, faults };
             }
-            Stage::Inputs(nodes, faults) => {
-                self.stage = Stage::Rounds(nodes, faults, number_after(line, b"rounds ")?)
+            Stage::Inputs { nodes, faults } => {
+                let rounds = number_after(line, b"rounds ")?;
+                self.stage = Stage::Rounds(Sizes {
+                    nodes,
+                    faults,
+                    rounds,
+                });
             }
-            Stage::Rounds(nodes, faults, rounds) => {
-                self.stage = Stage::Whole(nodes, faults, rounds, plan_of(line)?)
-            }
-            Stage::Whole(nodes, faults, rounds, plan) => match kind {
+            Stage::Rounds(sizes) => self.stage = Stage::Whole(sizes, plan_of(line)?),
+            Stage::Whole(sizes, plan) => match kind {
                 Kind::Schedule => self.events.push(event_of(line)?)?,
-                Kind::Threads => {
-                    self.stage = Stage::Paced(nodes, faults, rounds, plan, pace_of(line)?)
-                }
+                Kind::Threads => self.stage = Stage::Paced(sizes, plan, pace_of(line)?),
                 Kind::Header => return Err(LineFault::Bad),
             },
             Stage::Paced(..) => self.stops.push(stop_of(line)?)?,
@@ -134,7 +159,7 @@ impl Draft {
     }
 
     /// The schedule, if the header is whole; else the fault at the line past the last.
-    pub fn schedule(self, number: u64) -> Result<Schedule, ScheduleFault>
+    pub(crate) fn schedule(self, number: u64) -> Result<Schedule, ScheduleFault>
         ensures ended { Gives result
             (spec.answer_at_end kinds.Schedule number self.stage (state_of self)) }
         ensures short { result ≢ Err ScheduleFault.TooLong }
@@ -154,7 +179,7 @@ impl Draft {
     }
 
     /// The thread setup, if the pace was read; else the fault at the line past the last.
-    pub fn threads(self, number: u64) -> Result<ThreadSetup, ScheduleFault>
+    pub(crate) fn threads(self, number: u64) -> Result<ThreadSetup, ScheduleFault>
         ensures ended { GivesThreads result
             (spec.answer_at_end kinds.Threads number self.stage (state_of self)) }
         ensures short { result ≢ Err ScheduleFault.TooLong }
@@ -165,11 +190,11 @@ impl Draft {
             stops,
             ..
         } = self;
-        let Stage::Paced(nodes, faults, rounds, plan, pace) = stage else {
+        let Stage::Paced(sizes, plan, pace) = stage else {
             return Err(ScheduleFault::BadLine(number));
         };
         Ok(ThreadSetup {
-            setup: setup_of(nodes, faults, inputs, rounds),
+            setup: sizes.setup(inputs),
             plan,
             pace,
             stops,
@@ -181,34 +206,22 @@ impl Draft {
         ensures { IfOk result (λ header. header ≡ header_in self.now) }
     {
         match self.stage {
-            Stage::Whole(nodes, faults, rounds, plan) => {
+            Stage::Whole(sizes, plan) => {
                 let inputs = self.inputs.to_vec(alloc)?;
-                Ok(Some((setup_of(nodes, faults, inputs, rounds), plan)))
+                Ok(Some((sizes.setup(inputs), plan)))
             }
             _ => Ok(None),
         }
     }
 
     /// The header, if it is whole; else the fault at the line past the last.
-    pub fn header(self, number: u64) -> Result<(Setup, PlanKind), ScheduleFault>
+    pub(crate) fn header(self, number: u64) -> Result<(Setup, PlanKind), ScheduleFault>
         ensures ended { GivesHeader result
             (spec.answer_at_end kinds.Header number self.stage (state_of self)) }
         ensures short { result ≢ Err ScheduleFault.TooLong }
     {
         let Draft { stage, inputs, .. } = self;
         header_of(stage, inputs, number)
-    }
-}
-
-fn setup_of(nodes: u32, faults: u32, inputs: Vec<u32>, rounds: u32) -> Setup
-    ensures { result
-        ≡ record { nodes = nodes; faults = faults; inputs = inputs.items; rounds = rounds } }
-{
-    Setup {
-        nodes,
-        faults,
-        inputs: Inputs::new(inputs),
-        rounds,
     }
 }
 
@@ -221,9 +234,7 @@ fn header_of(
     ensures { result ≡ whole_header number stage inputs.items }
 {
     match stage {
-        Stage::Whole(nodes, faults, rounds, plan) => {
-            Ok((setup_of(nodes, faults, inputs, rounds), plan))
-        }
+        Stage::Whole(sizes, plan) => Ok((sizes.setup(inputs), plan)),
         _ => Err(ScheduleFault::BadLine(number)),
     }
 }

@@ -23,7 +23,7 @@ pub enum ScheduleFault {
 
 /// Why a line is refused.
 #[derive(Clone, Copy, PartialEq, Eq, Debug)]
-pub enum LineFault {
+pub(crate) enum LineFault {
     Bad,
     Large,
     NoMemory,
@@ -35,7 +35,7 @@ impl LineFault {
     ghost use Rattle.schedule_text.specs.declared.fault.ScheduleFault.TheVariants as ScheduleFault;
 
     /// The fault of the line of this number.
-    pub fn at(self, number: u64) -> ScheduleFault
+    pub(crate) fn at(self, number: u64) -> ScheduleFault
         ensures line { result ≡ at_line number self }
         ensures short { result ≢ ScheduleFault.TooLong }
     {

@@ -19,7 +19,7 @@ const LONGEST: usize = 8 + 2 * (NODE_DIGITS + 1) + ROUND_DIGITS + 1;
 /// The node of a first line that is a step and that LF ends, and what follows the line; `None`
 /// if the line is none, has a number of many digits or stands near the text's end.
 #[inline(always)]
-pub fn front_step(text: &[u8]) -> Option<(u32, &[u8])>
+pub(crate) fn front_step(text: &[u8]) -> Option<(u32, &[u8])>
     ensures { IfSome result (λ r. IsFrontEvent text.now (Step r.0) r.1.now) }
 {
     if text.len() < LONGEST {
@@ -35,7 +35,7 @@ pub fn front_step(text: &[u8]) -> Option<(u32, &[u8])>
 
 /// The same for a plain release, of a message's copy 0, by its name.
 #[inline(always)]
-pub fn front_release<'a>(text: &'a [u8], last: &mut LastRound) -> Option<(Name, &'a [u8])>
+pub(crate) fn front_release<'a>(text: &'a [u8], last: &mut LastRound) -> Option<(Name, &'a [u8])>
     ensures { IfSome result (λ r. IsFrontEvent text.now (Release r.0) r.1.now) }
 {
     if text.len() < LONGEST {
@@ -69,7 +69,7 @@ fn front_name<'a>(text: &'a [u8], last: &mut LastRound) -> Option<(Name, &'a [u8
 }
 
 /// The first line without its end, and what follows it.
-pub fn first_line(text: &[u8]) -> (&[u8], &[u8])
+pub(crate) fn first_line(text: &[u8]) -> (&[u8], &[u8])
     requires { 0 < length text.now }
     ensures first { lines text.now ≡ result.0.now ∷ lines result.1.now }
     ensures shorter { length result.1.now < length text.now }

@@ -24,7 +24,7 @@ use std::str;
 /// What was read so far: the lines that were taken in, or the first of them at fault, and the bytes
 /// behind them.
 #[derive(Drop)]
-pub struct Intake {
+pub(crate) struct Intake {
     pub reader: LineReader,
     pub fault: Option<ScheduleFault>,
     pub bytes: Vec<u8>,

@@ -7,7 +7,7 @@ use crate::number::number_before;
 use std::marker::Model;
 
 /// How many digits the number of a round has at most if it is read here.
-pub const ROUND_DIGITS: usize = 8;
+pub(crate) const ROUND_DIGITS: usize = 8;
 
 /// How many bytes a round that is kept has at most, with its LF.
 const KEPT: usize = 7;
@@ -15,7 +15,7 @@ const KEPT: usize = 7;
 /// The round that was read last, with the LF behind it. A text that begins with the same bytes has
 /// the same round, so its digits aren't read again.
 #[derive(Drop)]
-pub struct LastRound {
+pub(crate) struct LastRound {
     // The bytes as one number, in which those under the mask count. Before the first round this is
     // 1 under the mask 0, as no bytes are.
     word: u64,
@@ -36,7 +36,7 @@ impl Model for LastRound {
 
 impl LastRound {
     /// No round yet.
-    pub fn new() -> LastRound {
+    pub(crate) fn new() -> LastRound {
         LastRound {
             word: 1,
             mask: 0,
@@ -47,7 +47,7 @@ impl LastRound {
 
     /// The round that stands before LF at the front of a text, and what follows the LF.
     #[inline(always)]
-    pub fn read<'a>(&mut self, text: &'a [u8]) -> Option<(u32, &'a [u8])>
+    pub(crate) fn read<'a>(&mut self, text: &'a [u8]) -> Option<(u32, &'a [u8])>
         requires { 8 < length text.now }
         ensures { IfSome result (λ r. IsNumberBefore text.now 10 r.0 r.1.now) }
     {

@@ -17,7 +17,7 @@ use std::alloc::Global;
 use step_machine::{Event, Name};
 
 #[tactic(auto, unfolding(crate::specs::Stages::after))]
-pub fn after<'a>(line: &'a [u8], start: &[u8]) -> Option<&'a [u8]>
+pub(crate) fn after<'a>(line: &'a [u8], start: &[u8]) -> Option<&'a [u8]>
     ensures { option_map (λ rest. rest.now) result ≡ spec.after start.now line.now }
 {
     line.strip_prefix(start)
@@ -47,7 +47,7 @@ fn one_number(text: &[u8]) -> Result<u32, LineFault>
 
 /// The number of a line that is this beginning and one number.
 #[tactic(auto, unfolding(crate::specs::Stages::one_after))]
-pub fn number_after(line: &[u8], start: &[u8]) -> Result<u32, LineFault>
+pub(crate) fn number_after(line: &[u8], start: &[u8]) -> Result<u32, LineFault>
     ensures { result ≡ spec.one_after start.now line.now }
 {
     match after(line, start) {
@@ -58,7 +58,7 @@ pub fn number_after(line: &[u8], start: &[u8]) -> Result<u32, LineFault>
 
 /// The plan of a line `plan known D` or `plan growing`.
 #[tactic(auto, unfolding(crate::specs::Stages::plan_of))]
-pub fn plan_of(line: &[u8]) -> Result<PlanKind, LineFault>
+pub(crate) fn plan_of(line: &[u8]) -> Result<PlanKind, LineFault>
     ensures { result ≡ spec.plan_of line.now }
 {
     if is_text(line, b"plan growing") {
@@ -69,7 +69,7 @@ pub fn plan_of(line: &[u8]) -> Result<PlanKind, LineFault>
 
 /// The pace of a line `pace free` or `pace ticks`.
 #[tactic(auto, unfolding(crate::specs::Stages::pace_of))]
-pub fn pace_of(line: &[u8]) -> Result<Pace, LineFault>
+pub(crate) fn pace_of(line: &[u8]) -> Result<Pace, LineFault>
     ensures { result ≡ spec.pace_of line.now }
 {
     if is_text(line, b"pace free") {
@@ -108,7 +108,7 @@ fn sized_stop(node: u64, steps: u64) -> Result<Stop, LineFault>
 
 /// The stop of a line `stop I C`.
 #[tactic(auto, unfolding(crate::specs::Stages::stop_of))]
-pub fn stop_of(line: &[u8]) -> Result<Stop, LineFault>
+pub(crate) fn stop_of(line: &[u8]) -> Result<Stop, LineFault>
     ensures { result ≡ spec.stop_of line.now }
 {
     let Some(rest) = after(line, b"stop ") else {
@@ -182,7 +182,7 @@ fn whole_name_of(text: &[u8]) -> Result<Name, LineFault>
 /// The event of a line `step I`, `release J I R` or `drop J I R`, maybe with a Y, or
 /// `copy J I R Y`.
 #[tactic(auto, unfolding(crate::specs::Stages::event_of))]
-pub fn event_of(line: &[u8]) -> Result<Event, LineFault>
+pub(crate) fn event_of(line: &[u8]) -> Result<Event, LineFault>
     ensures { result ≡ spec.event_of line.now }
 {
     if let Some(rest) = after(line, b"step ") {
@@ -254,7 +254,7 @@ fn too_large(rest: Option<&[u8]>) -> LineFault
 
 /// The values of a line `inputs V V ..`.
 #[tactic(auto, unfolding(crate::specs::Stages::inputs_of))]
-pub fn inputs_of(alloc: Global, line: &[u8]) -> Result<Vec<u32>, LineFault>
+pub(crate) fn inputs_of(alloc: Global, line: &[u8]) -> Result<Vec<u32>, LineFault>
     ensures { GivesItems result (spec.inputs_of line.now) }
 {
     match after(line, b"inputs ") {

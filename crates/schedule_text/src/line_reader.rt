@@ -12,14 +12,14 @@ use std::alloc::Global;
 
 /// What the lines so far say, and the number of the next one.
 #[derive(Drop)]
-pub struct LineReader {
+pub(crate) struct LineReader {
     pub draft: Draft,
     pub number: u64,
 }
 
 impl LineReader {
     /// Before the first line.
-    pub fn new(alloc: Global) -> LineReader
+    pub(crate) fn new(alloc: Global) -> LineReader
         ensures number { result.number ≡ 1 }
         ensures start { state_of result.draft ≡ spec.start }
     {
@@ -30,7 +30,12 @@ impl LineReader {
     }
 
     /// Takes in the lines of a text of this kind; a reader that has refused one is of no use.
-    pub fn read(&mut self, alloc: Global, kind: Kind, text: &[u8]) -> Result<(), ScheduleFault>
+    pub(crate) fn read(
+        &mut self,
+        alloc: Global,
+        kind: Kind,
+        text: &[u8],
+    ) -> Result<(), ScheduleFault>
         requires { self.old.number + length text.now ≤ max_text + 1 }
         ensures number { self.new.number ≤ self.old.number + length text.now }
         ensures read { GivesLines kind result self.old self.new text.now }

@@ -5,12 +5,12 @@ ghost use Rattle.std.specs.List.{prefix_len};
 ghost use Rattle.schedule_text.specs.Fronts.{IsFront, IsNumberBefore, capped, front_value};
 
 /// The largest number that a line may have.
-pub const MAX_NUMBER: u64 = 4_294_967_295;
+pub(crate) const MAX_NUMBER: u64 = 4_294_967_295;
 
 /// The number at the front of a text, and what follows its space, if one does. Each number above
 /// the largest counts as the next one.
 #[derive(Clone, Copy)]
-pub struct Front<'a> {
+pub(crate) struct Front<'a> {
     pub value: u64,
     pub rest: Option<&'a [u8]>,
 }
@@ -33,7 +33,7 @@ fn front_digits(text: &[u8]) -> (usize, u64)
 }
 
 /// The number that a text begins with; `None` if its first word is no number.
-pub fn first_number(text: &[u8]) -> Option<Front<'_>>
+pub(crate) fn first_number(text: &[u8]) -> Option<Front<'_>>
     ensures { IsFront result text.now }
 {
     let (count, value) = front_digits(text);
@@ -55,7 +55,7 @@ pub fn first_number(text: &[u8]) -> Option<Front<'_>>
 /// The number of so many digits at most that stands before this byte at the front of a text, and
 /// what follows the byte. No byte is tested for being there.
 #[inline(always)]
-pub fn number_before(text: &[u8], digits: usize, end: u8) -> Option<(u32, &[u8])>
+pub(crate) fn number_before(text: &[u8], digits: usize, end: u8) -> Option<(u32, &[u8])>
     requires few { digits ≤ 8 }
     requires long { digits < length text.now }
     ensures number { IfSome result (λ r. IsNumberBefore text.now end r.0 r.1.now) }

@@ -1,7 +1,7 @@
 //! Schedules that are read as their events come.
 ghost use Rattle.std.specs.Prelude.{◌≡◌, ◌<◌, IfErr, IfOk, IfSome, Ok, OnOk, false, true};
 ghost use Rattle.schedule_text.specs.Readers.{AdvancesTo, EndsAs, GoesOn, IsAll, IsBegun};
-ghost use Rattle.schedule_text.specs.Readers.{IsOpened, IsRefusedAhead, IsRefusedAs, ahead};
+ghost use Rattle.schedule_text.specs.Readers.{HasReadHeader, IsRefusedAhead, IsRefusedAs, ahead};
 ghost use Rattle.schedule_text.specs.Readers.{last_events};
 ghost use Rattle.schedule_text.specs.Sources.{IsNoSchedule};
 
@@ -52,7 +52,7 @@ impl<S: TextSource + Drop> ScheduleReader<S> {
     /// Reads a text up to its header, whose setup and plan are handed out with the reader.
     pub fn open(alloc: Global, source: S) -> Result<(ScheduleReader<S>, Setup, PlanKind), TextFault>
         ensures opened { IfOk result (λ opened. IfSome (S.left source)
-            (λ held. IsOpened held opened.1 opened.2 opened.0)) }
+            (λ held. HasReadHeader held opened.1 opened.2 opened.0)) }
         ensures refused { IfErr result (IsNoSchedule (S.left source)) }
     {
         let mut reader = ScheduleReader {

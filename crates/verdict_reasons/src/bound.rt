@@ -11,7 +11,7 @@ ghost use Rattle.verdict_reasons.specs.Bound.{IsBreakAt, IsFirstBoundBreak, IsFi
 ghost use Rattle.verdict_reasons.specs.Correct.{AreCounts};
 
 use crate::correct::{COUNTS, correct_step};
-use crate::lacking::open_until;
+use omission_explainer::open_until;
 use omission_reasons::{TraceIndex, first_receive};
 use round_meaning::NodeSet;
 use slot_plans::Plan;

@@ -6,7 +6,6 @@
 mod bound;
 mod correct;
 mod decisions;
-mod lacking;
 mod pace;
 mod sought;
 mod unclear;

@@ -1,5 +1,5 @@
 //! The first row of a report that has what is sought.
-ghost use Rattle.std.specs.Prelude.{◌≡◌, ◌≢◌, ◌≤◌, ◌↔◌, ℕ, IsTrue, MatchOption, Some};
+ghost use Rattle.std.specs.Prelude.{◌≢◌, ◌≤◌, ◌↔◌, ℕ, IsTrue, MatchOption, Some};
 ghost use Rattle.verdict_reasons.specs.Decisions.{IsOtherThan, RowAt};
 ghost use Rattle.verdict_reasons.specs.Seeking.{IsFirstFrom, IsSought};
 

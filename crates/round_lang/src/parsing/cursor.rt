@@ -14,7 +14,7 @@ use crate::parsing::level::{Level, is_level, level_of};
 use crate::token::{Mark, Token, Word, is_mark};
 
 /// Where the next token stands, or where the text ends.
-pub fn span_at(end: usize, tokens: &[Token<'_>]) -> Span {
+pub(crate) fn span_at(end: usize, tokens: &[Token<'_>]) -> Span {
     match tokens {
         [first, ..] => first.span,
         [] => Span {
@@ -26,7 +26,7 @@ pub fn span_at(end: usize, tokens: &[Token<'_>]) -> Span {
 
 /// The tokens after this mark, if it comes next.
 #[tactic(auto, unfolding(crate::specs::Reading::after))]
-pub fn after<'t, 'a>(mark: Mark, tokens: &'t [Token<'a>]) -> Option<&'t [Token<'a>]>
+pub(crate) fn after<'t, 'a>(mark: Mark, tokens: &'t [Token<'a>]) -> Option<&'t [Token<'a>]>
     ensures { option_map rest_of result ≡ reading.after mark (lexemes tokens.now) }
 {
     match tokens {
@@ -45,7 +45,7 @@ pub fn after<'t, 'a>(mark: Mark, tokens: &'t [Token<'a>]) -> Option<&'t [Token<'
 }
 
 /// The tokens after this mark, which has to come next.
-pub fn expect<'t, 'a>(
+pub(crate) fn expect<'t, 'a>(
     end: usize,
     mark: Mark,
     tokens: &'t [Token<'a>],
@@ -60,7 +60,10 @@ pub fn expect<'t, 'a>(
 
 /// The tokens after the `=` that has to come next.
 #[tactic(auto, unfolding(crate::specs::Reading::after_equal))]
-pub fn expect_equal<'t, 'a>(end: usize, tokens: &'t [Token<'a>]) -> Result<&'t [Token<'a>], Fault>
+pub(crate) fn expect_equal<'t, 'a>(
+    end: usize,
+    tokens: &'t [Token<'a>],
+) -> Result<&'t [Token<'a>], Fault>
     ensures { Gives rest_of result (reading.after_equal (lexemes tokens.now)) }
 {
     match tokens {
@@ -74,7 +77,7 @@ pub fn expect_equal<'t, 'a>(end: usize, tokens: &'t [Token<'a>]) -> Result<&'t [
 
 /// The name that has to come next.
 #[tactic(auto, unfolding(crate::specs::Reading::name_at))]
-pub fn name_at<'t, 'a>(
+pub(crate) fn name_at<'t, 'a>(
     end: usize,
     tokens: &'t [Token<'a>],
 ) -> Result<(Name<'a>, &'t [Token<'a>]), Fault>
@@ -98,7 +101,10 @@ pub fn name_at<'t, 'a>(
 
 /// The type that has to come next.
 #[tactic(auto, unfolding(crate::specs::Reading::type_at))]
-pub fn type_at<'t, 'a>(end: usize, tokens: &'t [Token<'a>]) -> Result<(Ty, &'t [Token<'a>]), Fault>
+pub(crate) fn type_at<'t, 'a>(
+    end: usize,
+    tokens: &'t [Token<'a>],
+) -> Result<(Ty, &'t [Token<'a>]), Fault>
     ensures { Gives left_of result (reading.type_at (lexemes tokens.now)) }
 {
     match tokens {
@@ -112,7 +118,7 @@ pub fn type_at<'t, 'a>(end: usize, tokens: &'t [Token<'a>]) -> Result<(Ty, &'t [
 
 /// The value of digits, if each above the largest number counts as the next one.
 #[tactic(auto, unfolding(crate::specs::Reading::capped_value))]
-pub fn value_of(digits: &[u8]) -> u64
+pub(crate) fn value_of(digits: &[u8]) -> u64
     ensures { result ≡ reading.capped_value digits.now }
 {
     digits.iter().fold(0u64, |n, b| {
@@ -138,7 +144,7 @@ fn value_within(span: Span, least: u64, most: u64, digits: &[u8]) -> Result<u32,
 
 /// The number that has to come next, within its limits.
 #[tactic(auto, unfolding(crate::specs::Reading::number_at))]
-pub fn number_at<'t, 'a>(
+pub(crate) fn number_at<'t, 'a>(
     end: usize,
     least: u64,
     most: u64,
@@ -159,7 +165,7 @@ pub fn number_at<'t, 'a>(
 
 /// An operator of the level, if one comes next, and the tokens after it.
 #[tactic(auto, unfolding(crate::specs::Reading::operator_at))]
-pub fn operator_at<'t, 'a>(
+pub(crate) fn operator_at<'t, 'a>(
     level: Level,
     tokens: &'t [Token<'a>],
 ) -> Option<(BinaryOperator, &'t [Token<'a>])>
@@ -185,7 +191,7 @@ pub fn operator_at<'t, 'a>(
 
 /// Whether this mark comes next.
 #[tactic(auto, unfolding(crate::specs::Reading::begins_with))]
-pub fn begins_with(mark: Mark, tokens: &[Token<'_>]) -> bool
+pub(crate) fn begins_with(mark: Mark, tokens: &[Token<'_>]) -> bool
     ensures { result ≡ reading.begins_with mark (lexemes tokens.now) }
 {
     match tokens {
@@ -199,7 +205,7 @@ pub fn begins_with(mark: Mark, tokens: &[Token<'_>]) -> bool
 
 /// Whether a name comes next.
 #[tactic(auto, unfolding(crate::specs::Reading::begins_name))]
-pub fn begins_name(tokens: &[Token<'_>]) -> bool
+pub(crate) fn begins_name(tokens: &[Token<'_>]) -> bool
     ensures { result ≡ reading.begins_name (lexemes tokens.now) }
 {
     match tokens {

@@ -20,7 +20,7 @@ use std::alloc::Global;
 
 /// What a parser carries along: its allocator, and the length of the text.
 #[derive(Clone, Copy)]
-pub struct Parser {
+pub(crate) struct Parser {
     pub alloc: Global,
     pub end: usize,
 }
@@ -39,7 +39,7 @@ pub fn identifier(alloc: Global, name: Name<'_>) -> Result<Identifier, NoMemory>
 /// room.
 #[cycle(expr)]
 #[tactic(auto, unfolding(crate::specs::Reading::parse))]
-pub fn read<'t, 'a>(
+pub(crate) fn read<'t, 'a>(
     parser: Parser,
     room: usize,
     level: Level,

@@ -7,7 +7,7 @@ use crate::expr::BinaryOperator;
 
 /// A level of the grammar.
 #[derive(Clone, Copy, PartialEq, Eq, Debug)]
-pub enum Level {
+pub(crate) enum Level {
     Whole,
     Disjunction,
     Conjunction,
@@ -20,7 +20,7 @@ pub enum Level {
 }
 
 /// The level of what an operator of this level takes at its right.
-pub fn tighter(level: Level) -> Level
+pub(crate) fn tighter(level: Level) -> Level
     ensures { result ≡ grammar.tighter level }
 {
     match level {
@@ -37,7 +37,7 @@ pub fn tighter(level: Level) -> Level
 }
 
 /// The level of an operator that stands between its operands.
-pub fn level_of(operator: BinaryOperator) -> Option<Level>
+pub(crate) fn level_of(operator: BinaryOperator) -> Option<Level>
     ensures { result ≡ grammar.level_of operator }
 {
     match operator {
@@ -63,7 +63,7 @@ pub fn level_of(operator: BinaryOperator) -> Option<Level>
 
 /// Whether two levels are the same.
 #[tactic(auto, unfolding(crate::specs::Reading::same_level))]
-pub fn is_level(a: Level, b: Level) -> bool
+pub(crate) fn is_level(a: Level, b: Level) -> bool
     ensures { result ≡ reading.same_level a b }
 {
     a == b

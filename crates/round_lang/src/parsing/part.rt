@@ -24,7 +24,7 @@ use std::alloc::Global;
 
 /// What a declaration declares.
 #[derive(Drop)]
-pub enum Declaration {
+pub(crate) enum Declaration {
     Variable(Variable),
     Decide(Identifier),
 }
@@ -136,7 +136,7 @@ fn read_declaration<'t, 'a>(
 
 /// What a program declares.
 #[derive(Drop)]
-pub struct Declared {
+pub(crate) struct Declared {
     pub variables: Vec<Variable>,
     pub decides: Vec<Identifier>,
 }
@@ -156,7 +156,7 @@ impl Declared {
     }
 }
 
-pub fn declarations<'t, 'a>(
+pub(crate) fn declarations<'t, 'a>(
     parser: Parser,
     tokens: &'t [Token<'a>],
 ) -> Result<(Declared, &'t [Token<'a>]), Fault>
@@ -339,7 +339,7 @@ fn block<'t, 'a>(parser: Parser, tokens: &'t [Token<'a>]) -> Result<(Block, &'t 
     Ok((block, rest))
 }
 
-pub fn blocks<'t, 'a>(
+pub(crate) fn blocks<'t, 'a>(
     parser: Parser,
     tokens: &'t [Token<'a>],
 ) -> Result<(Vec<Block>, &'t [Token<'a>]), Fault>

@@ -1,6 +1,6 @@
 use Rattle.std.proofs.Common.{◌≡◌, ◌∙◌, All, Ok, ap, false, subst, sym, true}
 use Rattle.adversary.specs.Driving.{IsKnown}
-use Rattle.adversary.specs.Reading.{IsReadAs}
+use Rattle.adversary.specs.Reading.{IsScheduleOf}
 use Rattle.adversary.specs.declared.fault.ReadFault.TheVariants as fault
 use Rattle.adversary.proofs.ReadRuns.{read_on, read_run, read_whole, refused_text, stopped, unfit}
 use Rattle.adversary.proofs.read.run_read.Goals as goal
@@ -47,7 +47,7 @@ returns-then-not-branch-clause-read g c =
     let out = read_run c.args.program.now c.args.setup.now c.args.plan c.args.reader
     c.loop-next.driver c.loop-next.reader c.in-Ok.next c.events.result.now c.events.ensures
     c.in-Ok.ensures.plan c.in-Ok.ensures.log c.in-Ok.ensures.known c.loop-next.invariant in
-    subst (λ j. IsReadAs c.args.setup.now c.args.reader j.log.trace)
+    subst (λ j. IsScheduleOf c.args.setup.now c.args.reader j.log.trace)
     (sym c.into_journal.ensures.same)
     (read_whole c.args.program.now c.args.setup.now c.args.plan c.args.reader c.in-Ok.next
     c.loop-next.reader (c.in_ok-advance.ensures.ended (ap Ok c.if-not-branch.true)) out)

@@ -1,5 +1,5 @@
 use Rattle.std.proofs.Common.{◌≡◌, ◌∙◌, List, Some, ap, subst, sym, ℕ}
-use Rattle.schedule_text.specs.Readers.{IsOpened}
+use Rattle.schedule_text.specs.Readers.{HasReadHeader}
 use Rattle.schedule_text.specs.declared.kind.Kind.TheVariants as kinds
 use Rattle.command_runs.proofs.Refusing.{err_then, no_schedule}
 use Rattle.command_runs.proofs.drawing.open_text.Goals as goal
@@ -19,5 +19,5 @@ returns-in_err-reader-clause-refused c =
 pub returns-clause-opened : goal.returns-clause-opened
 returns-clause-opened c =
     let o = c.in_ok-reader in
-    subst (λ (t : List ℕ). IsOpened t o.setup o.plan o.reader)
+    subst (λ (t : List ℕ). HasReadHeader t o.setup o.plan o.reader)
     (c.in_ok-file.ensures ∙ c.as_bytes.ensures.value) o.ensures.opened

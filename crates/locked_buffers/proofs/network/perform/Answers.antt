@@ -1,6 +1,5 @@
-use Rattle.std.proofs.Common.{◌≡◌, refl, subst}
+use Rattle.std.proofs.Common.{◌≡◌, subst}
 use Rattle.step_machine.specs.Sealed.{original}
-use Rattle.step_book.specs.Buffers.{IsSameRun}
 use Rattle.step_journal.specs.Fits.{place_among}
 use Rattle.locked_buffers.specs.Acts.{made_by}
 use Rattle.locked_buffers.specs.declared.act.Act.{Act}
@@ -11,8 +10,8 @@ pub put-requires-clause-honest : goal.put-requires-clause-honest
 put-requires-clause-honest g c =
     let frames = c.args.buffer.now.frames in
     let nodes = c.args.run.now.setup.nodes in
-    let same : IsSameRun frames frames = record { program = refl; setup = refl } in
-    spelt_made frames frames c.args.name.copy c.args.name.round
-    (place_among nodes (original c.args.name)) c.args.found.copied c.in-Some.frame c.honest.ensures
-    (subst (λ (a : Act). c.args.found.copied ≡ made_by nodes a c.args.name frames) c.in-Copy.is
-    c.requires.ready.copied) c.in-Some.is same
+    let n = c.args.name in
+    spelt_made frames n.copy n.round (place_among nodes (original n)) c.args.found.copied
+    c.in-Some.frame c.honest.ensures
+    (subst (λ (a : Act). c.args.found.copied ≡ made_by nodes a n frames) c.in-Copy.is
+    c.requires.ready.copied) c.in-Some.is

@@ -7,7 +7,7 @@ use Rattle.step_book.specs.World.{nodes_of}
 use Rattle.step_book.proofs.Reading.{nodes_are}
 use Rattle.step_machine.specs.declared.event.Event.TheVariants.{Step}
 use Rattle.lockstep_runs.specs.Changes.{own_delay, timing_by}
-use Rattle.lockstep_runs.specs.Pacing.{IsFlight}
+use Rattle.lockstep_runs.specs.Pacing.{HoldsByTicks}
 use Rattle.lockstep_runs.proofs.Maps.{inserted}
 use Rattle.lockstep_runs.proofs.Paces.{later, on_record, step_quiet, waits_more}
 use Rattle.lockstep_runs.proofs.Ticks.{no_original, slot_here, stays_aloft, stays_down, takes_off}
@@ -34,7 +34,7 @@ returns-in_default-clause-flight g c =
     let inside : c.args.node < nodes_of w =
     (let n = nodes_are (start j.plan) j.log in let l = c.requires.node in omega arith) in
     on_record start j k (Step c.args.node)
-    (λ w t. IsFlight w
+    (λ w t. HoldsByTicks w
     (timing_by c.args.course.now.bounded.now c.args.course.now.changes.now
     c.args.course.now.correct.bits) t c.args.flight.now) same more
     (step_quiet w c.requires.plan

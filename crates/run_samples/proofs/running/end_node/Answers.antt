@@ -8,7 +8,7 @@ use Rattle.round_meaning.specs.Rounds.{algorithm, algorithm_of}
 use Rattle.round_explorer.specs.Reached.{end_without}
 use Rattle.round_explorer.specs.Searched.{Track, note_of, search_of}
 use Rattle.step_code.specs.Turns.{IsOfState}
-use Rattle.run_samples.specs.Samples.{Loses}
+use Rattle.round_explorer.specs.Searched.{Loses}
 use Rattle.run_samples.proofs.RunLaws.{ends_by}
 use Rattle.run_samples.proofs.running.end_node.Goals as goal
 

@@ -1,7 +1,7 @@
 use Rattle.std.proofs.Common.{subst}
 use Rattle.std.specs.Prelude.{IfSome}
 use Rattle.std.proofs.lemmas.Result.{IfErr-weaker}
-use Rattle.schedule_text.specs.Readers.{IsOpened}
+use Rattle.schedule_text.specs.Readers.{HasReadHeader}
 use Rattle.command_runs.proofs.Refusing.{told_after, unanswered_offer, unanswered_run}
 use Rattle.command_runs.proofs.Serving.{answers_run, ok_then, program_of}
 use Rattle.command_runs.proofs.Telling.{held_back, opened_is}
@@ -14,7 +14,7 @@ returns-in-Ok-clause-answer g c =
     let run = c.args.self.now in
     let files = g.D.Desk.files c.args.desk.now in
     let o = c.in_ok-schedule.schedule in
-    let begun = subst (λ file. IfSome file (λ held. IsOpened held o.setup o.plan o.reader))
+    let begun = subst (λ file. IfSome file (λ held. HasReadHeader held o.setup o.plan o.reader))
     (c.open.ensures.files run.schedule.now) c.in_ok-schedule.ensures.opened in
     let is = program_of run.source files c.in_ok-opened.opened o.setup.nodes o.setup.faults
     c.in-Ok.program c.in_ok-opened.ensures.opened c.in-Ok.ensures.program in
@@ -28,7 +28,7 @@ returns-in-Ok-clause-refused g c =
     let run = c.args.self.now in
     let files = g.D.Desk.files c.args.desk.now in
     let o = c.in_ok-schedule.schedule in
-    let begun = subst (λ file. IfSome file (λ held. IsOpened held o.setup o.plan o.reader))
+    let begun = subst (λ file. IfSome file (λ held. HasReadHeader held o.setup o.plan o.reader))
     (c.open.ensures.files run.schedule.now) c.in_ok-schedule.ensures.opened in
     let is = program_of run.source files c.in_ok-opened.opened o.setup.nodes o.setup.faults
     c.in-Ok.program c.in_ok-opened.ensures.opened c.in-Ok.ensures.program in
@@ -45,7 +45,7 @@ returns-in-Err-clause-refused g c =
     let o = c.in_ok-schedule.schedule in
     let n = o.setup.nodes in
     let t = o.setup.faults in
-    let begun = subst (λ file. IfSome file (λ held. IsOpened held o.setup o.plan o.reader))
+    let begun = subst (λ file. IfSome file (λ held. HasReadHeader held o.setup o.plan o.reader))
     (c.open.ensures.files run.schedule.now) c.in_ok-schedule.ensures.opened in
     let opened = opened_is run.source files c.in_ok-opened.opened c.in_ok-opened.ensures.opened in
     let held = held_back run.source files c.in_ok-opened.opened n t c.in-Err.refusal

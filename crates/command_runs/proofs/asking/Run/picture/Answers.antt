@@ -1,7 +1,7 @@
 use Rattle.std.proofs.Common.{◌≡◌, List, Some, inl, inr, ℕ, subst, sym}
 use Rattle.std.specs.Prelude.{string_bytes}
 use Rattle.std.proofs.lemmas.Result.{IfErr-weaker}
-use Rattle.schedule_text.specs.Readers.{IsOpened}
+use Rattle.schedule_text.specs.Readers.{HasReadHeader}
 use Rattle.command_runs.proofs.Drawn.{draws_run, missing_in, opened_in, undrawn_offer, undrawn_run}
 use Rattle.command_runs.proofs.Refusing.{err_then, no_text_of, told_after}
 use Rattle.command_runs.proofs.Serving.{ok_then, program_of}
@@ -24,7 +24,7 @@ returns-in-Ok-clause-drawn g c =
     (subst (λ file. HoldsWhole max_text file text) (c.open.ensures.files run.schedule.now)
     c.in_ok-text.ensures.held) in
     let begun = opened_in file text o.setup o.plan o.reader held
-    (subst (λ (t : List ℕ). IsOpened t o.setup o.plan o.reader) c.as_str.ensures.value
+    (subst (λ (t : List ℕ). HasReadHeader t o.setup o.plan o.reader) c.as_str.ensures.value
     c.in_ok-schedule.ensures.opened) in
     let is = program_of run.source files c.in_ok-opened.opened o.setup.nodes o.setup.faults
     c.in-Ok.program c.in_ok-opened.ensures.opened c.in-Ok.ensures.program in
@@ -43,7 +43,7 @@ returns-in-Ok-clause-refused g c =
     (subst (λ file. HoldsWhole max_text file text) (c.open.ensures.files run.schedule.now)
     c.in_ok-text.ensures.held) in
     let begun = opened_in file text o.setup o.plan o.reader held
-    (subst (λ (t : List ℕ). IsOpened t o.setup o.plan o.reader) c.as_str.ensures.value
+    (subst (λ (t : List ℕ). HasReadHeader t o.setup o.plan o.reader) c.as_str.ensures.value
     c.in_ok-schedule.ensures.opened) in
     let is = program_of run.source files c.in_ok-opened.opened o.setup.nodes o.setup.faults
     c.in-Ok.program c.in_ok-opened.ensures.opened c.in-Ok.ensures.program in
@@ -65,7 +65,7 @@ returns-clause-refused g c =
     (subst (λ file. HoldsWhole max_text file text) (c.open.ensures.files run.schedule.now)
     c.in_ok-text.ensures.held) in
     let begun = opened_in file text o.setup o.plan o.reader held
-    (subst (λ (t : List ℕ). IsOpened t o.setup o.plan o.reader) c.as_str.ensures.value
+    (subst (λ (t : List ℕ). HasReadHeader t o.setup o.plan o.reader) c.as_str.ensures.value
     c.in_ok-schedule.ensures.opened) in
     let opened = opened_is run.source files c.in_ok-opened.opened c.in_ok-opened.ensures.opened in
     let back = held_back run.source files c.in_ok-opened.opened n t c.in-Err.refusal

@@ -11,7 +11,7 @@ returns-in-Some c =
     let front = c.in-Some.ensures in (
       front.shorter,
       event_front c.args.kind c.args.text.now c.in-Some.rest.now
-          (state_of c.args.self.now) _ _ _ _ _ (Step c.in-Some.node) c.in-Schedule.is c.in-Whole.is
+          (state_of c.args.self.now) _ _ _ (Step c.in-Some.node) c.in-Schedule.is c.in-Whole.is
           front (ap (λ (es : List Event). record (state_of c.args.self.now) { events = es })
           c.in_ok-push.ensures.ok),
     )
@@ -21,7 +21,7 @@ returns-in-Some-front_release c =
     let front = c.in-Some-front_release.ensures in (
       front.shorter,
       event_front c.args.kind c.args.text.now c.in-Some-front_release.rest.now
-          (state_of c.args.self.now) _ _ _ _ _ (Release c.in-Some-front_release.name)
+          (state_of c.args.self.now) _ _ _ (Release c.in-Some-front_release.name)
           c.in-Schedule.is
           c.in-Whole.is front
           (ap (λ (es : List Event). record (state_of c.args.self.now) { events = es })

@@ -21,7 +21,7 @@ returns-in-Whole c =
     let j = c.read.new.self in
     let u = subst IsUtf8 c.deref.ensures.value (c.is_utf8.ensures.0 c.if-not-is_utf8.false) in
     ends_whole i.bytes.items (said i (lines i.bytes.items)) j.reader.draft j.reader.number
-    c.in-Whole.field-0 c.in-Whole.field-1 c.in-Whole.field-2 c.in-Whole.field-3 u c.in-Whole.is
+    c.in-Whole.field-0 c.in-Whole.field-1 u c.in-Whole.is
     (said_all i j c.len-count.result (omega (arith, c.len-count.ensures)) c.in_ok-read.ensures.said
     ∙ said_last j (no_fault j.fault c.in_default.not-Some))
 

@@ -9,7 +9,7 @@ use step_book::{Book, Mark};
 use step_machine::Name;
 
 /// Up to which step number its receiver lacks a message: its copies' least.
-pub(crate) fn open_until<P: Plan>(book: &Book<P>, name: Name) -> u64
+pub fn open_until<P: Plan>(book: &Book<P>, name: Name) -> u64
     requires { IsName book.now.log.setup name }
     ensures { result ≡ open_until (count_of book.now.log name.to)
         (marks_of (world_of (P.start book.now.plan) book.now.log) (history book.now.log) name) }
