@@ -159,6 +159,7 @@ fn block_layout(program: &Checked, place: usize, block: &Block) -> Result<BlockL
     ensures value { IfOk result (λ b. b ≡ slice_index_or (message_kinds program.now) place []) }
     ensures block { IfOk result IsBlock }
 {
+    // Nothing at run time: how many values and fields there can be.
     let _values = program.program().values();
     let _fields = block.fields();
     Ok(BlockLayout::new(shape_at(program, place)?))

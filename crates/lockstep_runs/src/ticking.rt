@@ -47,7 +47,6 @@ pub(crate) fn tick<P: Plan>(
         driver = driver.act(Event::Release(name))?;
     }
     let book = driver.journal().book();
-    book.agrees();
     let nodes = book.setup().nodes;
     let first = course.bounded.orders.entry(now as usize, 0) % nodes;
     for turn in 0..nodes {

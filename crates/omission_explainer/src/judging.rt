@@ -156,7 +156,6 @@ fn has_receive<P: Plan>(book: &Book<P>, low: u64, high: u64) -> bool
     if high <= low {
         return false;
     }
-    book.agrees();
     let plan = book.plan();
     if low >= u64::from(plan.start(book.setup().rounds + 1)) {
         return false;

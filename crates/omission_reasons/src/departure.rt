@@ -78,7 +78,6 @@ fn first_after<P: Plan>(
         ((k : ℕ) → after < k → ¬ IsSoughtAt sought book.now.log.trace name k)
         (IsFirstAfter (IsSoughtAt sought book.now.log.trace name) after) }
 {
-    book.agrees();
     let trace = book.trace();
     for place in index.of_message(book.setup().nodes, name) {
         if after < *place && is_sought_at(trace, *place, sought, name) {

@@ -24,7 +24,6 @@ impl TraceIndex {
     pub fn new<P: Plan>(alloc: Global, book: &Book<P>) -> Result<TraceIndex, NoMemory>
         ensures { IfOk result (IsIndexOf book.now.log) }
     {
-        book.agrees();
         let nodes = book.setup().nodes;
         let mut index = TraceIndex {
             steps: Places::new(alloc),
@@ -46,9 +45,9 @@ impl TraceIndex {
     {
         match event {
             Event::Step(node) => self.steps.add(node as usize, place),
-            Event::Release(name) => self.events.add(number_of(nodes, name), place),
-            Event::Drop(name) => self.events.add(number_of(nodes, name), place),
-            Event::Copy(name) => self.events.add(number_of(nodes, name), place),
+            Event::Release(name) | Event::Drop(name) | Event::Copy(name) => {
+                self.events.add(number_of(nodes, name), place)
+            }
         }
     }
 

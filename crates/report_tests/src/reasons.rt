@@ -70,7 +70,6 @@ pub(crate) fn tell_reasons<P: Plan>(
     book: &Book<P>,
     out: &mut Vec<u8>,
 ) -> Result<(), Fault> {
-    book.agrees();
     let index = TraceIndex::new(alloc, book)?;
     let nodes = book.setup().nodes;
     for round in 1..book.setup().rounds + 1 {

@@ -1,3 +1,4 @@
+pub mod Events
 pub mod Laws
 pub mod Limits
 pub mod Names

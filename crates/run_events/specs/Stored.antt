@@ -1,5 +1,6 @@
 -- Events and names in few bytes.
 use Rattle.std.specs.Prelude.{ℕ, ◌/◌, ◌%◌, ◌<◌, ◌≤◌, List, [], ◌∷◌}
+use Rattle.run_events.specs.Events.{of_event}
 use Rattle.run_events.specs.Limits.{max_copy, max_nodes}
 use Rattle.run_events.specs.declared.event.Event.{Event}
 use Rattle.run_events.specs.declared.event.Event.TheVariants as event
@@ -32,10 +33,7 @@ pub record IsStorableName (n : Name) : Type 0 where
 
 -- the numbers of the event are small enough to be stored
 abbrev pub IsStorable : Event → Type 0
-IsStorable (event.Step i) = i < max_nodes
-IsStorable (event.Release n) = IsStorableName n
-IsStorable (event.Drop n) = IsStorableName n
-IsStorable (event.Copy n) = IsStorableName n
+IsStorable e = of_event (λ i. i < max_nodes) IsStorableName e
 
 -- if there are events, the first has too large numbers
 abbrev pub AreLate : List Event → Type 0

@@ -134,20 +134,26 @@ impl<P: Plan> Book<P> {
         &self.program
     }
 
+    /// The setup, which is lawful for the program.
     pub fn setup(&self) -> &Setup
-        ensures { result.now ≡ self.now.log.setup }
+        ensures value { result.now ≡ self.now.log.setup }
+        ensures lawful { IsLawful self.now.log.program.values self.now.log.setup }
     {
         &self.setup
     }
 
+    /// The plan, which has the setup's number of nodes.
     pub fn plan(&self) -> P
-        ensures { result ≡ self.now.plan }
+        ensures value { result ≡ self.now.plan }
+        ensures sized { P.nodes self.now.plan ≡ self.now.log.setup.nodes }
     {
         self.plan
     }
 
+    /// The events, in their order; what is recorded of them agrees with the run in rounds.
     pub fn trace(&self) -> &[StoredEvent]
-        ensures { result.now ≡ self.now.log.trace }
+        ensures value { result.now ≡ self.now.log.trace }
+        ensures faithful { IsFaithful (P.start self.now.plan) self.now.log }
     {
         &self.trace
     }

@@ -67,7 +67,6 @@ fn is_named<P: Plan>(book: &Book<P>, frame: &SealedView<'_>, name: Name) -> bool
 fn is_recorded<P: Plan>(book: &Book<P>, frame: &SealedView<'_>) -> bool
     ensures { IsTrue result ↔ IsRecorded book.now.log.rows frame.now }
 {
-    book.agrees();
     let name = frame.name();
     if name.from >= book.setup().nodes {
         return false;
@@ -107,7 +106,6 @@ fn flies_as<P: Plan>(book: &Book<P>, buffer: &Buffer, node: u32, copy: u32) -> b
     ensures { IsTrue result ↔ FliesAs (P.start book.now.plan) book.now.log buffer.now node copy
         book.now.log.setup.rounds }
 {
-    book.agrees();
     let first = copy as usize * book.setup().nodes as usize;
     if !book.has_copies(copy) && buffer.is_free_from(first) {
         return true;

@@ -347,7 +347,8 @@ impl<P: Plan> Journal<P> {
             (CloseCause (P.start self.old.plan) self.old.log finished.now.node.now) }
     {
         self.book.agrees();
-        let _one = finished.node();
+        // Nothing at run time: what is known of the node.
+        let _node = finished.node();
         self.book.close(finished)?;
         Ok(())
     }
@@ -362,7 +363,8 @@ impl<P: Plan> Journal<P> {
         ensures err { OnErr result (self.new ≡ self.old) }
     {
         self.book.agrees();
-        let _one = finished.node();
+        // Nothing at run time: what is known of the node.
+        let _node = finished.node();
         let state = finished.stored_state()?;
         self.book.record_close(finished, state)?;
         Ok(())

@@ -23,7 +23,6 @@ fn layout_of(alloc: Global, journal: &Journal<Known>) -> Result<Layout, NoMemory
         ≡ format_of journal.now.log.program journal.now.log.setup.nodes) }
 {
     let book = journal.book();
-    book.agrees();
     let program = book.program();
     let nodes = book.setup().nodes;
     match Layout::of(alloc, program, nodes) {

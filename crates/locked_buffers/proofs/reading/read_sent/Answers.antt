@@ -42,5 +42,5 @@ returns-clause-sent g c =
         | in_default w ↦ ap (λ v. v.items) w.sent-is
             ∙ past old names k w.in_default.ensures.lookup.0
       ];
-      counted = ap length c.trace.ensures;
+      counted = ap length c.trace.ensures.value;
     }

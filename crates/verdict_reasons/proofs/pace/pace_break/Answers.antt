@@ -27,7 +27,7 @@ returns-in-Some-node_behind g c =
     let low = c.loop-place-test.true in
     let p = moment_at i xs in
     let stands : At p (Step k) (history v) =
-    subst (λ z. At p (Step k) (reverse z)) c.trace-event-items.ensures
+    subst (λ z. At p (Step k) (reverse z)) c.trace-event-items.ensures.value
     (at_moment xs i _ (Step k) low (sym c.event-item.is ∙ sym c.event.ensures ∙ step.step)) in
     break_found v.trace c.args.correct.bits k i p c.loop-place.counts stands
     (moment_short xs i (omega arith)) step.correct_node c.loop-place.invariant.tallied
@@ -77,4 +77,4 @@ returns g c =
     (lockstep_placed v.trace c.args.correct.bits).0
     (subst (IsPacedTo c.args.correct.bits)
     (ap reverse (take_all c.loop-place.place xs c.loop-place-test.false
-    ∙ c.trace-event-items.ensures)) c.loop-place.invariant.paced)
+    ∙ c.trace-event-items.ensures.value)) c.loop-place.invariant.paced)
