@@ -25,11 +25,10 @@ mod showing;
 use node::Node;
 use reading::{checked_of, setup_of};
 use std::alloc::Global;
-use std::io::Write;
 use std::process::ExitCode;
 use std::{env, fs, io};
 use step_code::compile;
-use test_kit::{Fault, number};
+use test_kit::{Fault, end, number};
 
 /// A line for each act of a node.
 fn answer_all(
@@ -71,19 +70,6 @@ fn answer(rt: &HostRuntime, alloc: Global) -> Result<String, Fault> {
     Ok(out)
 }
 
-fn run(rt: &HostRuntime) -> Result<(), Fault> {
-    let out = answer(rt, rt.alloc())?;
-    rt.stdout().write_all(out.as_bytes())?;
-    Ok(())
-}
-
 fn main(rt: HostRuntime) -> ExitCode {
-    match run(&rt) {
-        Ok(()) => ExitCode::SUCCESS,
-        Err(fault) => {
-            // Where standard error fails too there is nobody left to tell.
-            let _ = writeln!(rt.stderr(), "{fault}");
-            ExitCode::from(fault.status())
-        }
-    }
+    end(&rt, answer(&rt, rt.alloc()))
 }

@@ -141,10 +141,6 @@ fn run<R: Threads + Wait + Sync>(
 fn main(rt: HostRuntime) -> ExitCode {
     match run(&rt, &rt, rt.alloc()) {
         Ok(status) => ExitCode::from(status),
-        Err(fault) => {
-            // Where standard error fails too there is nobody left to tell.
-            let _ = writeln!(rt.stderr(), "{fault}");
-            ExitCode::from(fault.status())
-        }
+        Err(fault) => fault.tell(&rt),
     }
 }

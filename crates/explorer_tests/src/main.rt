@@ -23,9 +23,7 @@ ghost use Rattle.std.specs.Prelude.{◌≤◌, length};
 mod reading;
 mod record;
 
-use reading::{
-    Manner, checked_of, formula_in, manner_of, offered, program_with, question_of, setup_of,
-};
+use reading::{Manner, checked_of, formula_in, manner_of, program_with, question_of, setup_of};
 use record::Record;
 use round_check::Checked;
 use round_explorer::{
@@ -37,11 +35,10 @@ use round_meaning::Setup;
 use run_events::NoMemory;
 use std::alloc::Global;
 use std::fmt::Write as _;
-use std::io::Write;
 use std::process::ExitCode;
 use std::thread::Threads;
 use std::{env, fs};
-use test_kit::{Fault, texts};
+use test_kit::{Fault, end, offered, texts};
 
 fn tell_failure(out: &mut String, failure: Failure) -> Result<(), Fault> {
     match failure {
@@ -180,7 +177,7 @@ fn program_of(
     setup: &Setup,
 ) -> Result<Checked, Fault> {
     match source.strip_prefix('@') {
-        Some(name) => offered(alloc, name, setup),
+        Some(name) => offered(alloc, name, 2, setup),
         None => {
             let text = fs::read_to_string(rt, source)?;
             checked_of(alloc, text.as_str())
@@ -228,19 +225,6 @@ fn place_of_always(words: &[&str]) -> usize
     }
 }
 
-fn run<R: Threads + Sync>(rt: &HostRuntime, starter: &R) -> Result<(), Fault> {
-    let out = answer(rt, starter, rt.alloc())?;
-    rt.stdout().write_all(out.as_bytes())?;
-    Ok(())
-}
-
 fn main(rt: HostRuntime) -> ExitCode {
-    match run(&rt, &rt) {
-        Ok(()) => ExitCode::SUCCESS,
-        Err(fault) => {
-            // Where standard error fails too there is nobody left to tell.
-            let _ = writeln!(rt.stderr(), "{fault}");
-            ExitCode::from(fault.status())
-        }
-    }
+    end(&rt, answer(&rt, &rt, rt.alloc()))
 }

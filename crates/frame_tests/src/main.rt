@@ -29,10 +29,9 @@ use round_check::{Checked, check};
 use round_lang::parse;
 use run_events::MAX_NODES;
 use std::alloc::Global;
-use std::io::Write;
 use std::process::ExitCode;
 use std::{env, fs, io};
-use test_kit::Fault;
+use test_kit::{Fault, end};
 
 /// The checked program that a text is.
 fn checked_of(alloc: Global, text: &str) -> Result<Checked, Fault> {
@@ -73,19 +72,6 @@ fn answer(rt: &HostRuntime, alloc: Global) -> Result<String, Fault> {
     Ok(out)
 }
 
-fn run(rt: &HostRuntime) -> Result<(), Fault> {
-    let out = answer(rt, rt.alloc())?;
-    rt.stdout().write_all(out.as_bytes())?;
-    Ok(())
-}
-
 fn main(rt: HostRuntime) -> ExitCode {
-    match run(&rt) {
-        Ok(()) => ExitCode::SUCCESS,
-        Err(fault) => {
-            // Where standard error fails too there is nobody left to tell.
-            let _ = writeln!(rt.stderr(), "{fault}");
-            ExitCode::from(fault.status())
-        }
-    }
+    end(&rt, answer(&rt, rt.alloc()))
 }

@@ -34,13 +34,12 @@ use acts::answer_all;
 use list::List;
 use node::Node;
 use pairs::Changes;
-use reading::{checked_of, offered, setup_of};
+use reading::{checked_of, setup_of};
 use rounds::Run;
 use std::alloc::Global;
-use std::io::Write;
 use std::process::ExitCode;
 use std::{env, fs, io};
-use test_kit::{Fault, number, texts};
+use test_kit::{Fault, end, number, offered, texts};
 use topics::Topic;
 
 /// Acts on one node.
@@ -146,19 +145,6 @@ fn answer(rt: &HostRuntime, alloc: Global) -> Result<String, Fault> {
     Ok(out)
 }
 
-fn run(rt: &HostRuntime) -> Result<(), Fault> {
-    let out = answer(rt, rt.alloc())?;
-    rt.stdout().write_all(out.as_bytes())?;
-    Ok(())
-}
-
 fn main(rt: HostRuntime) -> ExitCode {
-    match run(&rt) {
-        Ok(()) => ExitCode::SUCCESS,
-        Err(fault) => {
-            // Where standard error fails too there is nobody left to tell.
-            let _ = writeln!(rt.stderr(), "{fault}");
-            ExitCode::from(fault.status())
-        }
-    }
+    end(&rt, answer(&rt, rt.alloc()))
 }

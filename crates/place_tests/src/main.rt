@@ -17,31 +17,16 @@
 //! for which it's refused.
 #![tactic(auto)]
 
-mod fault;
 mod why;
 
-use fault::Fault;
 use fault_places::{excerpt_of, expected_at, line_at, place_of};
 use round_lang::Span;
 use std::alloc::Global;
 use std::fmt::Write as _;
-use std::io::Write;
 use std::process::ExitCode;
 use std::{env, io};
+use test_kit::{Fault, end, number, texts};
 use why::{Form, tell_fault, tell_why};
-
-/// The words after the program's own name.
-fn texts<'a>(alloc: Global, words: &'a [String]) -> Result<Vec<&'a str>, Fault> {
-    let mut texts = Vec::new(alloc);
-    for word in words.iter().skip(1) {
-        texts.push(word.as_str())?;
-    }
-    Ok(texts)
-}
-
-fn number(text: &str) -> Result<usize, Fault> {
-    text.parse().map_err(|_| Fault::Unreadable)
-}
 
 fn tell_line(text: &str, offset: usize, out: &mut String) -> Result<(), Fault> {
     write!(
@@ -71,12 +56,12 @@ fn answer(rt: &HostRuntime, alloc: Global) -> Result<String, Fault> {
     match words.as_slice() {
         ["why"] => tell_why(alloc, text, Form::Shown, &mut out)?,
         ["brief"] => tell_why(alloc, text, Form::Brief, &mut out)?,
-        ["place", offset] => tell_line(text, number(offset)?, &mut out)?,
-        ["kinds", offset] => tell_kinds(alloc, text, number(offset)?, &mut out)?,
+        ["place", offset] => tell_line(text, number(offset)? as usize, &mut out)?,
+        ["kinds", offset] => tell_kinds(alloc, text, number(offset)? as usize, &mut out)?,
         ["check", cause] => tell_fault(alloc, text, cause, &mut out)?,
         ["excerpt", first, after] => {
-            let first = number(first)?;
-            let after = number(after)?;
+            let first = number(first)? as usize;
+            let after = number(after)? as usize;
             write!(out, "{}\n", excerpt_of(alloc, text, Span { first, after })?)?;
         }
         _ => return Err(Fault::Unreadable),
@@ -84,19 +69,6 @@ fn answer(rt: &HostRuntime, alloc: Global) -> Result<String, Fault> {
     Ok(out)
 }
 
-fn run(rt: &HostRuntime) -> Result<(), Fault> {
-    let out = answer(rt, rt.alloc())?;
-    rt.stdout().write_all(out.as_bytes())?;
-    Ok(())
-}
-
 fn main(rt: HostRuntime) -> ExitCode {
-    match run(&rt) {
-        Ok(()) => ExitCode::SUCCESS,
-        Err(fault) => {
-            // Where standard error fails too there is nobody left to tell.
-            let _ = writeln!(rt.stderr(), "{fault}");
-            ExitCode::from(fault.status())
-        }
-    }
+    end(&rt, answer(&rt, rt.alloc()))
 }

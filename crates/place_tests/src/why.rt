@@ -1,10 +1,10 @@
 //! Why a text is refused, and where.
-use crate::fault::Fault;
 use fault_places::{excerpt_of, expected_at, fault_place, place_of};
 use round_check::{CheckFault, check};
 use round_lang::{LangFault, Program, Span, parse};
 use std::alloc::Global;
 use std::fmt::Write as _;
+use test_kit::Fault;
 
 /// How a place is told.
 #[derive(Clone, Copy)]
@@ -72,15 +72,6 @@ fn tell_fault_place(
     Ok(())
 }
 
-/// The program that a text is.
-fn program_of(alloc: Global, text: &str) -> Result<Program, Fault> {
-    match parse(alloc, text) {
-        Ok(program) => Ok(program),
-        Err(LangFault::NoMemory) => Err(Fault::NoMemory),
-        Err(_) => Err(Fault::Unreadable),
-    }
-}
-
 /// The fault with the number.
 fn fault_of(number: &str) -> Result<CheckFault, Fault> {
     match number {
@@ -98,7 +89,7 @@ fn fault_of(number: &str) -> Result<CheckFault, Fault> {
 
 /// Tells where a program has the fault with the number.
 pub fn tell_fault(alloc: Global, text: &str, cause: &str, out: &mut String) -> Result<(), Fault> {
-    let program = program_of(alloc, text)?;
+    let program = parse(alloc, text)?;
     tell_fault_place(alloc, text, &program, fault_of(cause)?, Form::Brief, out)
 }
 
@@ -116,7 +107,7 @@ fn tell_check(
             Ok(())
         }
         Err(CheckFault::NoMemory) => Err(Fault::NoMemory),
-        Err(fault) => tell_fault_place(alloc, text, &program_of(alloc, text)?, fault, form, out),
+        Err(fault) => tell_fault_place(alloc, text, &parse(alloc, text)?, fault, form, out),
     }
 }
 

@@ -78,12 +78,11 @@ use chosen::Chosen;
 use running::schedule;
 use sources::program;
 use std::alloc::Global;
-use std::io::Write;
 use std::process::ExitCode;
 use std::sync::Wait;
 use std::thread::Threads;
 use std::{env, io};
-use test_kit::Fault;
+use test_kit::{Fault, end};
 use threads::{Shown, overlap, threads, watched};
 
 /// Answers a word about the schedule of a program.
@@ -140,19 +139,6 @@ fn answer<R: Threads + Wait + Sync>(
     answer_all(rt, starter, alloc, words, input.as_str())
 }
 
-fn run<R: Threads + Wait + Sync>(rt: &HostRuntime, starter: &R) -> Result<(), Fault> {
-    let out = answer(rt, starter, rt.alloc())?;
-    rt.stdout().write_all(out.as_bytes())?;
-    Ok(())
-}
-
 fn main(rt: HostRuntime) -> ExitCode {
-    match run(&rt, &rt) {
-        Ok(()) => ExitCode::SUCCESS,
-        Err(fault) => {
-            // Where standard error fails too there is nobody left to tell.
-            let _ = writeln!(rt.stderr(), "{fault}");
-            ExitCode::from(fault.status())
-        }
-    }
+    end(&rt, answer(&rt, &rt, rt.alloc()))
 }

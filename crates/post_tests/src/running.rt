@@ -1,34 +1,14 @@
 //! Runs of `gather` in which a policy is asked.
 use crate::chosen::Chosen;
-use crate::sources::gather;
 use adversary::{RunFault, run_policy};
+use algorithm_library::gather;
 use round_check::Checked;
-use round_meaning::{Inputs, NodeSet, Setup};
-use run_events::{MAX_NODES, PlanKind};
+use round_meaning::{NodeSet, Setup};
+use run_events::PlanKind;
 use schedule_text::write_stored_schedule;
 use slot_plans::Known;
 use std::alloc::Global;
-use test_kit::{Fault, comma_numbers, number};
-
-fn nodes(alloc: Global, text: &str) -> Result<NodeSet, Fault> {
-    let members = comma_numbers(alloc, text)?;
-    let mut set = NodeSet::empty();
-    for node in &members {
-        set = set.with(*node);
-    }
-    Ok(set)
-}
-
-/// The setup of a run without faults.
-fn setup(alloc: Global, inputs: &str, rounds: &str) -> Result<Setup, Fault> {
-    let inputs = comma_numbers(alloc, inputs)?;
-    Ok(Setup {
-        nodes: inputs.len().min(MAX_NODES as usize) as u32,
-        faults: 0,
-        inputs: Inputs::new(inputs),
-        rounds: number(rounds)?,
-    })
-}
+use test_kit::{Fault, comma_numbers, nodes, number, setup};
 
 /// The schedule of a run under a known bound.
 fn trace(
@@ -65,10 +45,10 @@ pub fn schedule(alloc: Global, words: &[String]) -> Result<String, Fault> {
     else {
         return Err(Fault::Unreadable);
     };
-    let program = gather(alloc, values.as_str())?;
+    let program = gather(alloc, number(values.as_str())?)?;
     let setup = setup(alloc, inputs.as_str(), rounds.as_str())?;
     let receives = number(receives.as_str())?;
-    let correct = nodes(alloc, correct.as_str())?;
+    let correct = nodes(&comma_numbers(alloc, correct.as_str())?);
     let ticks = number(ticks.as_str())?;
     let mut policy = Chosen::read(alloc, policy)?;
     trace(

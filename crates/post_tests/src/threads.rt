@@ -5,9 +5,9 @@ use crate::chosen::Chosen;
 use crate::gate::Holder;
 use crate::reading::schedule_fault;
 use crate::reports::{end_text, report};
-use crate::sources::gather;
 use crate::watch::{Watch, Watched};
 use adversary::{RunFault, run_schedule};
+use algorithm_library::gather;
 use locked_buffers::{Gate, OpenGate};
 use node_threads::{Ended, run_threads};
 use policies::{Policy, Prompt};
@@ -21,7 +21,7 @@ use std::sync::Wait;
 use std::thread::Threads;
 use step_book::events_of;
 use step_journal::Journal;
-use test_kit::Fault;
+use test_kit::{Fault, number};
 
 /// How much of a run is printed.
 #[derive(Clone, Copy, PartialEq, Eq)]
@@ -157,7 +157,7 @@ pub fn threads<R: Threads + Wait + Sync>(
     let [values, policy @ ..] = words else {
         return Err(Fault::Unreadable);
     };
-    let program = gather(alloc, values.as_str())?;
+    let program = gather(alloc, number(values.as_str())?)?;
     let ThreadSetup {
         setup,
         plan,
@@ -186,7 +186,7 @@ fn held<R: Threads + Wait + Sync, Q: Policy + Send + Drop, G: Gate + Sync>(
     policy: Q,
     gate: &G,
 ) -> Result<String, Fault> {
-    let program = gather(alloc, "4")?;
+    let program = gather(alloc, 4)?;
     let ThreadSetup {
         setup,
         pace,

@@ -49,10 +49,6 @@ fn run(rt: &HostRuntime, alloc: Global) -> Result<(), Fault> {
 fn main(rt: HostRuntime) -> ExitCode {
     match run(&rt, rt.alloc()) {
         Ok(()) => ExitCode::SUCCESS,
-        Err(fault) => {
-            // Where standard error fails too there is nobody left to tell.
-            let _ = writeln!(rt.stderr(), "{fault}");
-            ExitCode::from(fault.status())
-        }
+        Err(fault) => fault.tell(&rt),
     }
 }

@@ -1,12 +1,11 @@
 //! Pictures of runs.
 use omission_explainer::explain;
-use round_meaning::NodeSet;
 use run_picture::{PictureFault, RoundRange, View, write_picture};
 use slot_plans::Plan;
 use std::alloc::Global;
 use std::io::Write;
 use step_journal::Journal;
-use test_kit::{Fault, comma_numbers, number};
+use test_kit::{Fault, comma_numbers, nodes, number};
 
 /// The title of a picture, and what it shows.
 #[derive(Clone, Copy)]
@@ -74,7 +73,7 @@ fn read_word<'a>(
             picture.view.html = true;
         }
         "rounds" => picture.view.rounds = Some(rounds(word)?),
-        "nodes" => picture.view.nodes = Some(nodes(alloc, word)?),
+        "nodes" => picture.view.nodes = Some(nodes(&comma_numbers(alloc, word)?)),
         "title" => picture.title = word,
         _ => return Err(Fault::Unreadable),
     }
@@ -89,13 +88,4 @@ fn rounds(text: &str) -> Result<RoundRange, Fault> {
         }),
         None => Err(Fault::Unreadable),
     }
-}
-
-fn nodes(alloc: Global, text: &str) -> Result<NodeSet, Fault> {
-    let numbers = comma_numbers(alloc, text)?;
-    let mut nodes = NodeSet::empty();
-    for node in &numbers {
-        nodes = nodes.with(*node);
-    }
-    Ok(nodes)
 }

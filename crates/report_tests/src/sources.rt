@@ -1,12 +1,11 @@
 //! The programs of sources.
-use algorithm_library::{LibraryFault, count_votes, dls1, gather};
 use round_check::{Checked, check};
 use round_lang::parse;
 use round_meaning::Setup;
 use std::alloc::Global;
 use std::fs;
 use std::rt::Files;
-use test_kit::{Fault, number};
+use test_kit::{Fault, number, offered};
 
 /// The program of a source, for a run of this setup.
 pub(crate) fn program_of<R: Files + AllocGlobal>(
@@ -17,7 +16,10 @@ pub(crate) fn program_of<R: Files + AllocGlobal>(
 ) -> Result<Checked, Fault> {
     match source.split_once(':') {
         Some(("gather_from_ones", values)) => gathering_from_ones(alloc, values),
-        Some((name, values)) => offered(alloc, name, number(values)?, setup),
+        Some((name, values)) => {
+            let name = name.strip_prefix('@').unwrap_or(name);
+            offered(alloc, name, number(values)?, setup)
+        }
         None => {
             let text = fs::read_to_string(rt, source)?;
             Ok(check(alloc, parse(alloc, text.as_str())?)?)
@@ -33,19 +35,4 @@ fn gathering_from_ones(alloc: Global, values: &str) -> Result<Checked, Fault> {
         on message: seen := seen union s; end:"
     )?;
     Ok(check(alloc, parse(alloc, text.as_str())?)?)
-}
-
-/// The library's program of a name.
-fn offered(alloc: Global, name: &str, values: u32, setup: &Setup) -> Result<Checked, Fault> {
-    let program = match name {
-        "@gather" => gather(alloc, values),
-        "@count_votes" => count_votes(alloc, values),
-        "@dls1" => dls1(alloc, setup.nodes, setup.faults, values),
-        _ => return Err(Fault::Unreadable),
-    };
-    match program {
-        Ok(program) => Ok(program),
-        Err(LibraryFault::NoMemory) => Err(Fault::NoMemory),
-        Err(_) => Err(Fault::Unreadable),
-    }
 }

@@ -9,7 +9,7 @@ mod seen;
 mod taking;
 mod telling;
 
-use crate::reading::{known, setup};
+use crate::reading::known;
 use act::{Act, Deed, act_of};
 use round_check::{Checked, check};
 use round_lang::parse;
@@ -18,7 +18,7 @@ use slot_plans::Known;
 use std::alloc::Global;
 use step_journal::Journal;
 use step_machine::Node;
-use test_kit::{Fault, number};
+use test_kit::{Fault, number, setup};
 
 /// The nodes of a run, and then their doubles: with three nodes the double of node 0 is 3.
 fn all_nodes(alloc: Global, program: &Checked, setup: &Setup) -> Result<Vec<Node>, Fault>

@@ -1,9 +1,9 @@
 //! Runs of `gather` in lockstep, as schedules.
 ghost use Rattle.std.specs.Prelude.{◌≡◌, IfOk};
 
-use crate::reading::{known, nodes, setup};
-use crate::sources::gather;
+use crate::reading::known;
 use adversary::RunFault;
+use algorithm_library::gather;
 use lockstep_runs::{Changes, MessageDelay, Stop, run_changed_lockstep, run_lockstep};
 use policies::{Bounded, Table};
 use round_check::Checked;
@@ -13,7 +13,7 @@ use schedule_text::write_stored_schedule;
 use slot_plans::Known;
 use std::alloc::Global;
 use step_journal::Journal;
-use test_kit::{Fault, comma_numbers, number};
+use test_kit::{Fault, comma_numbers, nodes, number, setup};
 
 fn bounded(alloc: Global, words: [&str; 4]) -> Result<Bounded, Fault> {
     let [delta, gst, delays, orders] = words;
@@ -91,7 +91,7 @@ impl Question {
             delays,
             orders,
         ] = words;
-        let program = gather(alloc, values)?;
+        let program = gather(alloc, number(values)?)?;
         let setup = setup(alloc, inputs, rounds)?;
         let receives = number(receives)?;
         let plan = known(setup.nodes, receives)?;

@@ -35,10 +35,9 @@ mod writers;
 
 use sources::source;
 use std::alloc::Global;
-use std::io::Write;
 use std::process::ExitCode;
 use std::{env, io};
-use test_kit::{Fault, texts};
+use test_kit::{Fault, end, texts};
 
 /// The room for answers, so that giving one takes no memory.
 const ROOM: usize = 65_536;
@@ -84,7 +83,7 @@ fn answer_input(rt: &HostRuntime, words: &[&str], out: &mut String) -> Result<()
 }
 
 /// Answers what the words ask.
-fn answer(rt: &HostRuntime, words: &[&str], out: &mut String) -> Result<(), Fault> {
+fn answer_words(rt: &HostRuntime, words: &[&str], out: &mut String) -> Result<(), Fault> {
     match words {
         ["report", name] => reports::print(rt.alloc(), name, out),
         ["writers", name] => writers::try_named(rt.alloc(), name, out),
@@ -94,22 +93,15 @@ fn answer(rt: &HostRuntime, words: &[&str], out: &mut String) -> Result<(), Faul
     }
 }
 
-fn run(rt: &HostRuntime, alloc: Global) -> Result<(), Fault> {
+/// Does what the words say, and gives what is to be printed.
+fn answer(rt: &HostRuntime, alloc: Global) -> Result<String, Fault> {
     let words = env::args(rt)?.collect::<Vec<String>>(alloc)?;
     let words = texts(alloc, words.as_slice())?;
     let mut out = String::with_capacity(alloc, ROOM)?;
-    answer(rt, words.as_slice(), &mut out)?;
-    rt.stdout().write_all(out.as_bytes())?;
-    Ok(())
+    answer_words(rt, words.as_slice(), &mut out)?;
+    Ok(out)
 }
 
 fn main(rt: HostRuntime) -> ExitCode {
-    match run(&rt, rt.alloc()) {
-        Ok(()) => ExitCode::SUCCESS,
-        Err(fault) => {
-            // Where standard error fails too there is nobody left to tell.
-            let _ = writeln!(rt.stderr(), "{fault}");
-            ExitCode::from(fault.status())
-        }
-    }
+    end(&rt, answer(&rt, rt.alloc()))
 }

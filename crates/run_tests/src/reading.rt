@@ -1,12 +1,11 @@
-//! Texts of numbers, plans and setups, and sets of nodes.
+//! Texts of numbers and plans.
 ghost use Rattle.std.specs.Prelude.{◌≡◌, IfOk};
 ghost use Rattle.slot_plans.specs.Known.{known_nodes};
 
-use round_meaning::{Inputs, NodeSet, Setup};
 use run_events::PlanKind;
 use slot_plans::Known;
 use std::alloc::Global;
-use test_kit::{Fault, comma_numbers, cut, number};
+use test_kit::{Fault, cut, number};
 
 /// Two numbers with a blank between them.
 pub fn two(text: &str) -> Result<(u32, u32), Fault> {
@@ -21,26 +20,6 @@ pub fn kind(text: &str) -> Result<PlanKind, Fault> {
         ("known", delta) => Ok(PlanKind::Known(number(delta)?)),
         _ => Err(Fault::Unreadable),
     }
-}
-
-/// The set of these nodes.
-pub fn nodes(members: &[u32]) -> NodeSet {
-    let mut set = NodeSet::empty();
-    for node in members {
-        set = set.with(*node);
-    }
-    set
-}
-
-/// A setup without faults, of as many nodes as there are inputs.
-pub fn setup(alloc: Global, inputs: &str, rounds: &str) -> Result<Setup, Fault> {
-    let inputs = comma_numbers(alloc, inputs)?;
-    Ok(Setup {
-        nodes: inputs.len().min(16) as u32,
-        faults: 0,
-        inputs: Inputs::new(inputs),
-        rounds: number(rounds)?,
-    })
 }
 
 /// The plan for so many nodes in which the bound on the delay is known.

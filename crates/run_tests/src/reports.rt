@@ -1,12 +1,11 @@
 //! Reports made by hand.
-use crate::reading::nodes;
 use omission_explainer::{Listed, Report, ReportRow, write_report};
 use round_lang::{Identifier, Row, Shape, Ty, Value, ValueSet, VarsBuilder};
 use run_events::NoMemory;
 use std::alloc::Global;
 use std::sync::Arc;
 use step_machine::StoredState;
-use test_kit::Fault;
+use test_kit::{Fault, nodes};
 
 /// A value of a table.
 enum Given {

@@ -1,1 +1,2 @@
+mod ListedNodes
 mod WrittenNumbers

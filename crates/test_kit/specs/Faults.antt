@@ -6,6 +6,8 @@ use Rattle.round_lang.specs.declared.fault.LangFault.{LangFault}
 use Rattle.round_lang.specs.declared.fault.LangFault.TheVariants as lang
 use Rattle.round_check.specs.declared.fault.CheckFault.{CheckFault}
 use Rattle.round_check.specs.declared.fault.CheckFault.TheVariants as checked
+use Rattle.algorithm_library.specs.declared.fault.LibraryFault.{LibraryFault}
+use Rattle.algorithm_library.specs.declared.fault.LibraryFault.TheVariants as library
 use Rattle.test_kit.specs.declared.fault.Fault.{Fault}
 use Rattle.test_kit.specs.declared.fault.Fault.TheVariants.{NoMemory, Unreadable}
 
@@ -33,3 +35,8 @@ lang_fault _ = Unreadable
 abbrev pub check_fault : CheckFault → Fault
 check_fault checked.NoMemory = NoMemory
 check_fault _ = Unreadable
+
+-- a program that the library refuses
+abbrev pub library_fault : LibraryFault → Fault
+library_fault library.NoMemory = NoMemory
+library_fault _ = Unreadable
