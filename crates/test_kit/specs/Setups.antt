@@ -10,7 +10,7 @@ use Rattle.test_kit.specs.Reading.{IsListText, Writes}
 abbrev pub HasJust : List ℕ → ℕ → Type 0
 HasJust list set = (k : ℕ) → k < 64 → is_in set k ≡ list_any (nat_eq k) list
 
--- a setup without faults that these texts give, with a node for each input, but at most the most
+-- a setup without faults that these texts give, with a node for each input, up to the most nodes
 pub record IsFaultless (numbers last : List ℕ) (s : Setup) : Type 0 where
   pub inputs : IsListText numbers s.inputs
   pub rounds : Writes last s.rounds
