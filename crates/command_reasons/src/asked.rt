@@ -16,6 +16,7 @@ use crate::refusals::unless_refused;
 use crate::round_reasons::tell_rounds;
 use crate::run_causes::{tell_correct_crash, tell_unknown};
 use crate::run_reasons::{RunQuestion, tell_run};
+use crate::search_notes::tell_notes;
 use crate::source::{tell_check, tell_source};
 use crate::trace_faults::tell_unwritable;
 use adversary::RunFault;
@@ -168,6 +169,9 @@ impl<'w, 'a> AskedCommand<'w, 'a> {
             Ok(false) => return Ok(false),
             // What is written to memory fails only for want of it.
             Err(_) => return Err(Refusal::NoMemory),
+        }
+        if tell_notes(exploring, &told, &mut text).is_err() {
+            return Err(Refusal::NoMemory);
         }
         if tell_unwritable(self.command, self.files, desk, out)? {
             return Ok(true);

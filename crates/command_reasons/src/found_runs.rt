@@ -85,10 +85,13 @@ impl<P: Plan> SearchedRuns<'_, P> {
                 )?;
             }
         }
-        if listed == 0 {
-            return writeln!(out, "    no message is missed").map_err(unwritten);
+        if listed > 0 {
+            return Ok(());
         }
-        Ok(())
+        if has_any_crashed(found) {
+            return writeln!(out, "    no other message is missed").map_err(unwritten);
+        }
+        writeln!(out, "    no message is missed").map_err(unwritten)
     }
 
     /// Writes what shows that the property fails in the run.
@@ -172,6 +175,18 @@ fn missed_by(found: &Counterexample, nodes: u32, node: u32, round: u32) -> NodeS
         }
     }
     missed
+}
+
+/// Whether a node crashes up to the round in which the property fails. Its messages of later rounds
+/// are missed, and aren't told of one by one.
+fn has_any_crashed(found: &Counterexample) -> bool {
+    for failure in found.failures.iter() {
+        match failure {
+            Failure::Crashes(crash) if *crash <= found.round => return true,
+            _ => {}
+        }
+    }
+    false
 }
 
 /// Whether the node crashes in this round or an earlier one.

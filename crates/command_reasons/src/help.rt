@@ -17,9 +17,11 @@ the setup is read and no thread is started.
   --decided     of run and rounds: the two rows that decided differently, or the nodes that took a
                 decision back
   explore       of each property that fails the run in which it does: inputs, nodes that fail, who
-                misses whom, and which decisions show it
+                misses whom, and which decisions show it; behind the answers a note, if they are
+                easily misread
   judge         the first step that breaks lockstep, the first receive that comes before a message
                 is released whose bound is over, and why no round is clear
 
-The status is 0 if it could be told, and else that of the command.
+Of run, judge and explore this is for people: --format makes no difference. The status is 0 if it
+could be told, and else that of the command.
 ";

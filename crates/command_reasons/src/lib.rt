@@ -28,6 +28,7 @@ mod round_reasons;
 mod run_causes;
 mod run_reasons;
 mod schedule_forms;
+mod search_notes;
 mod sentence;
 mod source;
 mod texts;

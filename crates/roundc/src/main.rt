@@ -4,6 +4,7 @@
 mod host_desk;
 mod made_header;
 mod terminal;
+mod tip;
 mod unread;
 
 use command_reasons::explain_words;
@@ -15,6 +16,7 @@ use std::io::{BufWriter, Write};
 use std::process::ExitCode;
 use std::sync::Wait;
 use std::thread::Threads;
+use tip::tell_of_why;
 use unread::Unread;
 
 /// How many bytes of what is printed go out at once.
@@ -48,7 +50,11 @@ fn run<R: Threads + Wait + Sync>(
         ["why", command @ ..] => {
             explain_words(starter, alloc, command, &mut desk, &mut out, &mut err)
         }
-        command => run_words(starter, alloc, command, &mut desk, &mut out, &mut err),
+        command => {
+            let status = run_words(starter, alloc, command, &mut desk, &mut out, &mut err);
+            tell_of_why(status, command, &mut err);
+            status
+        }
     };
     Ok(status)
 }

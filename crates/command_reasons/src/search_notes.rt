@@ -1,0 +1,64 @@
+//! What is easily misread of the answers of a search.
+use crate::located::unwritten;
+use command_runs::Refusal;
+use command_words::{Exploring, FaultChoice};
+use exploration_texts::{Answered, PropertyName, Told};
+use std::io::Write;
+
+/// Writes what the answers leave open, which options meant nothing, and that no trace is written.
+pub(crate) fn tell_notes<O: Write>(
+    exploring: &Exploring<'_>,
+    told: &[Told],
+    out: &mut O,
+) -> Result<(), Refusal> {
+    let fails = any_fails(told);
+    if !fails && asks_of_decisions(told) && !exploring.checks.termination {
+        writeln!(
+            out,
+            "note: a program that never decides has these answers too: --check termination asks \
+             whether nodes decide"
+        )
+        .map_err(unwritten)?;
+    }
+    if fails && exploring.faults != FaultChoice::Nobody && exploring.clear.is_none() {
+        writeln!(
+            out,
+            "note: without --clear the network may omit any message, whichever nodes fail"
+        )
+        .map_err(unwritten)?;
+    }
+    match exploring.trace {
+        Some(name) if fails => {
+            writeln!(
+                out,
+                "note: why writes no file: without it, {name} shows such a run"
+            )
+            .map_err(unwritten)
+        }
+        _ => Ok(()),
+    }
+}
+
+/// Whether a property fails in some run.
+fn any_fails(told: &[Told]) -> bool {
+    for one in told {
+        if let Answered::Fails(_) = &one.answer {
+            return true;
+        }
+    }
+    false
+}
+
+/// Whether one of the properties holds as long as no node decides.
+fn asks_of_decisions(told: &[Told]) -> bool {
+    for one in told {
+        match one.name {
+            PropertyName::Agreement
+            | PropertyName::Validity
+            | PropertyName::Final
+            | PropertyName::Safety => return true,
+            PropertyName::Termination | PropertyName::Always => {}
+        }
+    }
+    false
+}
