@@ -12,11 +12,10 @@ pub(crate) fn tell_notes<O: Write>(
     out: &mut O,
 ) -> Result<(), Refusal> {
     let fails = any_fails(told);
-    if !fails && asks_of_decisions(told) && !exploring.checks.termination {
+    if !fails && hold_undecided(told) {
         writeln!(
             out,
-            "note: a program that never decides has these answers too: --check termination asks \
-             whether nodes decide"
+            "note: a program that never decides has these answers too; ask --check termination"
         )
         .map_err(unwritten)?;
     }
@@ -49,16 +48,16 @@ fn any_fails(told: &[Told]) -> bool {
     false
 }
 
-/// Whether one of the properties holds as long as no node decides.
-fn asks_of_decisions(told: &[Told]) -> bool {
+/// Whether each property holds as long as no node decides.
+fn hold_undecided(told: &[Told]) -> bool {
     for one in told {
         match one.name {
+            PropertyName::Termination | PropertyName::Always => return false,
             PropertyName::Agreement
             | PropertyName::Validity
             | PropertyName::Final
-            | PropertyName::Safety => return true,
-            PropertyName::Termination | PropertyName::Always => {}
+            | PropertyName::Safety => {}
         }
     }
-    false
+    true
 }
