@@ -53,7 +53,7 @@ impl ReadFile<'_> {
     ) -> Result<bool, Refusal> {
         let Some(bytes) = &self.bytes else {
             self.tell_whole(&Sentence::Unread(self.failure), out)?;
-            if self.kind == FileKind::Header && self.name.starts_with('@') {
+            if self.kind == FileKind::Header && may_be_numbers(self.name) {
                 writeln!(out, "{}", Sentence::HeaderNumbers).map_err(unwritten)?;
             }
             return Ok(true);
@@ -164,4 +164,16 @@ fn is_large(digits: &[u8]) -> bool {
         Ok(digits) => !digits.is_empty() && digits.parse::<u32>().is_err(),
         Err(_) => false,
     }
+}
+
+/// Whether the name of a header may be meant as its numbers: it begins with `@`, or has digits and
+/// colons alone.
+fn may_be_numbers(name: &str) -> bool {
+    if name.starts_with('@') {
+        return true;
+    }
+    name.contains(':')
+        && name
+            .bytes()
+            .all(|byte| byte == b':' || byte.is_ascii_digit())
 }
