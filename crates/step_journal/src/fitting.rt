@@ -67,6 +67,7 @@ fn is_named<P: Plan>(book: &Book<P>, frame: &SealedView<'_>, name: Name) -> bool
 fn is_recorded<P: Plan>(book: &Book<P>, frame: &SealedView<'_>) -> bool
     ensures { IsTrue result ↔ IsRecorded book.now.log.rows frame.now }
 {
+    book.agrees();
     let name = frame.name();
     if name.from >= book.setup().nodes {
         return false;
