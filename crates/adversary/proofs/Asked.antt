@@ -10,10 +10,10 @@ use Rattle.round_lang.specs.Syntax.{ProgramTree}
 use Rattle.round_meaning.specs.Nodes.{has_node}
 use Rattle.round_meaning.specs.declared.setup.Setup.{Setup}
 use Rattle.step_book.specs.Log.{Log, Recorded, opened}
-use Rattle.step_machine.specs.declared.event.Event.{Event}
-use Rattle.step_machine.specs.declared.event.Event.TheVariants.{Step}
-use Rattle.step_machine.specs.declared.event.InFlight.{InFlight}
-use Rattle.step_machine.specs.declared.event.Name.{Name}
+use Rattle.run_events.specs.declared.event.Event.{Event}
+use Rattle.run_events.specs.declared.event.Event.TheVariants.{Step}
+use Rattle.run_events.specs.declared.in_flight.InFlight.{InFlight}
+use Rattle.run_events.specs.declared.name.Name.{Name}
 
 -- the correct nodes below this one have stepped
 pub record IsSteppedTo {P : Type 0} (correct : ℕ) (old new : Recorded P) (i : ℕ) : Type 0 where

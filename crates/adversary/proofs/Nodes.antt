@@ -20,9 +20,9 @@ use Rattle.step_book.specs.Taking.{HasTaken}
 use Rattle.step_book.specs.Trace.{is_step}
 use Rattle.step_book.specs.Work.{AreCarried}
 use Rattle.step_book.specs.World.{IsPlan, World, is_receive, nodes_of}
-use Rattle.step_machine.specs.declared.event.Event.{Event}
-use Rattle.step_machine.specs.declared.event.Event.TheVariants.{Step}
-use Rattle.step_machine.specs.declared.event.Name.{Name}
+use Rattle.run_events.specs.declared.event.Event.{Event}
+use Rattle.run_events.specs.declared.event.Event.TheVariants.{Step}
+use Rattle.run_events.specs.declared.name.Name.{Name}
 use Rattle.step_machine.specs.Sealed.{Frame, Ready}
 use Rattle.step_machine.specs.Nodes.{HasPlaces, NodeView, held_of}
 use Rattle.adversary.specs.Driving.{GoesOn, IsInRound, IsNodeOf}

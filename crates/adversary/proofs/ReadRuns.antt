@@ -8,9 +8,9 @@ use Rattle.round_meaning.specs.declared.setup.Setup.{Setup}
 use Rattle.schedule_text.specs.Readers.{AdvancesTo, HasRead, HasReadHeader, IsAll, IsRefusedAs}
 use Rattle.schedule_text.specs.Readers.{Reading, last_events}
 use Rattle.schedule_text.specs.declared.source.TextFault.{TextFault}
-use Rattle.slot_plans.specs.declared.kind.PlanKind.{PlanKind}
+use Rattle.run_events.specs.declared.plan_kind.PlanKind.{PlanKind}
 use Rattle.step_book.specs.Log.{Recorded, opened}
-use Rattle.step_machine.specs.declared.event.Event.{Event}
+use Rattle.run_events.specs.declared.event.Event.{Event}
 use Rattle.adversary.specs.Driving.{AreMore, IsFaultOf, IsKnown, IsOneMore, IsUnknownAt}
 use Rattle.adversary.specs.Driving.{IsUnknownPast}
 use Rattle.adversary.specs.Reading.{IsNotRead, IsRefusedAfter, IsScheduleOf}

@@ -15,9 +15,9 @@ use Rattle.round_lang.specs.Values.{of_set}
 use Rattle.round_meaning.specs.Rounds.{algorithm, inbox, rounds}
 use Rattle.round_meaning.proofs.Rows.{gather}
 use Rattle.slot_plans.specs.Known.{known_start}
-use Rattle.step_machine.specs.declared.event.Event.{Event}
-use Rattle.step_machine.specs.declared.event.Event.TheVariants.{Step, Release, Drop, Copy}
-use Rattle.step_machine.specs.declared.event.Name.{Name}
+use Rattle.run_events.specs.declared.event.Event.{Event}
+use Rattle.run_events.specs.declared.event.Event.TheVariants.{Step, Release, Drop, Copy}
+use Rattle.run_events.specs.declared.name.Name.{Name}
 use Rattle.step_book.specs.declared.mark.Mark.TheVariants.{Silent}
 use Rattle.step_book.specs.History.{mark_of, state, answers_of}
 use Rattle.step_book.specs.Fates.{carried, fate}

@@ -10,8 +10,8 @@ use Rattle.step_book.proofs.Starts.{plan_is}
 use Rattle.step_book.specs.Log.{Log, Recorded, happened, opened, world_of}
 use Rattle.step_book.specs.Trace.{is_step}
 use Rattle.step_book.specs.World.{IsPlan}
-use Rattle.step_machine.specs.declared.event.Event.{Event}
-use Rattle.step_machine.specs.declared.event.Event.TheVariants.{Step}
+use Rattle.run_events.specs.declared.event.Event.{Event}
+use Rattle.run_events.specs.declared.event.Event.TheVariants.{Step}
 use Rattle.step_machine.specs.Nodes.{NodeView}
 use Rattle.adversary.specs.Driving.{AreNodesOf, AreSettled, GoesOn, IsDriven, IsKnown, IsNodeOf}
 use Rattle.adversary.specs.Driving.{IsSettled}

@@ -12,8 +12,8 @@ use Rattle.step_book.proofs.Places.{steps_at, steps_other}
 use Rattle.step_book.specs.Agreement.{row}
 use Rattle.step_book.specs.Log.{IsDue, IsFaithful, Log, count_of, happened, history, round_of}
 use Rattle.step_book.specs.Trace.{is_step, steps}
-use Rattle.step_machine.specs.declared.event.Event.{Event}
-use Rattle.step_machine.specs.declared.event.Event.TheVariants.{Step}
+use Rattle.run_events.specs.declared.event.Event.{Event}
+use Rattle.run_events.specs.declared.event.Event.TheVariants.{Step}
 use Rattle.adversary.specs.Driving.{AreSettled, ClosedAreDue, GoesOn, IsInRound, IsSettled}
 
 -- one event more in the trace

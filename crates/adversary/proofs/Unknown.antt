@@ -13,9 +13,9 @@ use Rattle.std.proofs.lemmas.List.{
 use Rattle.round_meaning.specs.declared.setup.Setup.{Setup}
 use Rattle.round_meaning.specs.Setups.{IsSetup}
 use Rattle.step_book.proofs.Names.{storable_name}
-use Rattle.step_machine.specs.declared.event.Event.{Event}
-use Rattle.step_machine.specs.declared.event.Event.TheVariants.{Step, Release, Drop, Copy}
-use Rattle.stored_events.specs.Stored.{AreLate, IsStorable}
+use Rattle.run_events.specs.declared.event.Event.{Event}
+use Rattle.run_events.specs.declared.event.Event.TheVariants.{Step, Release, Drop, Copy}
+use Rattle.run_events.specs.Stored.{AreLate, IsStorable}
 use Rattle.adversary.specs.Driving.{
   IsFaultOf,
   IsFirstAt,

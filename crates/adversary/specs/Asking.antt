@@ -9,10 +9,10 @@ use Rattle.round_meaning.specs.Nodes.{has_node}
 use Rattle.round_meaning.specs.Setups.{IsLawful}
 use Rattle.step_book.specs.Flight.{IsFlight}
 use Rattle.step_book.specs.Log.{HasNoCopy, IsLeastCopy, Log}
-use Rattle.step_machine.specs.declared.event.Event.{Event}
-use Rattle.step_machine.specs.declared.event.Event.TheVariants.{Step, Release, Drop, Copy}
-use Rattle.step_machine.specs.declared.event.InFlight.{InFlight}
-use Rattle.step_machine.specs.declared.event.Name.{Name}
+use Rattle.run_events.specs.declared.event.Event.{Event}
+use Rattle.run_events.specs.declared.event.Event.TheVariants.{Step, Release, Drop, Copy}
+use Rattle.run_events.specs.declared.in_flight.InFlight.{InFlight}
+use Rattle.run_events.specs.declared.name.Name.{Name}
 
 -- the copy at this place of those in flight has this name
 abbrev pub IsAtPlace : List InFlight → ℕ → Name → Type 0

@@ -6,8 +6,9 @@ use Rattle.step_book.specs.Log.{Log, IsDue, count_of, history, round_of, state_b
 use Rattle.step_book.specs.Names.{IsName}
 use Rattle.step_book.specs.Work.{AreCarried}
 use Rattle.round_meaning.specs.declared.setup.Setup.{Setup}
-use Rattle.step_machine.specs.declared.event.Event.{Event}
-use Rattle.step_machine.specs.declared.event.Event.TheVariants.{Step, Release, Drop, Copy}
+use Rattle.run_events.specs.Events.{of_event}
+use Rattle.run_events.specs.declared.event.Event.{Event}
+use Rattle.run_events.specs.declared.event.Event.TheVariants.{Step, Release, Drop, Copy}
 use Rattle.step_machine.specs.Nodes.{HasPlaces, NodeView, ahead, held_of}
 use Rattle.adversary.specs.declared.fault.RunFault.{RunFault}
 use Rattle.adversary.specs.declared.fault.RunFault.TheVariants as fault
@@ -84,17 +85,11 @@ pub record IsDriven (start : ℕ → ℕ) (v : Log) (nodes : List NodeView) : Ty
   pub settled : AreSettled start v
 
 abbrev pub IsStep : Event → Type 0
-IsStep (Step i) = Unit {0}
-IsStep (Release n) = ⊥
-IsStep (Drop n) = ⊥
-IsStep (Copy n) = ⊥
+IsStep e = of_event (λ i. Unit {0}) (λ n. ⊥) e
 
 -- an event of the network
 abbrev pub IsOfMessage : Event → Type 0
-IsOfMessage (Step i) = ⊥
-IsOfMessage (Release n) = Unit {0}
-IsOfMessage (Drop n) = Unit {0}
-IsOfMessage (Copy n) = Unit {0}
+IsOfMessage e = of_event (λ i. ⊥) (λ n. Unit {0}) e
 
 -- an event at this place names a node or a message that the run hasn't, and none before it does
 abbrev pub IsFirstAt : Setup → List Event → ℕ → Type 0
@@ -117,10 +112,8 @@ IsUnknownPast s n events f = (before : List Event) → length before ≡ n → A
 
 -- the fault of an event at this place
 abbrev pub IsFaultOf : Event → ℕ → RunFault → Type 0
-IsFaultOf (Step i) k f = f ≡ fault.UnknownNode k
-IsFaultOf (Release n) k f = f ≡ fault.UnknownMessage k
-IsFaultOf (Drop n) k f = f ≡ fault.UnknownMessage k
-IsFaultOf (Copy n) k f = f ≡ fault.UnknownMessage k
+IsFaultOf e k f =
+    of_event (λ i. f ≡ fault.UnknownNode k) (λ n. f ≡ fault.UnknownMessage k) e
 
 -- why a lawful setup isn't run: the first event that names what the run hasn't;
 -- `NoMemory` goes last

@@ -3,8 +3,8 @@ use Rattle.std.specs.Prelude.{◌≡◌, ⊤, ℕ, List, Some}
 use Rattle.round_meaning.specs.declared.setup.Setup.{Setup}
 use Rattle.schedule_text.specs.Readers.{HasReadHeader, IsBegun, IsRefusedAs, Reading}
 use Rattle.schedule_text.specs.Sources.{IsNoSchedule, IsScheduleText}
-use Rattle.slot_plans.specs.declared.kind.PlanKind.{PlanKind}
-use Rattle.step_machine.specs.declared.event.Event.{Event}
+use Rattle.run_events.specs.declared.plan_kind.PlanKind.{PlanKind}
+use Rattle.run_events.specs.declared.event.Event.{Event}
 use Rattle.adversary.specs.Driving.{IsUnknownAt}
 use Rattle.adversary.specs.declared.fault.ReadFault.{ReadFault}
 use Rattle.adversary.specs.declared.fault.ReadFault.TheVariants as read

@@ -15,13 +15,12 @@ use crate::driver::Driver;
 use crate::fault::RunFault;
 use policies::{Choice, Policy};
 use round_check::Checked;
-use round_lang::NoMemory;
 use round_meaning::{NodeSet, Setup};
+use run_events::{Event, InFlight, Name, NoMemory};
 use slot_plans::Plan;
 use std::alloc::Global;
 use step_book::Book;
 use step_journal::Journal;
-use step_machine::{Event, InFlight, Name};
 
 /// The journal of a run of `ticks` ticks in which a policy decides what the network does.
 ///

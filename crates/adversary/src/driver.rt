@@ -1,11 +1,12 @@
 //! Runs that go on event by event, on one thread.
 ghost use Rattle.std.specs.Prelude.{◌≡◌, ℕ, ◌+◌, ◌<◌, ◌≤◌, ◌⊎◌, ◌∷◌, [], All, IfErr, IfOk, OnOk};
 ghost use Rattle.std.specs.Prelude.{length};
-ghost use Rattle.round_meaning.specs.Setups.{IsLawful, IsSetup, max_rounds};
+ghost use Rattle.run_events.specs.Limits.{max_rounds};
+ghost use Rattle.round_meaning.specs.Setups.{IsLawful, IsSetup};
 ghost use Rattle.step_book.specs.Agreement.{row};
 ghost use Rattle.step_book.specs.Log.{count_of, happened, opened, round_of};
 ghost use Rattle.step_book.specs.Names.{IsName};
-ghost use Rattle.step_machine.specs.declared.event.Event.TheVariants as event;
+ghost use Rattle.run_events.specs.declared.event.Event.TheVariants as event;
 ghost use Rattle.adversary.specs.Driving.{AreMore, AreNodesOf, ClosedAreDue, GoesOn, IsDriven};
 ghost use Rattle.adversary.specs.Driving.{IsInRound, IsKnown, IsNodeOf, IsOneMore, IsSettled};
 ghost use Rattle.adversary.specs.Driving.{IsUnknownPast};
@@ -13,15 +14,14 @@ ghost use Rattle.adversary.specs.Driving.{IsUnknownPast};
 use crate::fault::RunFault;
 use crate::running::{is_known, unknown_at};
 use round_check::Checked;
-use round_lang::NoMemory;
 use round_meaning::Setup;
+use run_events::{Event, Name, NoMemory, StoredEvent};
 use slot_plans::Plan;
 use std::alloc::Global;
 use std::marker::Model;
 use step_book::take_all;
 use step_journal::Journal;
-use step_machine::{Event, Name, Node};
-use stored_events::StoredEvent;
+use step_machine::Node;
 
 /// A run whose nodes stand where its journal says, and whose due rounds are closed.
 #[derive(Drop)]
@@ -225,7 +225,6 @@ fn step<P: Plan>(journal: &mut Journal<P>, node: &mut Node, me: u32) -> Result<(
     ensures settled { OnOk result (IsSettled (P.start journal.new.plan) journal.new.log me) }
 {
     let book = journal.book();
-    book.agrees();
     let round = book.round_of(me);
     if round > book.setup().rounds {
         return idle(journal, me);

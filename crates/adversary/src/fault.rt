@@ -1,6 +1,6 @@
 //! Why there is no run.
 
-use round_lang::NoMemory;
+use run_events::NoMemory;
 use schedule_text::TextFault;
 use thiserror::Error;
 

@@ -9,11 +9,11 @@ use crate::fault::{ReadFault, RunFault};
 use crate::running::unknown_at;
 use round_check::Checked;
 use round_meaning::Setup;
+use run_events::Events;
 use schedule_text::{ScheduleReader, TextSource};
 use slot_plans::Plan;
 use std::alloc::Global;
 use step_journal::Journal;
-use stored_events::Events;
 
 /// The journal of a schedule whose events are run as they are read, from a reader that was opened
 /// and not read on: as by [`run_schedule`](crate::run_schedule), with no list of all events in

@@ -6,13 +6,12 @@ ghost use Rattle.adversary.specs.Driving.{ClosedAreDue, IsFaultOf, IsKnown, IsUn
 use crate::driver::Driver;
 use crate::fault::RunFault;
 use round_check::Checked;
-use round_lang::NoMemory;
 use round_meaning::Setup;
+use run_events::{Event, NoMemory};
 use slot_plans::Plan;
 use std::alloc::Global;
 use step_book::is_name;
 use step_journal::Journal;
-use step_machine::Event;
 
 /// The journal of a schedule's events. A due round is closed at once, and steps past the last round
 /// are idle. An unlawful setup is refused first, then the first event that names what the run

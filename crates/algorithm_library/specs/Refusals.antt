@@ -1,7 +1,8 @@
 -- What a program of the library may be asked for with.
 use Rattle.std.specs.Prelude.{ℕ, ◌+◌, ◌*◌, ◌<◌, ◌≤◌}
 use Rattle.round_lang.specs.Limits.{max_values}
-use Rattle.round_meaning.specs.Setups.{max_faults, max_nodes}
+use Rattle.run_events.specs.Limits.{max_nodes}
+use Rattle.round_meaning.specs.Setups.{max_faults}
 
 -- K is 1 to 64
 pub record IsCount (values : ℕ) : Type 0 where

@@ -2,7 +2,7 @@
 ghost use Rattle.std.specs.Prelude.{◌≡◌};
 ghost use Rattle.algorithm_library.specs.declared.fault.LibraryFault.TheVariants as fault;
 
-use round_lang::NoMemory;
+use run_events::NoMemory;
 use thiserror::Error;
 
 /// Why the library has no such program, numbered as it is reported.

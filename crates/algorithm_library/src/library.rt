@@ -13,7 +13,8 @@ use crate::fault::LibraryFault;
 use crate::source::{program_of, text_of};
 use crate::texts::{count_votes_rest, dls1_rest, gather_rest};
 use round_check::Checked;
-use round_meaning::{MAX_FAULTS, MAX_NODES};
+use round_meaning::MAX_FAULTS;
+use run_events::MAX_NODES;
 use std::alloc::Global;
 
 /// The most values that a program has.

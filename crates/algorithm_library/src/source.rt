@@ -5,7 +5,8 @@ ghost use Rattle.algorithm_library.specs.Texts.{IsProgramText, text_of};
 ghost use Rattle.round_lang.specs.Source.{IsSource};
 
 use round_check::{CheckFault, Checked, check};
-use round_lang::{LangFault, MAX_TEXT, NoMemory, parse};
+use round_lang::{LangFault, MAX_TEXT, parse};
+use run_events::NoMemory;
 use std::alloc::Global;
 
 /// The program of the text `values K` and what follows.

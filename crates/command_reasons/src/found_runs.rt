@@ -9,7 +9,8 @@ use omission_schedules::rounds_report;
 use round_check::Checked;
 use round_explorer::{Counterexample, Failure};
 use round_meaning::{NodeSet, Setup};
-use slot_plans::{NamedPlan, Plan, PlanKind};
+use run_events::{MAX_NODES, PlanKind};
+use slot_plans::{NamedPlan, Plan};
 use std::alloc::Global;
 use std::fmt;
 use std::io::Write;
@@ -264,7 +265,7 @@ struct Senders(NodeSet);
 impl fmt::Display for Senders {
     fn fmt<W: fmt::Write>(&self, f: &mut fmt::Formatter<W>) -> fmt::Result {
         let mut is_first = true;
-        for node in 0..16 {
+        for node in 0..MAX_NODES {
             if !self.0.contains(node) {
                 continue;
             }

@@ -6,9 +6,9 @@ use crate::sentence::Sentence;
 use crate::word_fault::WordFault;
 use command_runs::Refusal;
 use reason_texts::HEADER_LINES;
-use round_meaning::{MAX_FAULTS, MAX_NODES, MAX_ROUNDS, Setup};
+use round_meaning::{MAX_FAULTS, Setup};
+use run_events::{MAX_DELTA, MAX_NODES, MAX_ROUNDS, PlanKind};
 use schedule_text::{Stop, read_header, read_schedule, read_threads};
-use slot_plans::{MAX_DELTA, PlanKind};
 use std::alloc::Global;
 use std::io::Write;
 

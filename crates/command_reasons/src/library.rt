@@ -7,7 +7,8 @@ use crate::word_fault::WordFault;
 use algorithm_library::LibraryFault;
 use command_runs::Refusal;
 use command_words::{Source, Words};
-use round_meaning::Setup;
+use round_meaning::{MAX_FAULTS, Setup};
+use run_events::MAX_NODES;
 use std::alloc::Global;
 use std::io::Write;
 
@@ -83,12 +84,12 @@ fn setup_fault(setup: &Setup, fault: LibraryFault) -> (usize, Sentence<'static>)
                 faults: *faults,
             },
         ),
-        _ if *nodes == 0 || *nodes > 16 => (
+        _ if *nodes == 0 || *nodes > MAX_NODES => (
             0,
             Sentence::Outside {
                 what: "the number of nodes",
                 least: 1,
-                most: 16,
+                most: MAX_NODES,
             },
         ),
         _ => (
@@ -96,7 +97,7 @@ fn setup_fault(setup: &Setup, fault: LibraryFault) -> (usize, Sentence<'static>)
             Sentence::Outside {
                 what: "the number of faults of @dls1",
                 least: 0,
-                most: 15,
+                most: MAX_FAULTS,
             },
         ),
     }

@@ -1,7 +1,8 @@
 //! A part of a file's text, and a sentence about it.
 use command_runs::Refusal;
 use fault_places::{Excerpt, excerpt_of, place_of};
-use round_lang::{NoMemory, Span};
+use round_lang::Span;
+use run_events::NoMemory;
 use std::alloc::Global;
 use std::io::Write;
 use std::{fmt, io};

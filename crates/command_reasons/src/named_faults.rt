@@ -3,7 +3,7 @@ use crate::sentence::Sentence;
 use crate::word_fault::WordFault;
 use omission_texts::{OmissionLine, RoundRange};
 use round_meaning::Setup;
-use step_machine::{Event, MAX_COPY, Name};
+use run_events::{Event, MAX_COPY, Name};
 
 /// What is said of the first number of an event that the run hasn't.
 pub(crate) fn event_fault(setup: &Setup, event: Event) -> Option<WordFault> {

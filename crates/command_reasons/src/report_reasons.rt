@@ -9,14 +9,13 @@ use command_runs::Refusal;
 use omission_explainer::{Report, ReportRow, write_report};
 use omission_reasons::{Idle, TraceIndex, made_place, reason_of, why_not_copied, why_not_let_go};
 use reason_texts::{IdleText, ReasonText, TextLines};
-use round_lang::NoMemory;
 use round_meaning::{NodeSet, Setup};
+use run_events::{Event, MAX_COPY, Name, NoMemory};
 use slot_plans::Plan;
 use std::alloc::Global;
 use std::io::Write;
 use std::str::from_utf8;
 use step_book::Book;
-use step_machine::{Event, MAX_COPY, Name};
 
 /// How many events that did nothing are listed at most.
 const MAX_LISTED: usize = 100;

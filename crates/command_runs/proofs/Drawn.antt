@@ -28,8 +28,8 @@ use Rattle.schedule_text.specs.declared.fault.ScheduleFault.TheVariants as sched
 use Rattle.schedule_text.specs.declared.kind.Kind.TheVariants as kinds
 use Rattle.schedule_text.specs.declared.source.TextFault.TheVariants as fault
 use Rattle.slot_plans.specs.Plan.{IsNodeCount}
-use Rattle.slot_plans.specs.declared.kind.PlanKind.{PlanKind}
-use Rattle.step_machine.specs.declared.event.Event.{Event}
+use Rattle.run_events.specs.declared.plan_kind.PlanKind.{PlanKind}
+use Rattle.run_events.specs.declared.event.Event.{Event}
 use Rattle.slot_plans.specs.Named.{IsPlan, start_of}
 
 -- the text that was opened is the file's

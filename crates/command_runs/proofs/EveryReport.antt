@@ -28,7 +28,7 @@ use Rattle.round_meaning.specs.Rounds.{algorithm_of, rounds}
 use Rattle.round_meaning.specs.Turn.{decision}
 use Rattle.round_meaning.specs.declared.setup.Setup.{Setup}
 use Rattle.step_book.specs.Log.{Log}
-use Rattle.step_machine.specs.declared.event.Event.{Event}
+use Rattle.run_events.specs.declared.event.Event.{Event}
 use Rattle.command_runs.specs.EveryReport.{AreFinal, HoldsOfRows}
 use Rattle.command_runs.specs.Explained.{IsReportSoFar}
 

@@ -47,8 +47,8 @@ use Rattle.schedule_text.specs.Small.{IsSmall}
 use Rattle.schedule_text.proofs.Digits.{digits}
 use Rattle.schedule_text.proofs.Split.{is_plain, lines-first, plain-append, plain_digits}
 use Rattle.schedule_text.specs.declared.kind.Kind.TheVariants as kinds
-use Rattle.slot_plans.specs.declared.kind.PlanKind.{PlanKind}
-use Rattle.step_machine.specs.declared.event.Event.{Event}
+use Rattle.run_events.specs.declared.plan_kind.PlanKind.{PlanKind}
+use Rattle.run_events.specs.declared.event.Event.{Event}
 use Rattle.slot_plans.specs.Named.{receives_of, start_of}
 
 -- ---- the schedule that shows a failure

@@ -18,7 +18,7 @@ use Rattle.part_answers.specs.declared.part.PartHead.{PartHead}
 use Rattle.round_lang.specs.Limits.{max_text}
 use Rattle.round_lang.specs.declared.fault.LangFault.TheVariants as lang
 use Rattle.round_meaning.specs.declared.setup.Setup.{Setup}
-use Rattle.slot_plans.specs.declared.kind.PlanKind.{PlanKind}
+use Rattle.run_events.specs.declared.plan_kind.PlanKind.{PlanKind}
 
 -- ---- files that say the same under each name
 

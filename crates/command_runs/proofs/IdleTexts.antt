@@ -24,10 +24,10 @@ use Rattle.schedule_text.specs.Texts.{Says, lines_for, max_text}
 use Rattle.schedule_text.specs.Writing.{event_line, header_lines, line_text, text_of}
 use Rattle.schedule_text.specs.declared.kind.Kind.TheVariants.{Schedule}
 use Rattle.schedule_text.proofs.Written.{read_back}
-use Rattle.slot_plans.specs.declared.kind.PlanKind.{PlanKind}
-use Rattle.slot_plans.specs.declared.kind.PlanKind.TheVariants.{Growing, Known}
-use Rattle.step_machine.specs.declared.event.Event.{Event}
-use Rattle.step_machine.specs.declared.event.Event.TheVariants.{Copy, Drop, Release, Step}
+use Rattle.run_events.specs.declared.plan_kind.PlanKind.{PlanKind}
+use Rattle.run_events.specs.declared.plan_kind.PlanKind.TheVariants.{Growing, Known}
+use Rattle.run_events.specs.declared.event.Event.{Event}
+use Rattle.run_events.specs.declared.event.Event.TheVariants.{Copy, Drop, Release, Step}
 
 text_more : (a b : List Event) → events_text (a ++ b) ≡ events_text a ++ events_text b
 text_more a b = flat_map-append (λ e. line_text (event_line e)) a b

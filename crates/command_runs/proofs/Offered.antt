@@ -2,7 +2,8 @@
 use Rattle.std.proofs.Common.{ℕ, ◌≤◌, arith, inl, inr}
 use Rattle.std.proofs.lemmas.Bool.{cases_lt}
 use Rattle.algorithm_library.specs.Refusals.{IsWithin}
-use Rattle.round_meaning.specs.Setups.{max_faults, max_nodes}
+use Rattle.run_events.specs.Limits.{max_nodes}
+use Rattle.round_meaning.specs.Setups.{max_faults}
 use Rattle.round_lang.specs.Limits.{max_values}
 
 -- what isn't above is within

@@ -18,8 +18,8 @@ use Rattle.step_book.specs.History.{state}
 use Rattle.step_book.specs.Log.{Log, count_of, history, round_of, world_of}
 use Rattle.step_book.specs.Trace.{steps}
 use Rattle.step_book.specs.declared.mark.Mark.{Mark}
-use Rattle.step_machine.specs.declared.event.Event.{Event}
-use Rattle.step_machine.specs.declared.event.Name.{Name}
+use Rattle.run_events.specs.declared.event.Event.{Event}
+use Rattle.run_events.specs.declared.name.Name.{Name}
 use Rattle.omission_explainer.specs.Reported.{IsReported, closed_below, closed_rounds, count_in}
 use Rattle.omission_explainer.specs.Reported.{counts_in}
 use Rattle.omission_explainer.specs.Reported.{heard_in, is_closed, omitted_in, place, silent_in}

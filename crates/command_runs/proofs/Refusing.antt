@@ -32,7 +32,8 @@ use Rattle.round_lang.specs.Source.{IsSource}
 use Rattle.round_lang.specs.Syntax.{ProgramTree}
 use Rattle.round_lang.specs.declared.fault.LangFault.{LangFault}
 use Rattle.round_lang.specs.declared.fault.LangFault.TheVariants as lang
-use Rattle.round_meaning.specs.Setups.{IsLawful, max_nodes}
+use Rattle.run_events.specs.Limits.{max_nodes}
+use Rattle.round_meaning.specs.Setups.{IsLawful}
 use Rattle.round_meaning.specs.declared.setup.Setup.{Setup}
 use Rattle.schedule_text.specs.Bytes.{IsLongText, IsNoText, IsText}
 use Rattle.schedule_text.specs.Outcome.{IsReadOf}
@@ -47,8 +48,8 @@ use Rattle.schedule_text.specs.declared.source.TextFault.TheVariants as fault
 use Rattle.schedule_text.specs.declared.fault.ScheduleFault.{ScheduleFault}
 use Rattle.schedule_text.specs.declared.fault.ScheduleFault.TheVariants as schedule
 use Rattle.slot_plans.specs.Plan.{IsNodeCount}
-use Rattle.slot_plans.specs.declared.kind.PlanKind.{PlanKind}
-use Rattle.step_machine.specs.declared.event.Event.{Event}
+use Rattle.run_events.specs.declared.plan_kind.PlanKind.{PlanKind}
+use Rattle.run_events.specs.declared.event.Event.{Event}
 use Rattle.slot_plans.specs.Named.{IsPlan}
 
 -- what follows from the error that a `?` hands on

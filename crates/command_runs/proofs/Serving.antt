@@ -8,7 +8,7 @@ use Rattle.schedule_text.specs.Readers.{HasReadHeader, Reading}
 use Rattle.command_words.specs.declared.values.Source.{Source}
 use Rattle.command_words.specs.declared.values.Source.TheVariants as source
 use Rattle.round_lang.specs.Syntax.{ProgramTree}
-use Rattle.slot_plans.specs.declared.kind.PlanKind.{PlanKind}
+use Rattle.run_events.specs.declared.plan_kind.PlanKind.{PlanKind}
 use Rattle.command_runs.specs.Library.{Offers}
 use Rattle.command_runs.specs.Served.{AnswersRun, HoldsProgram, IsCheckedSource, IsProgramOf}
 use Rattle.command_runs.specs.Served.{Opens, file_name}

@@ -22,10 +22,10 @@ use Rattle.command_words.specs.declared.values.Source.TheVariants as source
 use Rattle.command_words.specs.declared.words.Words.TheVariants as words
 use Rattle.omission_texts.specs.declared.line.OmissionLine.{OmissionLine}
 use Rattle.round_lang.specs.Syntax.{ProgramTree}
-use Rattle.round_meaning.specs.Setups.{max_nodes}
+use Rattle.run_events.specs.Limits.{max_nodes}
 use Rattle.round_meaning.specs.declared.setup.Setup.{Setup}
 use Rattle.schedule_text.specs.declared.kind.Kind.TheVariants as kinds
-use Rattle.slot_plans.specs.declared.kind.PlanKind.{PlanKind}
+use Rattle.run_events.specs.declared.plan_kind.PlanKind.{PlanKind}
 use Rattle.std.specs.Global.{Vec}
 use Rattle.slot_plans.specs.Named.{IsPlan, start_of}
 

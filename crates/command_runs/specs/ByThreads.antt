@@ -12,7 +12,7 @@ use Rattle.round_lang.specs.Syntax.{ProgramTree}
 use Rattle.round_meaning.specs.declared.setup.Setup.{Setup}
 use Rattle.schedule_text.specs.declared.pace.Stop.{Stop}
 use Rattle.schedule_text.specs.declared.reading.ThreadSetup.{ThreadSetup}
-use Rattle.step_machine.specs.declared.event.Event.{Event}
+use Rattle.run_events.specs.declared.event.Event.{Event}
 
 -- The report is of a run whose events are these, as in Explained. Each node's thread closed all its
 -- rounds, with no stop before their end; or it stopped after as many steps as its stop says; or it

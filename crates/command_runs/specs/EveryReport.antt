@@ -14,7 +14,7 @@ use Rattle.round_explorer.specs.declared.question.AskedInputs.{AskedInputs}
 use Rattle.round_explorer.specs.declared.question.Question.{Question}
 use Rattle.round_lang.specs.Syntax.{ProgramTree}
 use Rattle.round_meaning.specs.declared.setup.Setup.{Setup}
-use Rattle.step_machine.specs.declared.event.Event.{Event}
+use Rattle.run_events.specs.declared.event.Event.{Event}
 use Rattle.command_runs.specs.Explained.{IsReportSoFar}
 
 -- a node that has decided v in one row decides v in each later row of its own

@@ -11,7 +11,7 @@ use Rattle.round_meaning.specs.Rounds.{algorithm_of}
 use Rattle.round_meaning.specs.declared.setup.Setup.{Setup}
 use Rattle.step_book.specs.Agreed.{JournalAgrees}
 use Rattle.step_book.specs.Log.{Log, mark_in, waiting_in}
-use Rattle.step_machine.specs.declared.event.Event.{Event}
+use Rattle.run_events.specs.declared.event.Event.{Event}
 use Rattle.slot_plans.specs.Plan.{IsClearRound}
 use Rattle.omission_explainer.specs.Verdict.{AreNodes, HearsFrom, IsDelayBound, IsLockstep}
 use Rattle.omission_explainer.specs.declared.judging.Verdict.{Verdict}

@@ -5,9 +5,9 @@ use Rattle.command_runs.specs.declared.idle.IdleTicks.{IdleTicks}
 use Rattle.command_runs.specs.declared.idle.PacedSchedule.{PacedSchedule}
 use Rattle.lockstep_runs.specs.Changes.{timing_by}
 use Rattle.lockstep_runs.specs.IdleTicks.{idle_steps}
-use Rattle.round_meaning.specs.Setups.{max_nodes}
+use Rattle.run_events.specs.Limits.{max_nodes}
 use Rattle.schedule_text.specs.Writing.{event_line, line_text}
-use Rattle.step_machine.specs.declared.event.Event.{Event}
+use Rattle.run_events.specs.declared.event.Event.{Event}
 
 -- the lines of events
 abbrev pub events_text : List Event → List ℕ

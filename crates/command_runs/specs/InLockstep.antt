@@ -17,10 +17,10 @@ use Rattle.round_meaning.specs.Setups.{IsLawful}
 use Rattle.schedule_text.specs.Texts.{Says, max_text}
 use Rattle.schedule_text.specs.Writing.{text_of}
 use Rattle.slot_plans.specs.Plan.{IsDelta}
-use Rattle.slot_plans.specs.declared.kind.PlanKind.{PlanKind}
+use Rattle.run_events.specs.declared.plan_kind.PlanKind.{PlanKind}
 use Rattle.step_book.specs.Agreed.{JournalAgrees}
 use Rattle.step_book.specs.Log.{Log, history, mark_in, waiting_in, world_of}
-use Rattle.step_machine.specs.declared.event.Event.{Event}
+use Rattle.run_events.specs.declared.event.Event.{Event}
 
 -- how many ticks there are: as many as were asked for, or else as many steps as all rounds have
 abbrev pub ticks_of : (ℕ → ℕ) → Setup → Option ℕ → ℕ

@@ -19,8 +19,8 @@ use Rattle.round_meaning.specs.Omissions.{is_omitted}
 use Rattle.round_meaning.specs.declared.setup.Setup.{Setup}
 use Rattle.schedule_text.specs.Texts.{Says, max_text}
 use Rattle.schedule_text.specs.Writing.{text_of}
-use Rattle.slot_plans.specs.declared.kind.PlanKind.{PlanKind}
-use Rattle.step_machine.specs.declared.event.Event.{Event}
+use Rattle.run_events.specs.declared.plan_kind.PlanKind.{PlanKind}
+use Rattle.run_events.specs.declared.event.Event.{Event}
 
 -- the setup of the run in which a property fails, up to the round in which it does
 abbrev pub shown_setup : Setup → Counterexample → Setup

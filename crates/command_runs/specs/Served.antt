@@ -72,8 +72,8 @@ use Rattle.round_lang.specs.Source.{IsSource}
 use Rattle.round_lang.specs.Syntax.{ProgramTree}
 use Rattle.round_meaning.specs.declared.setup.Setup.{Setup}
 use Rattle.slot_plans.specs.Named.{IsPlan, receives_of, start_of}
-use Rattle.slot_plans.specs.declared.kind.PlanKind.{PlanKind}
-use Rattle.step_machine.specs.declared.event.Event.{Event}
+use Rattle.run_events.specs.declared.plan_kind.PlanKind.{PlanKind}
+use Rattle.run_events.specs.declared.event.Event.{Event}
 
 -- the text is this program, every expression of which has its type
 pub record IsCheckedSource (text : List ℕ) (p : ProgramTree) : Type 0 where

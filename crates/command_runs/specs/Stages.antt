@@ -45,11 +45,11 @@ use Rattle.schedule_text.specs.Readers.{HasReadHeader, IsBegun, IsRefusedAs, Rea
 use Rattle.schedule_text.specs.Sources.{IsNoSchedule}
 use Rattle.schedule_text.specs.Texts.{max_text as max_schedule}
 use Rattle.schedule_text.specs.declared.kind.Kind.{Kind}
-use Rattle.slot_plans.specs.declared.kind.PlanKind.{PlanKind}
+use Rattle.run_events.specs.declared.plan_kind.PlanKind.{PlanKind}
 use Rattle.schedule_text.specs.declared.fault.ScheduleFault.TheVariants as schedule
 use Rattle.schedule_text.specs.declared.reading.ThreadSetup.{ThreadSetup}
 use Rattle.schedule_text.specs.declared.source.TextFault.{TextFault}
-use Rattle.step_machine.specs.declared.event.Event.{Event}
+use Rattle.run_events.specs.declared.event.Event.{Event}
 use Rattle.slot_plans.specs.Named.{IsPlan}
 
 -- why a text in UTF-8 has no program

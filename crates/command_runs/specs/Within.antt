@@ -10,8 +10,8 @@ use Rattle.round_lang.specs.Tree.{Tree}
 use Rattle.round_meaning.specs.Setups.{IsLawful}
 use Rattle.round_meaning.specs.declared.setup.Setup.{Setup}
 use Rattle.slot_plans.specs.Named.{IsPlan}
-use Rattle.slot_plans.specs.declared.kind.PlanKind.{PlanKind}
-use Rattle.step_machine.specs.declared.event.Event.{Event}
+use Rattle.run_events.specs.declared.plan_kind.PlanKind.{PlanKind}
+use Rattle.run_events.specs.declared.event.Event.{Event}
 
 -- the numbers of a run are within their limits, the nodes of LIST are nodes of the run, and each
 -- event names what the run has

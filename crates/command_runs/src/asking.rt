@@ -18,8 +18,9 @@ use command_words::{AnswerFormat, Form, Source};
 use omission_explainer::{Report, Verdict};
 use round_check::Checked;
 use round_meaning::Setup;
+use run_events::PlanKind;
 use schedule_text::{ScheduleReader, TextSource};
-use slot_plans::{NamedPlan, PlanKind};
+use slot_plans::NamedPlan;
 use std::alloc::Global;
 use std::mem;
 

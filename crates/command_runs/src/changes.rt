@@ -3,14 +3,14 @@ ghost use Rattle.std.specs.Prelude.{◌≡◌, ◌++◌, ◌≤◌, All, IfOk, O
 ghost use Rattle.command_runs.specs.InChanges.{AreChanges, crash_stops, stop_below, terms_of};
 ghost use Rattle.command_runs.specs.InChanges.{word_delay, word_stop};
 ghost use Rattle.omission_texts.specs.Meaning.{IsKnown};
-ghost use Rattle.slot_plans.specs.Limits.{max_rounds};
+ghost use Rattle.run_events.specs.Limits.{max_rounds};
 
 use crate::lockstep::Pacing;
 use command_words::{NodeStop, OwnDelay};
 use lockstep_runs::{Changes, MessageDelay};
 use omission_texts::Omissions;
-use round_lang::NoMemory;
 use round_meaning::Setup;
+use run_events::NoMemory;
 use schedule_text::Stop;
 use slot_plans::Plan;
 use std::alloc::Global;

@@ -5,12 +5,14 @@ ghost use Rattle.adversary.specs.Reading.{IsNotRead, IsScheduleOf};
 ghost use Rattle.command_runs.specs.Explained.{AreListed, IsReportOf, IsVerdictOf};
 ghost use Rattle.omission_explainer.specs.Decided.{AreAgreed, AreInputs};
 ghost use Rattle.round_meaning.specs.Agreement.{RunsAlgorithm1};
-ghost use Rattle.round_meaning.specs.Setups.{IsLawful, max_nodes};
+ghost use Rattle.run_events.specs.Limits.{max_nodes};
+ghost use Rattle.round_meaning.specs.Setups.{IsLawful};
 
 use adversary::{ReadFault, RunFault, refused_after, run_read};
 use omission_explainer::{Report, Verdict, explain, judge};
 use round_check::Checked;
-use round_meaning::{MAX_NODES, NodeSet, Setup};
+use round_meaning::{NodeSet, Setup};
+use run_events::MAX_NODES;
 use schedule_text::{ScheduleReader, TextSource};
 use slot_plans::Plan;
 use std::alloc::Global;

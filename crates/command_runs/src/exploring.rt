@@ -29,10 +29,10 @@ use omission_schedules::schedule_with_stops;
 use part_answers::{Part, PartHead, Question};
 use round_check::Checked;
 use round_explorer::Watch;
-use round_lang::NoMemory;
 use round_meaning::Setup;
+use run_events::{NoMemory, PlanKind};
 use schedule_text::write_stored_schedule;
-use slot_plans::{NamedPlan, Plan, PlanKind};
+use slot_plans::{NamedPlan, Plan};
 use std::alloc::Global;
 use std::thread::Threads;
 

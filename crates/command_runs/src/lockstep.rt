@@ -8,7 +8,8 @@ ghost use Rattle.command_runs.specs.Served.{IsHeader, IsPaced, MakesLockstep};
 ghost use Rattle.command_runs.specs.Stages.{IsNoReadOf};
 ghost use Rattle.command_runs.specs.Within.{IsFitOmitting};
 ghost use Rattle.omission_texts.specs.Meaning.{IsKnown};
-ghost use Rattle.round_meaning.specs.Setups.{IsLawful, max_rounds};
+ghost use Rattle.run_events.specs.Limits.{max_rounds};
+ghost use Rattle.round_meaning.specs.Setups.{IsLawful};
 ghost use Rattle.schedule_text.specs.Texts.{SaysOf};
 ghost use Rattle.schedule_text.specs.declared.kind.Kind.TheVariants as kinds;
 ghost use Rattle.slot_plans.specs.Named.{IsPlan, start_of};
@@ -28,8 +29,9 @@ use omission_texts::Omissions;
 use policies::Bounded;
 use round_check::Checked;
 use round_meaning::Setup;
+use run_events::PlanKind;
 use schedule_text::write_stored_schedule;
-use slot_plans::{NamedPlan, Plan, PlanKind};
+use slot_plans::{NamedPlan, Plan};
 use std::alloc::Global;
 
 /// What a run in lockstep is made by: the correct nodes, the delays of the messages and the orders

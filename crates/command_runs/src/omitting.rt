@@ -28,8 +28,9 @@ use omission_schedules::{rounds_report, schedule_with_stops};
 use omission_texts::{Omissions, read_omissions};
 use round_check::Checked;
 use round_meaning::{OmissionTable, Setup};
+use run_events::PlanKind;
 use schedule_text::write_stored_schedule;
-use slot_plans::{NamedPlan, Plan, PlanKind};
+use slot_plans::{NamedPlan, Plan};
 use std::alloc::Global;
 
 /// A source, the file of a header and the file of omissions.

@@ -20,7 +20,8 @@ use exploration_texts::{Told, write_answers};
 use part_answers::{
     Answered, PartAnswers, PartFault, PartHead, PartsFault, read_part, together, write_head,
 };
-use round_lang::{MAX_TEXT, NoMemory};
+use round_lang::MAX_TEXT;
+use run_events::NoMemory;
 use std::alloc::Global;
 use std::io;
 use std::io::Write;

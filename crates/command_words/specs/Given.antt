@@ -8,12 +8,12 @@ use Rattle.clap.specs.Words.{Row, Text, all_of, first_of, subcommand_of, fault_o
 use Rattle.clap.specs.Words.{kind_of}
 use Rattle.clap.specs.declared.error.Error.{Error}
 use Rattle.clap.specs.declared.error.kind.ErrorKind.TheVariants.{OutOfMemory}
+use Rattle.run_events.specs.Limits.{max_delta}
 use Rattle.command_words.specs.Changes.{FailsByChanges, GivesChanges}
 use Rattle.command_words.specs.Commands.{roundc_app}
 use Rattle.command_words.specs.Exploring.{FailsByExploring, GivesExploring, GivesOr, HasNoValue}
 use Rattle.command_words.specs.Values.{AnswerFormatText, BlocksText, FormatText, IsNoList}
 use Rattle.command_words.specs.Values.{ListText, NumberText, RangeText, SourceText, is_negative}
-use Rattle.command_words.specs.Values.{max_delta}
 use Rattle.command_words.specs.declared.drawing.Drawing.{Drawing}
 use Rattle.command_words.specs.declared.drawing.RoundRange.{RoundRange}
 use Rattle.command_words.specs.declared.forms.AnswerFormat.{AnswerFormat}

@@ -84,10 +84,6 @@ abbrev pub BlocksText : Text → Blocks → Type 0
 BlocksText text blocks.Rounds = text ≡ codes "round"
 BlocksText text blocks.Nodes = text ≡ codes "node"
 
--- the delay bound is at most this
-abbrev pub max_delta : ℕ
-max_delta = 1024
-
 -- `-` and then a digit
 abbrev pub begins_digit : Text → Bool
 begins_digit [] = false

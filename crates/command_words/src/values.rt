@@ -76,9 +76,6 @@ fn capped_number(digits: &str) -> u32
     digits.parse().unwrap_or(u32::MAX)
 }
 
-/// The largest delay bound that D may be.
-pub(crate) const MAX_DELTA: u32 = 1024;
-
 /// The number that decimal digits write, if it has 32 bits; a sign is no digit.
 pub(crate) fn read_number(text: &str) -> Option<u32>
     ensures some { IfSome result (NumberText text.now) }

@@ -22,9 +22,10 @@ use crate::drawing::{Drawing, drawing_of};
 use crate::exploring::{Exploring, exploring_of};
 use crate::forms::{AnswerFormat, Form, answer_format_of, form_of};
 use crate::negative::{has_negative, has_negative_change, has_negative_list};
-use crate::values::{MAX_DELTA, Source, read_list, read_number, read_source};
+use crate::values::{Source, read_list, read_number, read_source};
 use clap::ArgMatches;
 use clap::error::ErrorKind;
+use run_events::MAX_DELTA;
 use std::alloc::{AllocError, AllocFailed, Global};
 use std::fmt;
 

@@ -5,7 +5,8 @@ ghost use Rattle.exploration_texts.specs.Conditions.{IsCondition, IsNoCondition}
 ghost use Rattle.exploration_texts.specs.Lines.{check_text, condition_text, source_text};
 
 use round_check::{CheckFault, Checked};
-use round_lang::{Formula, LangFault, NoMemory, Span, parse_formula};
+use round_lang::{Formula, LangFault, Span, parse_formula};
+use run_events::NoMemory;
 use std::alloc::Global;
 use std::error::Error;
 use std::fmt;

@@ -4,8 +4,8 @@ ghost use Rattle.exploration_texts.specs.Questions.{faults_word, question_text, 
 ghost use Rattle.sha2.specs.Sha256.{sha256};
 
 use command_words::{Checks, Exploring, FaultChoice};
-use round_lang::NoMemory;
 use round_meaning::Setup;
+use run_events::NoMemory;
 use sha2::{Digest, Sha256};
 use std::alloc::Global;
 use std::fmt;

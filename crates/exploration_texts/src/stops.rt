@@ -3,11 +3,11 @@ ghost use Rattle.std.specs.Prelude.{◌≡◌, ◌≤◌, IfOk, map};
 ghost use Rattle.std.specs.List.{range_with_len};
 ghost use Rattle.exploration_texts.specs.Stops as spec;
 ghost use Rattle.round_explorer.specs.Questions.{failure_of};
-ghost use Rattle.slot_plans.specs.Limits.{max_rounds};
+ghost use Rattle.run_events.specs.Limits.{max_rounds};
 
 use round_explorer::Failure;
-use round_lang::NoMemory;
 use round_meaning::Setup;
+use run_events::NoMemory;
 use slot_plans::Plan;
 use std::alloc::Global;
 

@@ -3,7 +3,7 @@ ghost use Rattle.std.specs.Prelude.{◌≡◌, ◌++◌, ◌∷◌, IfOk, string
 ghost use Rattle.exploration_texts.specs.Lines.{comment_text};
 
 use crate::told::PropertyName;
-use round_lang::NoMemory;
+use run_events::NoMemory;
 use std::alloc::Global;
 
 /// A schedule's text behind a comment that says which property fails in which round.

@@ -30,8 +30,9 @@ use round_explorer::{
     Answer, AskedInputs, Counterexample, Failure, Property, Question, Unwatched, Watch,
     explore_by_jobs,
 };
-use round_lang::{Formula, NoMemory};
+use round_lang::Formula;
 use round_meaning::Setup;
+use run_events::NoMemory;
 use std::alloc::Global;
 use std::fmt::Write as _;
 use std::process::ExitCode;

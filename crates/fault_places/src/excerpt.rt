@@ -9,7 +9,8 @@ ghost use Rattle.fault_places.specs.Places.{begins_character};
 
 use crate::line::line_at;
 use crate::place::{before, begins_character, place_of};
-use round_lang::{NoMemory, Span};
+use round_lang::Span;
+use run_events::NoMemory;
 use std::alloc::Global;
 use std::fmt;
 

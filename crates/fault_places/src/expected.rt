@@ -7,7 +7,8 @@ use crate::previous::Previous;
 use crate::recognition::mistake_of;
 use crate::spot::{Found, Spot};
 use crate::trial::Trial;
-use round_lang::{Mark, NoMemory, Span, Token, TokenFault, tokens};
+use round_lang::{Mark, Span, Token, TokenFault, tokens};
+use run_events::NoMemory;
 use std::alloc::Global;
 use std::fmt;
 

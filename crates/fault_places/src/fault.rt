@@ -11,7 +11,8 @@ use crate::scope::{Placed, is_input};
 use crate::sites::Sites;
 use crate::wants::Wants;
 use round_check::CheckFault;
-use round_lang::{NoMemory, Program, Span, Token, TokenFault, Ty, tokens};
+use round_lang::{Program, Span, Token, TokenFault, Ty, tokens};
+use run_events::NoMemory;
 use std::alloc::Global;
 
 /// What is declared or bound twice.

@@ -1,7 +1,8 @@
 //! Where the parts of a program stand among its tokens.
 
 use crate::parts::{Wanted, cut, inside, pieces, span_of, split};
-use round_lang::{Mark, NoMemory, Span, Token, Word};
+use round_lang::{Mark, Span, Token, Word};
+use run_events::NoMemory;
 use std::alloc::Global;
 
 /// A name of a text, and where it stands.

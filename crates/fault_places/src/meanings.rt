@@ -7,7 +7,8 @@ use crate::rules::constant_fault;
 use crate::scope::{Placed, Position, is_input};
 use crate::sites::{Site, Sites};
 use crate::spelling::constant_text;
-use round_lang::{Constant, Mark, NoMemory, Token, Word};
+use round_lang::{Constant, Mark, Token, Word};
+use run_events::NoMemory;
 use std::alloc::Global;
 
 /// All words for a value.

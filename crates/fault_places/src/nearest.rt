@@ -4,7 +4,8 @@ ghost use Rattle.fault_places.specs.Nearness as spec;
 ghost use Rattle.fault_places.specs.declared.nearest.Meant.{Meant as Name};
 
 use crate::layout::NameAt;
-use round_lang::{NoMemory, Span};
+use round_lang::Span;
+use run_events::NoMemory;
 use std::alloc::Global;
 use strsim::levenshtein;
 

@@ -1,6 +1,7 @@
 //! The parts of a program's tokens: expressions with their operands, and lists.
 
-use round_lang::{BinaryOperator, Mark, NoMemory, Span, Token, Word};
+use round_lang::{BinaryOperator, Mark, Span, Token, Word};
+use run_events::NoMemory;
 use std::alloc::Global;
 
 /// What is looked for outside of brackets.

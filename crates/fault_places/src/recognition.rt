@@ -5,7 +5,8 @@ use crate::mistake::Mistake;
 use crate::nearest::{Meant, nearest};
 use crate::spelling::word_text;
 use crate::spot::{Found, Spot};
-use round_lang::{BinaryOperator, Mark, NoMemory, Token, Word};
+use round_lang::{BinaryOperator, Mark, Token, Word};
+use run_events::NoMemory;
 use std::alloc::Global;
 
 /// The words that can stand where no name can, and their kinds.

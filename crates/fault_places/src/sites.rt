@@ -3,9 +3,8 @@
 use crate::layout::{AssignmentPlace, BlockPlace, NameAt};
 use crate::scope::{Fields, Placed, Position};
 use crate::wants::Wants;
-use round_lang::{
-    Assignment, Block, Expr, Formula, Identifier, NoMemory, Token, Ty, Variable, VariableKind,
-};
+use round_lang::{Assignment, Block, Expr, Formula, Identifier, Token, Ty, Variable, VariableKind};
+use run_events::NoMemory;
 use std::alloc::Global;
 
 /// An expression, where it stands, and of which type it has to be, if that's known.

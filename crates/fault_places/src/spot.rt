@@ -2,7 +2,8 @@
 
 use crate::kind::TokenKind;
 use crate::place::before;
-use round_lang::{Mark, NoMemory, Token, TokenFault, Word, tokens};
+use round_lang::{Mark, Token, TokenFault, Word, tokens};
+use run_events::NoMemory;
 use std::alloc::Global;
 
 /// What stands at a place.

@@ -1,7 +1,8 @@
 //! Trying whether a program goes on with a token.
 
 use crate::kind::TokenKind;
-use round_lang::{LangFault, NoMemory, Token, Word, parse};
+use round_lang::{LangFault, Token, Word, parse};
+use run_events::NoMemory;
 use std::alloc::Global;
 
 /// A text with the names and the numbers of the tokens before a place, and with others of the kinds

@@ -1,6 +1,7 @@
 -- The faults of bytes that spell no frame, in their order.
 use Rattle.std.specs.Prelude.{ℕ, ◌+◌, ◌-◌, ◌^◌, Bool, false, ◌&&◌, ◌||◌, not, List, [], ◌∷◌, length}
 use Rattle.std.specs.Prelude.{drop, slice_index, Option, Some, None, nat_lt, ◌==◌, if◌then◌else◌}
+use Rattle.run_events.specs.Limits.{max_copy, max_rounds}
 use Rattle.byteorder.specs.Endian.{big_number}
 use Rattle.round_lang.specs.declared.kind.Kind.{Kind}
 use Rattle.round_lang.specs.declared.kind.Kind.TheVariants.{Num, Flag, Set, Row}
@@ -42,9 +43,9 @@ length_fault s round bytes =
 -- the first fault of bytes whose beginning and nodes are right
 unfoldable pub round_fault : Format → List ℕ → Option FrameFault
 round_fault s bytes =
-    if (round_at bytes == 0) || nat_lt 4096 (round_at bytes) then Some BadRound
+    if (round_at bytes == 0) || nat_lt max_rounds (round_at bytes) then Some BadRound
     else if not (slice_index bytes 8 == position s (round_at bytes)) then Some BadPosition
-    else if nat_lt 3 (copy_at bytes) then Some BadCopy
+    else if nat_lt max_copy (copy_at bytes) then Some BadCopy
     else length_fault s (round_at bytes) bytes
 
 -- the first fault: each stands where the bytes are as it says and none of those before it stands

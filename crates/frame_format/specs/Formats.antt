@@ -1,6 +1,7 @@
 -- What the frames of a program's messages are made of.
 use Rattle.std.specs.Prelude.{◌≡◌, ℕ, ◌+◌, ◌-◌, ◌*◌, ◌%◌, ◌<◌, ◌≤◌, List, [], ◌∷◌, length}
 use Rattle.std.specs.Prelude.{slice_index_or}
+use Rattle.run_events.specs.Limits.{max_nodes}
 use Rattle.round_lang.specs.declared.kind.Kind.{Kind}
 use Rattle.round_lang.specs.declared.kind.Kind.TheVariants.{Num, Flag, Set, Row}
 use Rattle.round_lang.specs.Syntax.{ProgramTree}
@@ -50,7 +51,7 @@ pub record IsMeasured (kinds : List Kind) (bytes : ℕ) : Type 0 where
 
 -- the numbers are within the language's limits
 pub record IsFormat (s : Format) : Type 0 where
-  pub few_nodes : s.nodes ≤ 16
+  pub few_nodes : s.nodes ≤ max_nodes
   pub few_values : s.values ≤ 64
   pub some_round : 0 < s.period
   pub few_rounds : s.period ≤ 8

@@ -1,6 +1,7 @@
 -- What bytes say, read at their places.
 use Rattle.std.specs.Prelude.{◌≡◌, ◌≤◌, ℕ, zero, suc, ◌+◌, List, [], ◌∷◌, length, drop, slice_index}
 use Rattle.std.specs.Prelude.{None, ◌==◌}
+use Rattle.run_events.specs.Limits.{max_rounds}
 use Rattle.byteorder.specs.Endian.{big_number}
 use Rattle.round_lang.specs.declared.kind.Kind.{Kind}
 use Rattle.round_lang.specs.declared.kind.Kind.TheVariants as kind
@@ -44,7 +45,7 @@ frame_at s bytes = record {
 -- what a caller relies on where no fault stands
 pub record IsFrame (s : Format) (bytes : List ℕ) : Type 0 where
   pub first : 1 ≤ round_at bytes
-  pub last : round_at bytes ≤ 4096
+  pub last : round_at bytes ≤ max_rounds
   pub head : 12 ≤ head_at bytes
   pub all : length bytes ≡ head_at bytes + size (kinds_at s (round_at bytes))
   pub no_fault : first_fault s bytes ≡ None

@@ -2,6 +2,7 @@
 use Rattle.std.specs.Prelude.{◌≡◌, ℕ, ◌<◌, ◌≤◌, ◌^◌, ⊤, Bool, true, false, List, [], ◌∷◌, ◌++◌}
 use Rattle.std.specs.Prelude.{length}
 use Rattle.std.specs.List.{flat_map, All}
+use Rattle.run_events.specs.Limits.{max_copy, max_rounds}
 use Rattle.byteorder.specs.Endian.{big_bytes}
 use Rattle.round_lang.specs.declared.kind.Kind.{Kind}
 use Rattle.round_lang.specs.declared.kind.Kind.TheVariants as kind
@@ -46,14 +47,14 @@ field (Row r) = flat_map (big_bytes 4) r
 -- the copies that frames of a version may be: 0 to 3, and in version 1 copy 0 alone
 abbrev pub IsCopy : FrameVersion → ℕ → Type 0
 IsCopy V1 copy = copy ≡ 0
-IsCopy V2 copy = copy ≤ 3
+IsCopy V2 copy = copy ≤ max_copy
 
 -- The bytes spell the frame: its nodes, round and copy are within their limits, its message is one
 -- of the round's block, with numbers of 32 bits, and the bytes are the header and then each field.
 pub record Spells (s : Format) (bytes : List ℕ) (f : Frame) : Type 0 where
   pub from : f.from < s.nodes
   pub to : f.to < s.nodes
-  pub round : (1 ≤ f.round) × (f.round ≤ 4096)
+  pub round : (1 ≤ f.round) × (f.round ≤ max_rounds)
   pub copy : IsCopy f.version f.copy
   pub message : AreOf s.values (kinds_at s f.round) f.message
   pub small : All IsSmall f.message

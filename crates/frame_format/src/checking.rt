@@ -14,6 +14,7 @@ use crate::layout::Layout;
 use crate::reading::{copy_of, fields_in, from_of, round_of, to_of, version_of};
 use byteorder::{BigEndian, ByteOrder};
 use round_lang::Kind;
+use run_events::{MAX_COPY, MAX_ROUNDS};
 
 /// The first fault of the bytes, none if they spell a frame.
 pub fn first_fault(layout: &Layout, bytes: &[u8]) -> Option<FrameFault>
@@ -52,13 +53,13 @@ fn round_fault(layout: &Layout, bytes: &[u8]) -> Option<FrameFault>
     ensures { result ≡ round_fault layout.now bytes.now }
 {
     let round = round_of(bytes);
-    if round == 0 || round > 4096 {
+    if round == 0 || round > MAX_ROUNDS {
         return Some(FrameFault::BadRound);
     }
     if u32::from(bytes[8]) != layout.position(round) {
         return Some(FrameFault::BadPosition);
     }
-    if copy_of(bytes) > 3 {
+    if copy_of(bytes) > MAX_COPY {
         return Some(FrameFault::BadCopy);
     }
     length_fault(layout, round, bytes)

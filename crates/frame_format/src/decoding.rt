@@ -14,7 +14,8 @@ use crate::frame::Frame;
 use crate::layout::Layout;
 use crate::reading::{copy_of, fields_in, from_of, round_of, to_of, version_of};
 use byteorder::{BigEndian, ByteOrder};
-use round_lang::{Kind, Message, NoMemory, Row, Shape, Value, ValueSet, VarsBuilder};
+use round_lang::{Kind, Message, Row, Shape, Value, ValueSet, VarsBuilder};
+use run_events::NoMemory;
 use std::alloc::Global;
 
 /// The frame that the bytes spell, or the first fault; NoMemory only if they do spell a frame.

@@ -1,6 +1,7 @@
 //! Frames as bytes.
 ghost use Rattle.std.specs.Prelude.{◌≡◌, ◌≤◌, ◌<◌, ◌^◌, ◌++◌, All, IfOk, OnOk, length};
 ghost use Rattle.std.specs.List.{flat_map};
+ghost use Rattle.run_events.specs.Limits.{max_copy, max_rounds};
 ghost use Rattle.byteorder.specs.Endian.{big_bytes};
 ghost use Rattle.round_lang.specs.Values.{at, row};
 ghost use Rattle.round_lang.specs.Words.{IsSmall};
@@ -12,7 +13,8 @@ use crate::header::{bytes_of, write_header};
 use crate::layout::Layout;
 use byteorder::{BigEndian, ByteOrder};
 use bytes::Bytes;
-use round_lang::{Kind, Message, NoMemory};
+use round_lang::{Kind, Message};
+use run_events::NoMemory;
 use std::alloc::Global;
 
 /// The bytes of a message as a frame of version 2. The nodes are below the layout's number, the
@@ -29,8 +31,8 @@ pub fn encode(
     requires from { from < layout.now.nodes }
     requires to { to < layout.now.nodes }
     requires first { 1 ≤ round }
-    requires last { round ≤ 4096 }
-    requires copy { copy ≤ 3 }
+    requires last { round ≤ max_rounds }
+    requires copy { copy ≤ max_copy }
     requires message { AreOf layout.now.values (kinds_at layout.now round) message.now }
     ensures { IfOk result (λ bytes. Spells layout.now bytes (record {
       from = from;

@@ -2,7 +2,7 @@
 ghost use Rattle.std.specs.Prelude.{◌≡◌};
 ghost use Rattle.frame_format.specs.FaultNumbers.{fault_number};
 
-use round_lang::NoMemory;
+use run_events::NoMemory;
 use std::fmt;
 
 /// Why bytes are no frame of a layout; the first that stands is answered, in the order Short,

@@ -1,5 +1,6 @@
 //! Headers as bytes.
 ghost use Rattle.std.specs.Prelude.{◌≡◌, ◌≤◌, ◌<◌, length};
+ghost use Rattle.run_events.specs.Limits.{max_copy};
 ghost use Rattle.byteorder.specs.Endian.{big_bytes};
 ghost use Rattle.frame_format.specs.Headers.{header};
 ghost use Rattle.frame_format.specs.declared.version.FrameVersion.TheVariants.{V2};
@@ -12,7 +13,7 @@ pub fn write_header(layout: &Layout, from: u32, to: u32, round: u32, copy: u32, 
     requires room { length out.old ≡ 13 }
     requires from { from < layout.now.nodes }
     requires to { to < layout.now.nodes }
-    requires copy { copy ≤ 3 }
+    requires copy { copy ≤ max_copy }
     ensures { out.new ≡ header layout.now V2 from to round copy }
 {
     let nodes = layout.nodes();

@@ -1,13 +1,15 @@
 //! What frames the messages of a program have.
 ghost use Rattle.std.specs.Prelude.{ℕ, ◌≡◌, ◌≤◌, ◌<◌, ◌+◌, ◌-◌, ◌%◌, [], length, slice_get};
 ghost use Rattle.std.specs.Prelude.{slice_index_or, option_copied, unwrap_or, IfOk, Some};
+ghost use Rattle.run_events.specs.Limits.{max_nodes, max_rounds};
 ghost use Rattle.round_check.specs.Shapes.{message_kinds};
 ghost use Rattle.frame_format.specs.Formats.{format_of, kinds_at, position, size, IsBlock};
 ghost use Rattle.frame_format.specs.Formats.{IsFormat};
 
 use crate::block::BlockLayout;
 use round_check::Checked;
-use round_lang::{Block, Kind, NoMemory, Shape};
+use round_lang::{Block, Kind, Shape};
+use run_events::NoMemory;
 use std::alloc::Global;
 use std::marker::Model;
 
@@ -45,7 +47,7 @@ impl Layout {
     /// The frames that messages of the program have among so many nodes, 1 to 16.
     pub fn of(alloc: Global, program: &Checked, nodes: u32) -> Result<Layout, NoMemory>
         requires some { 1 ≤ nodes }
-        requires few { nodes ≤ 16 }
+        requires few { nodes ≤ max_nodes }
         ensures { IfOk result (λ layout. layout ≡ format_of program.now nodes) }
     {
         let blocks = block_layouts(alloc, program)?;
@@ -61,7 +63,7 @@ impl Layout {
     /// The number of nodes.
     pub fn nodes(&self) -> u32
         ensures value { result ≡ self.now.nodes }
-        ensures few { result ≤ 16 }
+        ensures few { result ≤ max_nodes }
     {
         self.nodes
     }
@@ -123,7 +125,7 @@ impl Layout {
     /// How many bytes the frames of a round have; the round is 1 to 4,096.
     pub fn len(&self, round: u32) -> usize
         requires first { 1 ≤ round }
-        requires last { round ≤ 4096 }
+        requires last { round ≤ max_rounds }
         ensures value { result ≡ 13 + size (kinds_at self.now round) }
         ensures limit { result ≤ 2061 }
     {
@@ -157,6 +159,7 @@ fn block_layout(program: &Checked, place: usize, block: &Block) -> Result<BlockL
     ensures value { IfOk result (λ b. b ≡ slice_index_or (message_kinds program.now) place []) }
     ensures block { IfOk result IsBlock }
 {
+    // Nothing at run time: how many values and fields there can be.
     let _values = program.program().values();
     let _fields = block.fields();
     Ok(BlockLayout::new(shape_at(program, place)?))

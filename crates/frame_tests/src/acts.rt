@@ -5,6 +5,7 @@ use crate::showing::{show_bytes, show_read};
 use crate::writing::show_written;
 use frame_format::Layout;
 use hex::FromHexError;
+use run_events::MAX_ROUNDS;
 use std::alloc::Global;
 use test_kit::{Fault, cut, number};
 
@@ -55,7 +56,7 @@ impl Frames {
     }
 
     fn show_length(&self, round: u32, out: &mut String) -> Result<(), Fault> {
-        if round == 0 || round > 4096 {
+        if round == 0 || round > MAX_ROUNDS {
             return Err(Fault::Unreadable);
         }
         Ok(write!(out, "{}", self.layout.len(round))?)

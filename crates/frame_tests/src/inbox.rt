@@ -1,5 +1,6 @@
 //! The frames that a node holds, read where they lie.
 ghost use Rattle.std.specs.Prelude.{◌≤◌, [], ◌∷◌, length, IfOk};
+ghost use Rattle.run_events.specs.Limits.{max_nodes};
 ghost use Rattle.frame_views.specs.Inboxes.{AreFrames};
 
 use crate::acts::bytes_of;
@@ -7,17 +8,18 @@ use crate::showing::show_view;
 use bytes::Bytes;
 use frame_format::{Layout, first_fault};
 use frame_views::InboxView;
+use run_events::MAX_NODES;
 use std::alloc::Global;
 use test_kit::Fault;
 
 /// The frames of a text, with commas between them and `-` for none, of senders 0 and up.
 fn held_in(alloc: Global, layout: &Layout, text: &str) -> Result<Vec<Option<Bytes>>, Fault>
-    ensures few { IfOk result (λ held. length held.items ≤ 16) }
+    ensures few { IfOk result (λ held. length held.items ≤ max_nodes) }
     ensures frames { IfOk result (λ held. AreFrames layout.now held.items) }
 {
     let mut held = Vec::new(alloc);
     for part in text.split(',') {
-        if held.len() == 16 {
+        if held.len() == MAX_NODES as usize {
             return Err(Fault::Unreadable);
         }
         held.push(frame_in(alloc, layout, part.trim())?)?;

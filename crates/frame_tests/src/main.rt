@@ -27,6 +27,7 @@ use acts::Frames;
 use frame_format::Layout;
 use round_check::{Checked, check};
 use round_lang::parse;
+use run_events::MAX_NODES;
 use std::alloc::Global;
 use std::process::ExitCode;
 use std::{env, fs, io};
@@ -39,7 +40,7 @@ fn checked_of(alloc: Global, text: &str) -> Result<Checked, Fault> {
 
 /// The layout of a program's frames.
 fn layout_of(alloc: Global, text: &str, nodes: u32) -> Result<Layout, Fault> {
-    if nodes == 0 || nodes > 16 {
+    if nodes == 0 || nodes > MAX_NODES {
         return Err(Fault::Unreadable);
     }
     Ok(Layout::of(alloc, &checked_of(alloc, text)?, nodes)?)

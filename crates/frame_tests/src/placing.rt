@@ -1,5 +1,6 @@
 //! Frames that are written place by place, as callers of the library do.
 ghost use Rattle.std.specs.Prelude.{◌≡◌, ◌+◌, ◌*◌, ◌≤◌, ◌<◌, length, IfSome};
+ghost use Rattle.run_events.specs.Limits.{max_copy, max_rounds};
 ghost use Rattle.frame_format.specs.Formats.{kinds_at, size, width, IsBlock};
 
 use frame_format::{Frame, Layout};
@@ -11,8 +12,8 @@ pub fn place_frame(layout: &Layout, frame: &Frame, copy: u32, bytes: &mut [u8])
     requires from { frame.now.from < layout.now.nodes }
     requires to { frame.now.to < layout.now.nodes }
     requires first { 1 ≤ frame.now.round }
-    requires last { frame.now.round ≤ 4096 }
-    requires copy { copy ≤ 3 }
+    requires last { frame.now.round ≤ max_rounds }
+    requires copy { copy ≤ max_copy }
     requires room { length bytes.old ≡ 13 + size (kinds_at layout.now frame.now.round) }
 {
     let mut places = FrameMut::new(layout, frame.round, bytes);

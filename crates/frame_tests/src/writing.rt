@@ -1,17 +1,19 @@
 //! Messages that are written as frames.
 ghost use Rattle.std.specs.Prelude.{ℕ, List, ◌≤◌};
+ghost use Rattle.run_events.specs.Limits.{max_copy};
 ghost use Rattle.frame_format.specs.Spelling.{Spells};
 
 use crate::placing::place_frame;
 use frame_format::{Frame, FrameFault, Layout, decode, encode};
 use frame_views::write_frame;
+use run_events::MAX_COPY;
 use std::alloc::Global;
 use test_kit::Fault;
 
 /// The bytes of a frame's message as a copy of it, or none if the ways of writing differ.
 fn written(alloc: Global, layout: &Layout, frame: &Frame, copy: u32) -> Result<Vec<u8>, Fault>
     requires frame { (bytes : List ℕ) × Spells layout.now bytes frame.now }
-    requires copy { copy ≤ 3 }
+    requires copy { copy ≤ max_copy }
 {
     let message = &frame.message;
     let encoded = encode(
@@ -49,7 +51,7 @@ pub fn show_written(
     bytes: &[u8],
     copy: u32,
 ) -> Result<Vec<u8>, Fault> {
-    if copy > 3 {
+    if copy > MAX_COPY {
         return Err(Fault::Unreadable);
     }
     match decode(alloc, layout, bytes) {

@@ -1,5 +1,6 @@
 -- The frames that a node holds.
 use Rattle.std.specs.Prelude.{ℕ, ◌+◌, ◌≤◌, ⊤, List, [], ◌∷◌, drop, length, Option, Some, None}
+use Rattle.run_events.specs.Limits.{max_nodes}
 use Rattle.frame_format.specs.declared.frame.Frame.{Frame}
 use Rattle.frame_format.specs.Formats.{Format}
 use Rattle.frame_format.specs.Reading.{frame_at, IsFrame}
@@ -19,5 +20,5 @@ AreFrames s ((Some bytes) ∷ held) = IsFrame s bytes × AreFrames s held
 -- the places from the given one on are left
 pub record IsInbox (s : Format) (at : ℕ) (held : List (Option (List ℕ))) : Type 0 where
   pub within : at ≤ length held
-  pub few : length held ≤ 16
+  pub few : length held ≤ max_nodes
   pub frames : AreFrames s (drop at held)

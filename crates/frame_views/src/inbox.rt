@@ -1,5 +1,6 @@
 //! The frames that a node holds, in rising order of sender.
 ghost use Rattle.std.specs.Prelude.{◌≡◌, ◌≤◌, length};
+ghost use Rattle.run_events.specs.Limits.{max_nodes};
 ghost use Rattle.frame_views.specs.Inboxes.{inbox_from, AreFrames};
 
 use crate::view::FrameView;
@@ -31,7 +32,7 @@ impl<'a> Model for InboxView<'a> {
 impl<'a> InboxView<'a> {
     /// All frames that are held: the one at place i is that of sender i.
     pub fn new(layout: &'a Layout, held: &'a [Option<Bytes>]) -> InboxView<'a>
-        requires few { length held.now ≤ 16 }
+        requires few { length held.now ≤ max_nodes }
         requires frames { AreFrames layout.now held.now }
         ensures { result ≡ inbox_from layout.now 0 held.now }
     {

@@ -2,6 +2,7 @@
 ghost use Rattle.std.specs.Prelude.{◌≡◌, ◌+◌, ◌*◌, ◌%◌, ◌^◌, ◌<◌, ◌≤◌, ◌++◌, ◌∷◌, [], length};
 ghost use Rattle.std.specs.Prelude.{IfSome, MatchOption};
 ghost use Rattle.std.specs.Borrow.{sem, LendsBoth, Array, u8 as byte};
+ghost use Rattle.run_events.specs.Limits.{max_copy, max_rounds};
 ghost use Rattle.byteorder.specs.Endian.{big_bytes};
 ghost use Rattle.frame_format.specs.declared.version.FrameVersion.TheVariants.{V2};
 ghost use Rattle.frame_format.specs.Formats.{kinds_at, size, width, IsBlock};
@@ -25,7 +26,7 @@ impl<'a, 'l> FrameMut<'a, 'l> {
     /// The bytes are `Layout::len(round)` many, and the round is 1 to 4,096.
     pub fn new(layout: &'l Layout, round: u32, bytes: &'a mut [u8]) -> FrameMut<'a, 'l>
         requires first { 1 ≤ round }
-        requires last { round ≤ 4096 }
+        requires last { round ≤ max_rounds }
         requires room { length bytes.old ≡ 13 + size (kinds_at layout.now round) }
         ensures same { result.bytes.ghost_name ≡ bytes.entry.ghost_name }
         ensures bytes { result.bytes.now ≡ bytes.old }
@@ -122,7 +123,7 @@ impl<'a, 'l> HeaderMut<'a, 'l> {
         requires from { from < self.old.layout.now.nodes }
         requires to { to < self.old.layout.now.nodes }
         requires round { round ≡ self.old.round }
-        requires copy { copy ≤ 3 }
+        requires copy { copy ≤ max_copy }
         ensures same { self.new.bytes.ghost_name ≡ self.old.bytes.ghost_name }
         ensures value { self.new.bytes.now ≡ header self.old.layout.now V2 from to round copy }
         ensures layout { self.new.layout ≡ self.old.layout }

@@ -1,5 +1,6 @@
 //! The frames of one message: to every node, and its further copies.
 ghost use Rattle.std.specs.Prelude.{◌≡◌, ◌-◌, ◌*◌, ◌<◌, ◌≤◌, length};
+ghost use Rattle.run_events.specs.Limits.{max_copy, max_rounds};
 ghost use Rattle.frame_format.specs.declared.frame.Frame.{Frame};
 ghost use Rattle.frame_format.specs.declared.version.FrameVersion.TheVariants.{V2};
 ghost use Rattle.frame_format.specs.Formats.{kinds_at, Format};
@@ -17,7 +18,7 @@ use round_lang::Message;
 pub fn write_to_all(layout: &Layout, from: u32, round: u32, message: &Message, bytes: &mut [u8])
     requires from { from < layout.now.nodes }
     requires first { 1 ≤ round }
-    requires last { round ≤ 4096 }
+    requires last { round ≤ max_rounds }
     requires message { AreOf layout.now.values (kinds_at layout.now round) message.now }
     requires room { length bytes.old ≡ layout.now.nodes * frame_size layout.now round }
     ensures { AreToAll layout.now from round message.now 0 bytes.new }
@@ -44,7 +45,7 @@ fn address(frame: &[u8], to: u32, nodes: u32, bytes: &mut [u8])
 
 /// Makes a frame of version 2 another copy of its message, 0 to 3.
 pub fn write_copy(copy: u32, bytes: &mut [u8])
-    requires copy { copy ≤ 3 }
+    requires copy { copy ≤ max_copy }
     requires room { 13 ≤ length bytes.old }
     ensures { (s : Format) (f : Frame) → Spells s bytes.old f → f.version ≡ V2
         → Spells s bytes.new (record f { copy = copy }) }

@@ -1,6 +1,7 @@
 //! Frames that are written where they lie.
 ghost use Rattle.std.specs.Prelude.{◌≡◌, ◌+◌, ◌*◌, ◌<◌, ◌≤◌, ◌^◌, All, drop, length};
 ghost use Rattle.std.specs.List.{flat_map};
+ghost use Rattle.run_events.specs.Limits.{max_copy, max_rounds};
 ghost use Rattle.byteorder.specs.Endian.{big_bytes};
 ghost use Rattle.round_lang.specs.Values.{at, row};
 ghost use Rattle.round_lang.specs.Words.{IsSmall};
@@ -27,8 +28,8 @@ pub fn write_frame(
     requires from { from < layout.now.nodes }
     requires to { to < layout.now.nodes }
     requires first { 1 ≤ round }
-    requires last { round ≤ 4096 }
-    requires copy { copy ≤ 3 }
+    requires last { round ≤ max_rounds }
+    requires copy { copy ≤ max_copy }
     requires message { AreOf layout.now.values (kinds_at layout.now round) message.now }
     requires room { length bytes.old ≡ 13 + size (kinds_at layout.now round) }
     ensures { Spells layout.now bytes.new (record {

@@ -2,7 +2,7 @@
 use Rattle.std.proofs.Common.{◌≡◌, ℕ, Option, Some, None, refl}
 use Rattle.std.specs.Prelude.{IfSome}
 use Rattle.step_book.specs.Log.{HasNoCopy, IsLeastCopy, Recorded}
-use Rattle.step_machine.specs.declared.event.Name.{Name}
+use Rattle.run_events.specs.declared.name.Name.{Name}
 use Rattle.locked_buffers.specs.Runs.{IsNextCopy}
 
 pub next_is : {P : Type 0} (start : P → ℕ → ℕ) (one : Recorded P) (n : Name) (o : Option Name)

@@ -26,7 +26,7 @@ use Rattle.std.proofs.lemmas.List.{get_or-map, length-append, length-map, map_mo
 use Rattle.std.proofs.lemmas.List.Elements.{All-nil, All-push}
 use Rattle.std.proofs.lemmas.Option.{get_or_from_slice_get, slice_get_within}
 use Rattle.round_meaning.specs.declared.setup.Setup.{Setup}
-use Rattle.step_machine.specs.declared.event.Name.{Name}
+use Rattle.run_events.specs.declared.name.Name.{Name}
 use Rattle.step_machine.specs.Sealed.{Frame}
 use Rattle.step_book.specs.Buffers.{names_in}
 use Rattle.step_book.specs.Mailing.{Mailed}

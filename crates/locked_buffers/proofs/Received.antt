@@ -5,7 +5,7 @@ use Rattle.std.specs.Prelude.{All}
 use Rattle.std.proofs.lemmas.List.{get_or-map, length-map}
 use Rattle.std.proofs.lemmas.List.Elements.{All-same}
 use Rattle.round_meaning.specs.Rounds.{algorithm_of}
-use Rattle.step_machine.specs.declared.event.Name.{Name}
+use Rattle.run_events.specs.declared.name.Name.{Name}
 use Rattle.step_machine.specs.Sealed.{Frame, IsHonest}
 use Rattle.step_book.specs.Log.{Recorded, history, waiting_in, world_of}
 use Rattle.step_book.specs.Buffers.{AreHonest, IsMail, BufferView, names_in, run_of}

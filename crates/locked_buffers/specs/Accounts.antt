@@ -3,16 +3,13 @@ use Rattle.std.specs.Prelude.{◌≡◌, ℕ, ◌<◌, List, [], ◌∷◌, ◌+
 use Rattle.step_book.specs.Agreement.{row}
 use Rattle.step_book.specs.History.{answers_of, handed_of}
 use Rattle.step_book.specs.Log.{Log, Recorded, count_of, history, world_of}
-use Rattle.step_machine.specs.declared.event.Event.{Event}
-use Rattle.step_machine.specs.declared.event.Event.TheVariants.{Step, Release, Drop, Copy}
+use Rattle.run_events.specs.Events.{of_event}
+use Rattle.run_events.specs.declared.event.Event.{Event}
 use Rattle.locked_buffers.specs.Seats.{Account, Told}
 
 -- the event, if it's one of the network
 abbrev pub network_event : Event → List Event
-network_event (Step i) = []
-network_event (Release n) = Release n ∷ []
-network_event (Drop n) = Drop n ∷ []
-network_event (Copy n) = Copy n ∷ []
+network_event e = of_event (λ i. []) (λ n. e ∷ []) e
 
 -- the events of the network, in their order
 abbrev pub network_events : List Event → List Event

@@ -1,9 +1,10 @@
 -- What the network does to a copy of a message under the locks, act by act.
 use Rattle.std.specs.Prelude.{◌≡◌, ◌<◌, ℕ, ⊤, Bool, true, false, Option, None, option_map}
-use Rattle.step_machine.specs.declared.event.Event.{Event}
-use Rattle.step_machine.specs.declared.event.Event.TheVariants as event
-use Rattle.step_machine.specs.declared.event.Name.{Name}
-use Rattle.step_machine.specs.Sealed.{Frame, copied_as, original}
+use Rattle.run_events.specs.declared.event.Event.{Event}
+use Rattle.run_events.specs.declared.event.Event.TheVariants as event
+use Rattle.run_events.specs.declared.name.Name.{Name}
+use Rattle.run_events.specs.Names.{original}
+use Rattle.step_machine.specs.Sealed.{Frame, copied_as}
 use Rattle.step_book.specs.Buffers.{BufferView}
 use Rattle.step_book.specs.Effects.{Drops, MakesCopy, Releases}
 use Rattle.step_book.specs.Log.{Recorded}

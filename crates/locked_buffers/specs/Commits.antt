@@ -1,9 +1,9 @@
 -- When what stands under the locks lets a call go through, and what the network is told of one.
 use Rattle.std.specs.Prelude.{◌≡◌, ℕ, ⊤, ◌++◌, Bool, true, false, All, List, [], ◌∷◌, Option}
-use Rattle.step_machine.specs.declared.event.Event.{Event}
+use Rattle.run_events.specs.declared.event.Event.{Event}
 use Rattle.step_machine.specs.Sealed.{Frame, Ready}
 use Rattle.step_machine.specs.Nodes.{NodeView}
-use Rattle.step_machine.specs.declared.event.Name.{Name}
+use Rattle.run_events.specs.declared.name.Name.{Name}
 use Rattle.step_book.specs.declared.mark.Mark.{Mark}
 use Rattle.step_book.specs.declared.mark.Mark.TheVariants.{Flying}
 use Rattle.step_book.specs.Causes.{IsDueIn, EndsAsRecorded, IsReceiveFit, IsSendFit}

@@ -2,7 +2,7 @@
 use Rattle.std.specs.Prelude.{◌≡◌, ℕ, ◌++◌, Bool, true, false, List, [], None, IsSome, Option}
 use Rattle.std.specs.Prelude.{option_to_list}
 use Rattle.step_machine.specs.Sealed.{Frame}
-use Rattle.step_machine.specs.declared.event.Name.{Name}
+use Rattle.run_events.specs.declared.name.Name.{Name}
 use Rattle.step_book.specs.Buffers.{IsSameRun, BufferView, flying_at}
 use Rattle.step_book.specs.Tables.{HasPlace, Puts, SameTables}
 use Rattle.step_journal.specs.Fits.{IsOfRun, place_among}

@@ -9,8 +9,8 @@ use Rattle.step_book.specs.Flight.{IsFlight}
 use Rattle.step_book.specs.Log.{HasNoCopy, IsLeastCopy, Recorded, history, mark_in, waiting_in}
 use Rattle.step_book.specs.Log.{world_of}
 use Rattle.step_book.specs.Serials.{AreSent}
-use Rattle.step_machine.specs.declared.event.InFlight.{InFlight}
-use Rattle.step_machine.specs.declared.event.Name.{Name}
+use Rattle.run_events.specs.declared.in_flight.InFlight.{InFlight}
+use Rattle.run_events.specs.declared.name.Name.{Name}
 
 -- a run by its plan, program and setup
 pub record Run (P : Type 0) : Type 0 where

@@ -8,8 +8,8 @@ use Rattle.step_book.specs.declared.fault.CloseFault.{CloseFault}
 use Rattle.step_book.specs.declared.fault.CloseFault.TheVariants as close
 use Rattle.step_book.specs.declared.fault.SendFault.{SendFault}
 use Rattle.step_book.specs.declared.fault.SendFault.TheVariants as send
-use Rattle.step_machine.specs.declared.event.Event.{Event}
-use Rattle.step_machine.specs.declared.event.Name.{Name}
+use Rattle.run_events.specs.declared.event.Event.{Event}
+use Rattle.run_events.specs.declared.name.Name.{Name}
 use Rattle.locked_buffers.specs.declared.fault.PostFault.{PostFault}
 use Rattle.locked_buffers.specs.declared.fault.PostFault.TheVariants as post
 

@@ -11,11 +11,12 @@ ghost use Rattle.locked_buffers.specs.Runs.{IsBookOfRun};
 use crate::fault::Unmatched;
 use crate::run::Run;
 use crate::seat::{Relay, Seat};
+use run_events::Event;
 use slot_plans::Plan;
 use std::sync::Arc;
 use step_book::{Book, Buffer, Mailbox, StoredEvent, StoredName};
 use step_journal::Journal;
-use step_machine::{Event, StoredState};
+use step_machine::StoredState;
 
 /// The journal of a book and its buffers, if the book is of the run, the buffers are of it too
 /// and hold the frames that the book names, and the seats and the relay were told what it has

@@ -2,7 +2,8 @@
 ghost use Rattle.std.specs.Prelude.{◌≡◌};
 ghost use Rattle.locked_buffers.specs.Acts.{event_of};
 
-use step_machine::{Event, Name, Sealed};
+use run_events::{Event, Name};
+use step_machine::Sealed;
 
 /// What the network does to a copy of a message: it lets the copy go to those that wait for their
 /// receiver, loses it, or makes it of copy 0.

@@ -4,7 +4,7 @@ ghost use Rattle.locked_buffers.specs.Commits.{send_fault};
 ghost use Rattle.locked_buffers.specs.declared.fault.PostFault.TheVariants as post;
 ghost use Rattle.locked_buffers.specs.declared.fault.RelayFault.TheVariants as relay;
 
-use round_lang::NoMemory;
+use run_events::NoMemory;
 use std::fmt;
 use step_book::SendFault;
 use thiserror::Error;

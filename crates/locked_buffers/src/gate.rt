@@ -1,5 +1,5 @@
 //! What the threads of nodes pass.
-use step_machine::Name;
+use run_events::Name;
 
 /// A moment of a node's thread: before it prepares a message and before it finishes a round, while
 /// it holds no lock; in a send, with the lock of the receiver's buffer held and the book's not; and

@@ -12,10 +12,10 @@ use crate::fault::RelayFault;
 use crate::node_buffer::NodeBuffer;
 use crate::run::Run;
 use crate::seat::Relay;
-use round_lang::NoMemory;
+use run_events::{Name, NoMemory};
 use slot_plans::Plan;
 use step_book::{Book, Buffer, StoredEvent, room};
-use step_machine::{Name, Sealed};
+use step_machine::Sealed;
 
 /// Whether the book is of the run, as the buffer is, and says that this copy is in flight just
 /// if the buffer has a frame at its place.

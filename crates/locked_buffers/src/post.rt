@@ -7,7 +7,7 @@ ghost use Rattle.step_book.specs.Log.{end_state};
 ghost use Rattle.step_book.specs.Names.{IsName};
 ghost use Rattle.step_book.specs.Buffers.{IsMail, names_in};
 ghost use Rattle.step_machine.specs.Sealed.{IsPrepared};
-ghost use Rattle.step_machine.specs.declared.event.Event.TheVariants as event;
+ghost use Rattle.run_events.specs.declared.event.Event.TheVariants as event;
 ghost use Rattle.locked_buffers.specs.Accounts.{AccountsAgree};
 ghost use Rattle.locked_buffers.specs.Acts.{event_of};
 ghost use Rattle.locked_buffers.specs.Commits.{told_with};
@@ -30,15 +30,15 @@ use crate::refusals::{may_close, refuses_receive, refuses_send};
 use crate::run::Run;
 use crate::seat::{Relay, Seat};
 use round_check::Checked;
-use round_lang::NoMemory;
 use round_meaning::Setup;
+use run_events::{InFlight, Name, NoMemory};
 use slot_plans::Plan;
 use std::alloc::Global;
 use std::marker::Model;
 use std::sync::{Mutex, Wait};
 use step_book::{Book, Buffer, CloseFault, Refused, SendFault};
 use step_journal::{Journal, Took};
-use step_machine::{Finished, InFlight, Name, Prepared};
+use step_machine::{Finished, Prepared};
 
 /// A run's book and its buffers, each under a lock. A buffer's lock may be held when the book's is
 /// taken, never the other way.

@@ -7,10 +7,10 @@ ghost use Rattle.locked_buffers.specs.Runs.{IsRecordOfRun};
 
 use crate::fault::RelayFault;
 use crate::run::Run;
+use run_events::{InFlight, Name};
 use slot_plans::Plan;
 use std::alloc::Global;
 use step_book::{Book, add_names};
-use step_machine::{InFlight, Name};
 
 /// Refuses a book of another run.
 fn allow<P: Plan>(run: &Run<P>, book: &Book<P>) -> Result<(), RelayFault>

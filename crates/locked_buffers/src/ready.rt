@@ -5,7 +5,8 @@ ghost use Rattle.std.specs.Prelude.{◌≡◌, All, IfErr, IfOk, OnOk, option_ma
 ghost use Rattle.step_book.specs.Buffers.{names_in};
 ghost use Rattle.step_book.specs.Names.{IsName};
 ghost use Rattle.step_journal.specs.Fits.{IsOfRun};
-ghost use Rattle.step_machine.specs.Sealed.{copied_as, original};
+ghost use Rattle.run_events.specs.Names.{original};
+ghost use Rattle.step_machine.specs.Sealed.{copied_as};
 ghost use Rattle.locked_buffers.specs.Acts.{IsReadyFor};
 ghost use Rattle.locked_buffers.specs.Commits.{IsUnread, IsUnready};
 ghost use Rattle.locked_buffers.specs.Frames.{HasFrame, HasPlaceFor, IsSeen, SameBuffer, flying_as};
@@ -15,11 +16,11 @@ use crate::fault::{PostFault, RelayFault};
 use crate::names::add_names_of;
 use crate::node_buffer::NodeBuffer;
 use crate::run::Run;
-use round_lang::NoMemory;
+use run_events::{Name, NoMemory};
 use slot_plans::Plan;
 use std::alloc::Global;
 use step_book::{Buffer, Mailbox};
-use step_machine::{Name, Sealed};
+use step_machine::Sealed;
 
 /// Makes room in a buffer of the run for the frame of a message in flight, and says whether there
 /// is one at its place already.

@@ -8,9 +8,9 @@ ghost use Rattle.locked_buffers.specs.Seats.{round_by, ReceiveBlame, SendBlame};
 use crate::fault::PostFault;
 use crate::run::Run;
 use crate::seat::Seat;
+use run_events::Name;
 use slot_plans::Plan;
 use step_book::SendFault;
-use step_machine::Name;
 
 /// The first step of a round.
 fn start<P: Plan>(run: &Run<P>, round: usize) -> u64

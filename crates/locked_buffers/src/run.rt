@@ -6,13 +6,12 @@ ghost use Rattle.step_journal.specs.Fits.{IsOfRun, place_among};
 ghost use Rattle.locked_buffers.specs.Runs.{IsBookOfRun, IsSound};
 
 use round_check::Checked;
-use round_lang::NoMemory;
 use round_meaning::Setup;
+use run_events::{Name, NoMemory};
 use slot_plans::Plan;
 use std::marker::Model;
 use step_book::{Book, Buffer};
 use step_journal::place;
-use step_machine::Name;
 
 /// The program, setup and plan of a run.
 #[derive(Drop)]

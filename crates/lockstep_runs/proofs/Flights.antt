@@ -10,9 +10,9 @@ use Rattle.step_book.specs.World.{IsPlan, World}
 use Rattle.step_book.proofs.Keeps.{released_other}
 use Rattle.step_book.proofs.Kept.{mark_before, mark_kept, mark_release}
 use Rattle.step_book.proofs.Names.{name_cases}
-use Rattle.step_machine.specs.declared.event.Event.{Event}
-use Rattle.step_machine.specs.declared.event.Event.TheVariants.{Step, Release}
-use Rattle.step_machine.specs.declared.event.Name.{Name}
+use Rattle.run_events.specs.declared.event.Event.{Event}
+use Rattle.run_events.specs.declared.event.Event.TheVariants.{Step, Release}
+use Rattle.run_events.specs.declared.name.Name.{Name}
 use Rattle.lockstep_runs.specs.Lockstep.{IsAloft, due_in}
 use Rattle.lockstep_runs.specs.Pacing.{Flies, Flight, HoldsByTicks, IsOther, waits_at}
 use Rattle.lockstep_runs.specs.Timing.{Timing}

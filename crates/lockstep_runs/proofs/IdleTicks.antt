@@ -22,9 +22,9 @@ use Rattle.step_book.proofs.Keeps.{idle_no_slot}
 use Rattle.step_book.proofs.Leaves.{happened_first}
 use Rattle.step_book.proofs.Places.{steps_grow, steps_other}
 use Rattle.step_book.proofs.Reading.{faithful, has_book, nodes_are}
-use Rattle.step_machine.specs.declared.event.Event.{Event}
-use Rattle.step_machine.specs.declared.event.Event.TheVariants.{Step}
-use Rattle.step_machine.specs.declared.event.Name.{Name}
+use Rattle.run_events.specs.declared.event.Event.{Event}
+use Rattle.run_events.specs.declared.event.Event.TheVariants.{Step}
+use Rattle.run_events.specs.declared.name.Name.{Name}
 use Rattle.adversary.specs.Driving.{ClosedAreDue, IsOneMore}
 use Rattle.omission_explainer.specs.Verdict.{AreNodes}
 use Rattle.lockstep_runs.specs.Changes.{timing_by}

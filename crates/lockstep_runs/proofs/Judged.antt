@@ -23,11 +23,11 @@ use Rattle.step_book.proofs.Moments.{At, at_same, at_within, place_at, step_rise
 use Rattle.step_book.proofs.Placed.{IsLost, Placed, placed}
 use Rattle.step_book.proofs.Reading.{nodes_are}
 use Rattle.step_book.proofs.Starts.{plan_is}
-use Rattle.step_machine.specs.declared.event.Event.{Event}
-use Rattle.step_machine.specs.declared.event.Event.TheVariants.{Step, Release, Drop}
-use Rattle.step_machine.specs.declared.event.InFlight.{InFlight}
-use Rattle.step_machine.specs.declared.event.Name.{Name}
-use Rattle.step_machine.specs.Sealed.{original}
+use Rattle.run_events.specs.declared.event.Event.{Event}
+use Rattle.run_events.specs.declared.event.Event.TheVariants.{Step, Release, Drop}
+use Rattle.run_events.specs.declared.in_flight.InFlight.{InFlight}
+use Rattle.run_events.specs.declared.name.Name.{Name}
+use Rattle.run_events.specs.Names.{original}
 use Rattle.omission_explainer.specs.Verdict.{AreNodes, IsDelayBound, IsLetInBetween, IsLockstep}
 use Rattle.omission_explainer.proofs.Clear.{clear_hears}
 use Rattle.omission_explainer.proofs.Delays.{came_between, let_in_moment, was_made}

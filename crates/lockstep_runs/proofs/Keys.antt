@@ -2,7 +2,7 @@
 use Rattle.std.proofs.Common.{ℕ, ◌<◌, ◌≤◌, List, [], ◌∷◌, ◌∙◌, arith}
 use Rattle.step_book.specs.World.{World}
 use Rattle.step_book.proofs.Moments.{At, Newest, Older}
-use Rattle.step_machine.specs.declared.event.Event.{Event}
+use Rattle.run_events.specs.declared.event.Event.{Event}
 use Rattle.lockstep_runs.specs.Lockstep.{AllBefore, Each, IsBefore, Key, Tick, Part, Turn}
 use Rattle.lockstep_runs.specs.Timing.{Timing}
 

@@ -10,7 +10,7 @@ use Rattle.std.specs.Map.{lookup}
 use Rattle.std.specs.declared.cmp.Ordering.{Ordering}
 use Rattle.std.specs.Ordering.{MatchOrdering, is_eq, is_gt, nat_cmp, ordering_then}
 use Rattle.std.specs.declared.cmp.Ordering.TheVariants.{Less, Equal, Greater}
-use Rattle.step_machine.specs.declared.event.Name.{Name}
+use Rattle.run_events.specs.declared.name.Name.{Name}
 use Rattle.lockstep_runs.specs.Lockstep.{IsBefore, Tick, Turn}
 use Rattle.lockstep_runs.specs.Pacing.{Flight, IsOther, IsPopped, NoneBefore, due_key, waits_at}
 

@@ -18,10 +18,10 @@ use Rattle.step_book.proofs.Keeps.{slots_same}
 use Rattle.step_book.proofs.Kept.{mark_now}
 use Rattle.step_book.proofs.Leaves.{happened_first}
 use Rattle.step_book.proofs.Names.{name_same}
-use Rattle.step_machine.specs.declared.event.Event.{Event}
-use Rattle.step_machine.specs.declared.event.Event.TheVariants.{Step, Release, Drop, Copy}
-use Rattle.step_machine.specs.declared.event.InFlight.{InFlight}
-use Rattle.step_machine.specs.declared.event.Name.{Name}
+use Rattle.run_events.specs.declared.event.Event.{Event}
+use Rattle.run_events.specs.declared.event.Event.TheVariants.{Step, Release, Drop, Copy}
+use Rattle.run_events.specs.declared.in_flight.InFlight.{InFlight}
+use Rattle.run_events.specs.declared.name.Name.{Name}
 use Rattle.adversary.specs.Driving.{IsOneMore}
 use Rattle.lockstep_runs.specs.Changes.{due_by}
 use Rattle.lockstep_runs.specs.Timing.{Timing}

@@ -14,9 +14,9 @@ use Rattle.step_book.specs.Trace.{steps}
 use Rattle.step_book.specs.World.{IsPlan, World, nodes_of}
 use Rattle.step_book.proofs.Kept.{mark_before}
 use Rattle.step_book.proofs.Reading.{nodes_are}
-use Rattle.step_machine.specs.declared.event.Event.{Event}
-use Rattle.step_machine.specs.declared.event.Event.TheVariants.{Step, Release}
-use Rattle.step_machine.specs.declared.event.Name.{Name}
+use Rattle.run_events.specs.declared.event.Event.{Event}
+use Rattle.run_events.specs.declared.event.Event.TheVariants.{Step, Release}
+use Rattle.run_events.specs.declared.name.Name.{Name}
 use Rattle.adversary.specs.Driving.{IsOneMore}
 use Rattle.lockstep_runs.specs.Timing.{Timing, steps_in}
 use Rattle.lockstep_runs.specs.Lockstep.{AllBefore, IsAloft, IsOriginal, IsTimedRun, Turn}

@@ -11,8 +11,8 @@ use Rattle.std.proofs.Math.Nat.{mod-eq_of_lt}
 use Rattle.step_book.specs.Trace.{steps}
 use Rattle.step_book.specs.World.{World, nodes_of}
 use Rattle.step_book.proofs.Places.{steps_at, steps_other}
-use Rattle.step_machine.specs.declared.event.Event.{Event}
-use Rattle.step_machine.specs.declared.event.Event.TheVariants.{Step}
+use Rattle.run_events.specs.declared.event.Event.{Event}
+use Rattle.run_events.specs.declared.event.Event.TheVariants.{Step}
 use Rattle.lockstep_runs.specs.Lockstep.{Key, first_in, turn_in}
 use Rattle.lockstep_runs.specs.Pacing.{AreSteps}
 use Rattle.lockstep_runs.specs.Timing.{Timing, steps_in}

@@ -9,8 +9,8 @@ use Rattle.round_meaning.specs.declared.setup.Setup.{Setup}
 use Rattle.round_meaning.specs.Nodes.{has_node}
 use Rattle.round_meaning.specs.Omissions.{is_omitted}
 use Rattle.schedule_text.specs.declared.pace.Stop.{Stop}
-use Rattle.step_machine.specs.declared.event.InFlight.{InFlight}
-use Rattle.step_machine.specs.declared.event.Name.{Name}
+use Rattle.run_events.specs.declared.in_flight.InFlight.{InFlight}
+use Rattle.run_events.specs.declared.name.Name.{Name}
 use Rattle.lockstep_runs.specs.Timing.{Timing}
 use Rattle.lockstep_runs.specs.declared.changes.Changes.{Changes}
 use Rattle.lockstep_runs.specs.declared.changes.MessageDelay.{MessageDelay}

@@ -8,8 +8,8 @@ use Rattle.omission_explainer.specs.Verdict.{IsDelayBound, IsLockstep}
 use Rattle.policies.specs.declared.bounded.Bounded.{Bounded}
 use Rattle.step_book.specs.Agreed.{JournalAgrees}
 use Rattle.step_book.specs.Log.{Log, history, mark_in, waiting_in, world_of}
-use Rattle.step_machine.specs.declared.event.Event.{Event}
-use Rattle.step_machine.specs.declared.event.Event.TheVariants.{Step}
+use Rattle.run_events.specs.declared.event.Event.{Event}
+use Rattle.run_events.specs.declared.event.Event.TheVariants.{Step}
 use Rattle.lockstep_runs.specs.Changes.{SparesCorrect}
 use Rattle.lockstep_runs.specs.Lockstep.{HearsFromClear, IsChangedRun, first_in}
 use Rattle.lockstep_runs.specs.Timing.{Timing}

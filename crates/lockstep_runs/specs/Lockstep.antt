@@ -14,10 +14,11 @@ use Rattle.step_book.specs.Log.{Log}
 use Rattle.step_book.specs.Names.{IsNameOf}
 use Rattle.step_book.specs.Trace.{steps}
 use Rattle.step_book.specs.World.{World, nodes_of}
-use Rattle.step_machine.specs.declared.event.Event.{Event}
-use Rattle.step_machine.specs.declared.event.Event.TheVariants.{Step, Release, Drop, Copy}
-use Rattle.step_machine.specs.declared.event.InFlight.{InFlight}
-use Rattle.step_machine.specs.declared.event.Name.{Name}
+use Rattle.run_events.specs.Events.{of_event}
+use Rattle.run_events.specs.declared.event.Event.{Event}
+use Rattle.run_events.specs.declared.event.Event.TheVariants.{Step, Release, Drop, Copy}
+use Rattle.run_events.specs.declared.in_flight.InFlight.{InFlight}
+use Rattle.run_events.specs.declared.name.Name.{Name}
 use Rattle.step_book.specs.Serials.{serial}
 use Rattle.lockstep_runs.specs.Changes.{timing_by, timing_of}
 use Rattle.lockstep_runs.specs.Timing.{Timing, steps_in}
@@ -63,10 +64,8 @@ release_key w timing t n = record { tick = due_in w timing t n; part = 0; turn =
 
 -- the key of an event, by what went before it
 abbrev pub key_of : World → Timing → Event → List Event → Key
-key_of w timing (Step i) past = step_key timing (nodes_of w) i (steps i past)
-key_of w timing (Release n) past = release_key w timing past n
-key_of w timing (Drop n) past = release_key w timing past n
-key_of w timing (Copy n) past = release_key w timing past n
+key_of w timing e past =
+    of_event (λ i. step_key timing (nodes_of w) i (steps i past)) (release_key w timing past) e
 
 -- it holds of each event of a history, which has the newest first, and of what went before it
 unfoldable pub Each : (Event → List Event → Type 0) → List Event → Type 0

@@ -6,8 +6,8 @@ use Rattle.std.specs.Ordering.{nat_cmp, ordering_then}
 use Rattle.step_book.specs.Log.{Log, Recorded, history, world_of}
 use Rattle.step_book.specs.Trace.{steps}
 use Rattle.step_book.specs.World.{IsPlan, World, nodes_of}
-use Rattle.step_machine.specs.declared.event.Event.{Event}
-use Rattle.step_machine.specs.declared.event.Name.{Name}
+use Rattle.run_events.specs.declared.event.Event.{Event}
+use Rattle.run_events.specs.declared.name.Name.{Name}
 use Rattle.lockstep_runs.specs.Lockstep.{AllBefore, Each, IsAloft, IsBefore, Key, MayHappen, due_in}
 use Rattle.lockstep_runs.specs.Lockstep.{key_of}
 use Rattle.lockstep_runs.specs.Timing.{Timing, steps_in}

@@ -1,7 +1,7 @@
 -- What a run in lockstep goes by.
 use Rattle.std.specs.Prelude.{ℕ, min, Bool, Option, Some, None}
-use Rattle.step_machine.specs.declared.event.InFlight.{InFlight}
-use Rattle.step_machine.specs.declared.event.Name.{Name}
+use Rattle.run_events.specs.declared.in_flight.InFlight.{InFlight}
+use Rattle.run_events.specs.declared.name.Name.{Name}
 
 -- after how many steps a node stops, if it does; which node steps first in a tick; which messages
 -- are omitted; and in which tick each of the others is due

@@ -4,9 +4,9 @@ ghost use Rattle.lockstep_runs.specs.Changes.{AreFit, IsFitDelay, IsFitStop, is_
 ghost use Rattle.lockstep_runs.specs.Changes.{stop_or};
 
 use round_meaning::{NodeSet, OmissionTable, Setup};
+use run_events::Name;
 use schedule_text::Stop;
 use std::alloc::Global;
-use step_machine::Name;
 
 /// The delay of a single message, in steps.
 #[derive(Clone, Copy, PartialEq, Eq, Debug)]

@@ -2,13 +2,13 @@
 ghost use Rattle.std.specs.Prelude.{◌≡◌, ◌<◌, ◌≤◌, ◌↔◌, IfSome, IsNone, IsTrue, true};
 ghost use Rattle.lockstep_runs.specs.Changes.{due_by, own_delay, stop_of, timing_by};
 ghost use Rattle.lockstep_runs.specs.IdleTicks.{step_list, turn_step};
-ghost use Rattle.round_meaning.specs.Setups.{max_nodes};
+ghost use Rattle.run_events.specs.Limits.{max_nodes};
 ghost use Rattle.round_meaning.specs.Omissions.{is_omitted};
 
 use crate::changes::{Changes, last_stop, own_delay};
 use policies::Bounded;
 use round_meaning::NodeSet;
-use step_machine::InFlight;
+use run_events::InFlight;
 
 /// The correct nodes, the tables, and what happens beside them.
 #[derive(Clone, Copy)]

@@ -3,7 +3,7 @@ ghost use Rattle.std.specs.Prelude.{◌≡◌, ◌+◌, ◌<◌, IfNone, IfOk, I
 ghost use Rattle.slot_plans.specs.Plan.{IsDelta};
 ghost use Rattle.step_book.specs.Log.{count_of, history, world_of};
 ghost use Rattle.step_book.specs.World.{IsPlan};
-ghost use Rattle.step_machine.specs.declared.event.Event.TheVariants as event;
+ghost use Rattle.run_events.specs.declared.event.Event.TheVariants as event;
 ghost use Rattle.adversary.specs.Driving.{IsOneMore};
 ghost use Rattle.lockstep_runs.specs.Changes.{timing_by};
 ghost use Rattle.lockstep_runs.specs.Pacing.{AreSteps, IsFlightIn, IsPacedIn, IsPopped, IsSameRun};
@@ -11,10 +11,9 @@ ghost use Rattle.lockstep_runs.specs.Pacing.{NoneBefore, tick_key};
 
 use crate::course::Course;
 use adversary::Driver;
-use round_lang::NoMemory;
+use run_events::{Event, InFlight, Name, NoMemory};
 use slot_plans::Plan;
 use std::collections::BTreeMap;
-use step_machine::{Event, InFlight, Name};
 
 /// The messages in flight, by the tick in which each is due and its serial.
 pub(crate) type Flight = BTreeMap<(u64, usize), Name>;
@@ -48,7 +47,6 @@ pub(crate) fn tick<P: Plan>(
         driver = driver.act(Event::Release(name))?;
     }
     let book = driver.journal().book();
-    book.agrees();
     let nodes = book.setup().nodes;
     let first = course.bounded.orders.entry(now as usize, 0) % nodes;
     for turn in 0..nodes {

@@ -22,10 +22,10 @@ use Rattle.adversary.specs.Asking.{IsAtPlace}
 use Rattle.locked_buffers.specs.Runs.{IsNextCopyInRun, Run}
 use Rattle.policies.specs.declared.policy.Choice.TheVariants as choice
 use Rattle.step_book.specs.Log.{HasNoCopy}
-use Rattle.step_machine.specs.declared.event.Event.{Event}
-use Rattle.step_machine.specs.declared.event.Event.TheVariants.{Step, Release, Drop, Copy}
-use Rattle.step_machine.specs.declared.event.InFlight.{InFlight}
-use Rattle.step_machine.specs.declared.event.Name.{Name}
+use Rattle.run_events.specs.declared.event.Event.{Event}
+use Rattle.run_events.specs.declared.event.Event.TheVariants.{Step, Release, Drop, Copy}
+use Rattle.run_events.specs.declared.in_flight.InFlight.{InFlight}
+use Rattle.run_events.specs.declared.name.Name.{Name}
 use Rattle.node_threads.specs.Choices.{ComesToInOne, IsCopyInRun}
 use Rattle.node_threads.specs.declared.body.Halt.{Halt}
 

@@ -23,7 +23,7 @@ use Rattle.std.proofs.Common.{
 use Rattle.std.specs.Prelude.{IfSome}
 use Rattle.std.proofs.lemmas.Bool.{cases_lt}
 use Rattle.std.proofs.lemmas.Option.{same_Some, slice_get-get_or}
-use Rattle.step_machine.specs.declared.event.InFlight.{InFlight}
+use Rattle.run_events.specs.declared.in_flight.InFlight.{InFlight}
 use Rattle.node_threads.specs.Flights.{AreCopies, IsCopyAt}
 
 -- where nothing is in flight

@@ -31,13 +31,13 @@ use Rattle.frame_format.proofs.layout.Layout.TheSendSync as layout
 use Rattle.step_code.proofs.block_code.BlockCode.TheSendSync as block_code
 use Rattle.step_code.proofs.instr.Instr.TheSendSync as instr
 use Rattle.step_code.proofs.room.Room.TheSendSync as room
-use Rattle.step_machine.proofs.event.Name.TheSendSync as name
+use Rattle.run_events.proofs.name.Name.TheSendSync as name
 use Rattle.step_machine.proofs.held.Held.TheSendSync as held
 use Rattle.step_machine.proofs.origin.Origin.TheSendSync as origin
 use Rattle.step_machine.proofs.spoken.Spoken.TheSendSync as spoken
 use Rattle.step_machine.specs.contracts.node.Node as node
-use Rattle.step_machine.proofs.event.Event.TheSendSync as event
-use Rattle.step_machine.proofs.event.InFlight.TheSendSync as in_flight
+use Rattle.run_events.proofs.event.Event.TheSendSync as event
+use Rattle.run_events.proofs.in_flight.InFlight.TheSendSync as in_flight
 use Rattle.step_book.proofs.mailbox.Mailbox.TheSendSync as mail
 use Rattle.step_book.proofs.mark.Mark.TheSendSync as mark
 use Rattle.step_book.proofs.marks.Marks.TheSendSync as marks

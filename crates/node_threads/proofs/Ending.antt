@@ -46,8 +46,8 @@ use Rattle.step_book.specs.Agreement.{row}
 use Rattle.step_book.specs.History.{omits_of}
 use Rattle.step_book.specs.Log.{Log, Recorded, count_of, history, round_of, world_of}
 use Rattle.step_book.specs.declared.mark.Mark.{Mark}
-use Rattle.step_machine.specs.declared.event.Event.{Event}
-use Rattle.step_machine.specs.declared.event.Name.{Name}
+use Rattle.run_events.specs.declared.event.Event.{Event}
+use Rattle.run_events.specs.declared.name.Name.{Name}
 use Rattle.node_threads.specs.Bodies.{IsEnded, IsNotPassed, SeatsEnded}
 use Rattle.node_threads.specs.Ends.{AreBehind, HasDecidedBy, HasEnded, HasOneDecision, HaveEnded}
 use Rattle.node_threads.specs.Stops.{stop_of}

@@ -29,8 +29,8 @@ use Rattle.adversary.specs.Asking.{Chooses}
 use Rattle.locked_buffers.specs.Runs.{AddsSentInRun, Run}
 use Rattle.policies.specs.declared.policy.Choice.{Choice}
 use Rattle.schedule_text.specs.declared.pace.Pace.{Pace}
-use Rattle.step_machine.specs.declared.event.Event.{Event}
-use Rattle.step_machine.specs.declared.event.Name.{Name}
+use Rattle.run_events.specs.declared.event.Event.{Event}
+use Rattle.run_events.specs.declared.name.Name.{Name}
 use Rattle.node_threads.specs.Flights.{known_with, sent_after}
 use Rattle.node_threads.specs.Turns.{
   GoesOnByTurns,

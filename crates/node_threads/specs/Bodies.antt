@@ -3,7 +3,7 @@ use Rattle.std.specs.Prelude.{◌≡◌, ℕ, ◌+◌, ◌<◌, ◌≤◌, ◌�
 use Rattle.std.specs.Prelude.{Some, length, slice_index_or}
 use Rattle.locked_buffers.specs.Runs.{Run}
 use Rattle.locked_buffers.specs.Seats.{Account, IsDueBy, round_by}
-use Rattle.round_meaning.specs.Setups.{max_rounds}
+use Rattle.run_events.specs.Limits.{max_rounds}
 use Rattle.schedule_text.specs.declared.pace.Stop.{Stop}
 use Rattle.step_book.specs.Buffers.{names_in}
 use Rattle.step_book.specs.Taking.{HasTaken}

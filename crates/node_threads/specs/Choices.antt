@@ -8,10 +8,10 @@ use Rattle.node_threads.specs.declared.body.Halt.{Halt}
 use Rattle.node_threads.specs.declared.body.Halt.TheVariants as halt
 use Rattle.policies.specs.declared.policy.Choice.{Choice}
 use Rattle.step_book.specs.Log.{Recorded}
-use Rattle.step_machine.specs.declared.event.Event.{Event}
-use Rattle.step_machine.specs.declared.event.Event.TheVariants.{Copy}
-use Rattle.step_machine.specs.declared.event.InFlight.{InFlight}
-use Rattle.step_machine.specs.declared.event.Name.{Name}
+use Rattle.run_events.specs.declared.event.Event.{Event}
+use Rattle.run_events.specs.declared.event.Event.TheVariants.{Copy}
+use Rattle.run_events.specs.declared.in_flight.InFlight.{InFlight}
+use Rattle.run_events.specs.declared.name.Name.{Name}
 
 -- what an answer of the policy over these messages in flight comes to, after the events of some
 -- record

@@ -9,9 +9,9 @@ use Rattle.schedule_text.specs.declared.pace.Pace.{Pace}
 use Rattle.schedule_text.specs.declared.pace.Pace.TheVariants.{Free, Ticks}
 use Rattle.step_book.specs.Log.{Recorded, history, world_of}
 use Rattle.step_book.specs.Serials.{AreSent}
-use Rattle.step_machine.specs.declared.event.Event.{Event}
-use Rattle.step_machine.specs.declared.event.InFlight.{InFlight}
-use Rattle.step_machine.specs.declared.event.Name.{Name}
+use Rattle.run_events.specs.declared.event.Event.{Event}
+use Rattle.run_events.specs.declared.in_flight.InFlight.{InFlight}
+use Rattle.run_events.specs.declared.name.Name.{Name}
 use Rattle.node_threads.specs.Choices.{ComesToInOne}
 use Rattle.node_threads.specs.Flights.{IsNoted, known_with, sent_after}
 

@@ -1,7 +1,7 @@
 //! What a node's thread does, over whatever answers its calls.
 ghost use Rattle.std.specs.Option.{ForSome};
 ghost use Rattle.std.specs.Prelude.{◌≡◌, ◌↔◌, ◌+◌, ◌<◌, ◌≤◌, IfOk, OnErr, OnOk, Some};
-ghost use Rattle.round_meaning.specs.Setups.{max_rounds};
+ghost use Rattle.run_events.specs.Limits.{max_rounds};
 ghost use Rattle.locked_buffers.specs.Seats.{round_by};
 ghost use Rattle.node_threads.specs.Bodies.{HasReceived, IsCutShort, IsEnded, IsHeldUp};
 ghost use Rattle.node_threads.specs.Bodies.{IsInPlace, IsNotPassed, IsPlanned, IsTogether, end_of};
@@ -13,10 +13,10 @@ ghost use Rattle.step_book.specs.declared.fault.SendFault.TheVariants as send;
 use crate::ended::Ended;
 use crate::stops::is_stop;
 use locked_buffers::{Gate, Mail, Point, PostFault, Seat};
-use round_lang::NoMemory;
+use run_events::{Name, NoMemory};
 use slot_plans::Plan;
 use step_book::{CloseFault, Refused, SendFault, take_all};
-use step_machine::{Name, Node};
+use step_machine::Node;
 
 /// Why a thread can't go on: out of memory, or a call was refused for another cause.
 #[derive(Clone, Copy, PartialEq, Eq, Debug)]

@@ -3,7 +3,7 @@ ghost use Rattle.std.specs.Prelude.{◌≡◌, IfOk};
 
 use crate::body::Beat;
 use crate::progress::Progress;
-use round_lang::NoMemory;
+use run_events::NoMemory;
 use schedule_text::Pace;
 use std::alloc::Global;
 use std::sync::atomic::{AtomicBool, Ordering};

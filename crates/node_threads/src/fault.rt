@@ -5,7 +5,7 @@ ghost use Rattle.node_threads.specs.declared.fault.ThreadFault.TheVariants as fa
 
 use crate::body::Halt;
 use adversary::RunFault;
-use round_lang::NoMemory;
+use run_events::NoMemory;
 
 /// Why a run by threads has no journal; of several causes the first of these is told.
 #[derive(Clone, Copy, PartialEq, Eq, Debug)]

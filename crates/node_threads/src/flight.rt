@@ -4,10 +4,9 @@ ghost use Rattle.std.specs.Prelude.{length, remove, slice_get};
 ghost use Rattle.node_threads.specs.Flights.{AreCopies, IsNoted};
 
 use policies::Choice;
-use round_lang::NoMemory;
+use run_events::{Event, InFlight, NoMemory};
 use std::alloc::Global;
 use std::marker::Model;
-use step_machine::{Event, InFlight};
 
 /// How many entries must be gone before their room is given back.
 const FEWEST: usize = 64;
@@ -22,7 +21,7 @@ pub(crate) struct Flight {
 
 impl Model for Flight {
     ghost use Rattle.std.specs.Prelude.{◌≤◌, List, drop, length};
-    ghost use Rattle.step_machine.specs.declared.event.InFlight.{InFlight as OneInFlight};
+    ghost use Rattle.run_events.specs.declared.in_flight.InFlight.{InFlight as OneInFlight};
 
     ghost Value = { List OneInFlight };
 

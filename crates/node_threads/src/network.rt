@@ -2,7 +2,7 @@
 ghost use Rattle.std.specs.Prelude.{◌≡◌, ◌+◌, ◌-◌, ◌^◌, ◌≤◌, ◌++◌, ◌∷◌, [], Bool, IfOk};
 ghost use Rattle.std.specs.Prelude.{OnErr, OnOk, Option, None, min};
 ghost use Rattle.locked_buffers.specs.Commits.{told_with};
-ghost use Rattle.round_meaning.specs.Setups.{max_rounds};
+ghost use Rattle.run_events.specs.Limits.{max_rounds};
 ghost use Rattle.node_threads.specs.Choices.{ComesToInOne, IsCopyInRun, halt_of};
 ghost use Rattle.node_threads.specs.Flights.{sent_as};
 ghost use Rattle.node_threads.specs.Turns.{HasLearnt, HasRun, IsAskedFor, IsDone, IsTurn};
@@ -15,13 +15,13 @@ use crate::promise::NetworkRun;
 use locked_buffers::{Post, Relay, RelayFault};
 use policies::{Choice, Policy};
 use round_meaning::Setup;
+use run_events::{Event, InFlight, Name};
 use schedule_text::Pace;
 use slot_plans::Plan;
 use std::alloc::Global;
 use std::snapshot::Snapshot;
 use std::sync::Wait;
 use step_book::is_name;
-use step_machine::{Event, InFlight, Name};
 
 /// What the network's thread works with.
 #[derive(Drop)]

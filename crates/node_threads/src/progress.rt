@@ -1,5 +1,5 @@
 //! How far the nodes and the network have come, by which they keep together under the free pace.
-use round_lang::NoMemory;
+use run_events::NoMemory;
 use std::alloc::Global;
 use std::sync::Wait;
 use std::sync::atomic::{AtomicU64, Ordering};

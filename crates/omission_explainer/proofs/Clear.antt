@@ -8,8 +8,8 @@ use Rattle.std.proofs.lemmas.Bool.{and_right, lt-ltb}
 use Rattle.round_lang.specs.Sets.{is_in}
 use Rattle.round_lang.specs.declared.value.Value.{Value}
 use Rattle.slot_plans.specs.Plan.{IsClearRound, PlanLaws}
-use Rattle.step_machine.specs.declared.event.Event.{Event}
-use Rattle.step_machine.specs.declared.event.Event.TheVariants.{Step, Release}
+use Rattle.run_events.specs.declared.event.Event.{Event}
+use Rattle.run_events.specs.declared.event.Event.TheVariants.{Step, Release}
 use Rattle.step_book.specs.Fates.{carried, fate}
 use Rattle.step_book.specs.History.{message}
 use Rattle.step_book.specs.Log.{Log, IsFaithful, history, round_of, world_of}

@@ -5,8 +5,8 @@ use Rattle.std.proofs.lemmas.Bool.{and_from, and_parts, lt-ltb, both_ways}
 use Rattle.round_lang.specs.Sets.{is_in}
 use Rattle.round_meaning.specs.Nodes.{has_node}
 use Rattle.slot_plans.specs.Plan.{PlanLaws}
-use Rattle.step_machine.specs.declared.event.Event.{Event}
-use Rattle.step_machine.specs.declared.event.Name.{Name}
+use Rattle.run_events.specs.declared.event.Event.{Event}
+use Rattle.run_events.specs.declared.name.Name.{Name}
 use Rattle.step_book.specs.Log.{Log, world_of}
 use Rattle.step_book.specs.Slots.{IsMessageAt, IsNoMessageAt}
 use Rattle.step_book.specs.Trace.{steps}

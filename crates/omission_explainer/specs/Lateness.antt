@@ -8,8 +8,8 @@ use Rattle.step_book.specs.History.{mark_of}
 use Rattle.step_book.specs.Slots.{IsMessageAt}
 use Rattle.step_book.specs.Trace.{steps}
 use Rattle.step_book.specs.World.{World, is_receive}
-use Rattle.step_machine.specs.declared.event.Event.{Event}
-use Rattle.step_machine.specs.declared.event.Name.{Name}
+use Rattle.run_events.specs.declared.event.Event.{Event}
+use Rattle.run_events.specs.declared.name.Name.{Name}
 
 -- the step number below which a receiver that has taken `count` steps lacked a copy: that of its
 -- release, as its mark keeps it, or the next one

@@ -11,9 +11,9 @@ use Rattle.step_book.specs.Names.{IsName}
 use Rattle.step_book.specs.Places.{IsFirstAfter, IsLeftAt, IsMadeAt, IsReleaseAt, IsStepAt}
 use Rattle.step_book.specs.Places.{steps_before}
 use Rattle.step_book.specs.World.{World, is_receive}
-use Rattle.step_machine.specs.declared.event.Event.{Event}
-use Rattle.step_machine.specs.declared.event.Name.{Name}
-use Rattle.step_machine.specs.Sealed.{max_copy}
+use Rattle.run_events.specs.declared.event.Event.{Event}
+use Rattle.run_events.specs.declared.name.Name.{Name}
+use Rattle.run_events.specs.Limits.{max_copy}
 use Rattle.omission_explainer.specs.declared.judging.Verdict.{Verdict}
 use Rattle.omission_explainer.specs.Reported.{omitted_in}
 

@@ -1,5 +1,6 @@
 //! From a journal to its report.
 ghost use Rattle.std.specs.Prelude.{◌≡◌, ◌≢◌, ◌+◌, ◌<◌, ◌≤◌, ◌↔◌, All, IfOk, IsTrue, map};
+ghost use Rattle.run_events.specs.Limits.{max_rounds};
 ghost use Rattle.round_meaning.specs.Agreement.{RunsAlgorithm1};
 ghost use Rattle.round_meaning.specs.Rounds.{algorithm_of};
 ghost use Rattle.round_meaning.specs.Turn.{decision};
@@ -20,14 +21,13 @@ use crate::listed::Listed;
 use crate::report::{Report, ReportRow};
 use crate::stored_decision::{decided_place, decision_at};
 use crate::variables::{variable_names, variable_types};
-use round_lang::NoMemory;
 use round_meaning::NodeSet;
+use run_events::{Name, NoMemory};
 use slot_plans::Plan;
 use std::alloc::Global;
 use std::sync::Arc;
 use step_book::{Book, Mark, earliest, is_within};
 use step_journal::Journal;
-use step_machine::Name;
 
 /// The report of a journal: its closed rounds, as rounds with omissions. Where the program is
 /// Algorithm 1, for a setup with fewer than half of the nodes faulty, all decisions in it are
@@ -141,7 +141,7 @@ struct Outcomes {
 fn outcomes_of<P: Plan>(book: &Book<P>, node: u32, round: u32) -> Outcomes
     requires node { node < book.now.log.setup.nodes }
     requires first { 0 < round }
-    requires few { round ≤ 4096 }
+    requires few { round ≤ max_rounds }
     requires closed { round < round_of book.now.log node }
     ensures heard { result.heard.bits ≡ heard_in (P.start book.now.plan) book.now.log round node }
     ensures silent { result.silent.bits
@@ -185,7 +185,7 @@ fn row_of<P: Plan>(
     requires decided { IsDecidedAt book.now.log.program decided }
     requires node { node < book.now.log.setup.nodes }
     requires first { 0 < round }
-    requires few { round ≤ 4096 }
+    requires few { round ≤ max_rounds }
     requires closed { round < round_of book.now.log node }
     ensures round { IfOk result (λ r. r.round ≡ round) }
     ensures node { IfOk result (λ r. r.node ≡ node) }

@@ -1,5 +1,6 @@
 //! Whether a run kept what its plan counts on.
 ghost use Rattle.std.specs.Prelude.{◌≡◌, ◌+◌, ◌<◌, ◌↔◌, IfSome, IsTrue, Some, length};
+ghost use Rattle.run_events.specs.Limits.{max_nodes};
 ghost use Rattle.slot_plans.specs.Plan.{IsClearRound};
 ghost use Rattle.step_book.specs.Log.{history, world_of};
 ghost use Rattle.omission_explainer.specs.Lateness.{HasReceive, KeepsBound, KeepsPace};
@@ -8,11 +9,11 @@ ghost use Rattle.omission_explainer.specs.Verdict.{yes_or_no};
 
 use crate::lateness::open_until;
 use round_meaning::NodeSet;
-use slot_plans::{MAX_NODES, Plan, Slot};
+use run_events::{Event, MAX_NODES};
+use slot_plans::{Plan, Slot};
 use std::fmt;
 use step_book::Book;
 use step_journal::Journal;
-use step_machine::Event;
 
 /// The judgement of a run for a set of correct nodes: whether they stepped in lockstep, whether
 /// their messages kept the bound on the delay, and the first round, from 1, from which on messages
@@ -106,9 +107,9 @@ struct Terms {
 
 /// Whether no correct node has taken fewer steps than this one.
 fn keeps_pace(correct: NodeSet, counts: &[u64], node: u32) -> bool
-    requires sized { length counts.now ≡ 16 }
-    requires node { node < 16 }
-    requires within { AreNodes 16 correct.bits }
+    requires sized { length counts.now ≡ max_nodes }
+    requires node { node < max_nodes }
+    requires within { AreNodes max_nodes correct.bits }
     ensures { IsTrue result ↔ KeepsPace correct.bits counts.now node }
 {
     for other in 0..MAX_NODES {
@@ -125,7 +126,7 @@ fn keeps_pace(correct: NodeSet, counts: &[u64], node: u32) -> bool
 /// A receive comes after the send if its step number isn't below the receiver's count at the
 /// send, and after the release of a copy if it isn't below the receiver's count there.
 fn keeps_bound<P: Plan>(book: &Book<P>, terms: Terms, counts: &[u64], node: u32) -> bool
-    requires sized { length counts.now ≡ 16 }
+    requires sized { length counts.now ≡ max_nodes }
     requires node { node < book.now.log.setup.nodes }
     requires within { AreNodes book.now.log.setup.nodes terms.correct.bits }
     ensures { IsTrue result ↔ KeepsBound (world_of (P.start book.now.plan) book.now.log)
@@ -155,7 +156,6 @@ fn has_receive<P: Plan>(book: &Book<P>, low: u64, high: u64) -> bool
     if high <= low {
         return false;
     }
-    book.agrees();
     let plan = book.plan();
     if low >= u64::from(plan.start(book.setup().rounds + 1)) {
         return false;

@@ -4,7 +4,8 @@ ghost use Rattle.omission_explainer.specs.Reported.{declared_names, declared_typ
 ghost use Rattle.round_check.specs.Types.{kind_type};
 
 use crate::listed::Listed;
-use round_lang::{Identifier, NoMemory, Program, Ty, VariableKind};
+use round_lang::{Identifier, Program, Ty, VariableKind};
+use run_events::NoMemory;
 use std::alloc::Global;
 
 /// The names of the variables, in the order in which they are declared.

@@ -1,8 +1,8 @@
 -- Where a copy is made, and where it leaves.
 use Rattle.std.proofs.Common.{◌≡◌, ℕ, ◌<◌, List, Option, None, Some, subst, arith}
 use Rattle.std.specs.Prelude.{MatchOption}
-use Rattle.step_machine.specs.declared.event.Event.{Event}
-use Rattle.step_machine.specs.declared.event.Name.{Name}
+use Rattle.run_events.specs.declared.event.Event.{Event}
+use Rattle.run_events.specs.declared.name.Name.{Name}
 use Rattle.step_book.specs.Places.{Copied, IsCopyAt, IsFirstAfter, IsLeftAt, IsMadeAt, IsSlotAt}
 use Rattle.step_book.specs.Places.{Sent}
 use Rattle.step_book.specs.World.{World}

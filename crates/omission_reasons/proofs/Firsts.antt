@@ -5,7 +5,7 @@ use Rattle.std.specs.Prelude.{reverse}
 use Rattle.std.specs.List.{slice_get}
 use Rattle.std.proofs.lemmas.Bool.{cases_lt}
 use Rattle.std.proofs.lemmas.Option.{same_Some, slice_get-get_or}
-use Rattle.step_machine.specs.declared.event.Event.{Event}
+use Rattle.run_events.specs.declared.event.Event.{Event}
 use Rattle.step_book.specs.Places.{IsFirstAfter}
 use Rattle.step_book.proofs.Moments.{At, at_longer, at_within, place_at}
 use Rattle.omission_reasons.specs.Listing.{places_where}

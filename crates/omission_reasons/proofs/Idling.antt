@@ -5,9 +5,9 @@ use Rattle.std.specs.Prelude.{IfSome, MatchOption, is_some, reverse}
 use Rattle.std.proofs.lemmas.Bool.{cases_lt}
 use Rattle.std.proofs.lemmas.List.{reverse-reverse}
 use Rattle.round_lang.specs.declared.value.Value.{Value}
-use Rattle.step_machine.specs.declared.event.Event.{Event}
-use Rattle.step_machine.specs.declared.event.Name.{Name}
-use Rattle.step_machine.specs.Sealed.{original}
+use Rattle.run_events.specs.declared.event.Event.{Event}
+use Rattle.run_events.specs.declared.name.Name.{Name}
+use Rattle.run_events.specs.Names.{original}
 use Rattle.step_book.specs.declared.mark.Mark.TheVariants as mark
 use Rattle.step_book.specs.Agreed.{IsInFlight}
 use Rattle.step_book.specs.Fates.{Fate, Lost, Moving, Taken, Unmade, Waiting, fate}

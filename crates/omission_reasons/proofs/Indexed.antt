@@ -2,7 +2,7 @@
 use Rattle.std.proofs.Common.{◌≡◌, ℕ, [], ◌+◌, ◌<◌, List, length, get_or, sym, ap, ◌∙◌, arith}
 use Rattle.std.proofs.Common.{subst}
 use Rattle.std.proofs.lemmas.List.{get_or_past}
-use Rattle.step_machine.specs.declared.event.Event.{Event}
+use Rattle.run_events.specs.declared.event.Event.{Event}
 use Rattle.step_book.specs.Log.{Log, history}
 use Rattle.step_book.specs.Trace.{is_step}
 use Rattle.omission_explainer.proofs.Moments.{moment_at, moment_short, next_moment}

@@ -5,9 +5,9 @@ use Rattle.std.specs.Prelude.{◌&&◌, not, is_some, nat_lt, reverse}
 use Rattle.std.proofs.lemmas.Bool.{lt-ltb}
 use Rattle.round_lang.specs.Sets.{is_in}
 use Rattle.round_lang.proofs.SetLaws.{is_in-set_of}
-use Rattle.step_machine.specs.declared.event.Event.{Event}
-use Rattle.step_machine.specs.declared.event.Name.{Name}
-use Rattle.step_machine.specs.Sealed.{original}
+use Rattle.run_events.specs.declared.event.Event.{Event}
+use Rattle.run_events.specs.declared.name.Name.{Name}
+use Rattle.run_events.specs.Names.{original}
 use Rattle.step_book.specs.declared.mark.Mark.{Mark}
 use Rattle.step_book.specs.declared.mark.Mark.TheVariants as mark
 use Rattle.step_book.specs.Fates.{Unmade, carried, fate}

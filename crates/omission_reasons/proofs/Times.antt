@@ -5,9 +5,9 @@ use Rattle.std.specs.Prelude.{reverse}
 use Rattle.std.specs.List.{slice_get}
 use Rattle.std.proofs.lemmas.Bool.{and_from, cases_lt, le-leb, lt-ltb}
 use Rattle.std.proofs.lemmas.List.{reverse-reverse}
-use Rattle.step_machine.specs.declared.event.Event.{Event}
-use Rattle.step_machine.specs.declared.event.Event.TheVariants.{Step}
-use Rattle.step_machine.specs.declared.event.Name.{Name}
+use Rattle.run_events.specs.declared.event.Event.{Event}
+use Rattle.run_events.specs.declared.event.Event.TheVariants.{Step}
+use Rattle.run_events.specs.declared.name.Name.{Name}
 use Rattle.step_book.specs.Places.{IsMadeAt, IsReceiveOf, IsSlotAt, IsStepAt, steps_before}
 use Rattle.step_book.specs.Trace.{is_step, steps}
 use Rattle.step_book.specs.World.{World, is_receive}

@@ -1,8 +1,8 @@
 -- Where a copy is made and where it leaves, as they are sought in a trace.
 use Rattle.std.specs.Prelude.{◌≡◌, ℕ, ◌≤◌, ◌<◌, ◌⊎◌, false, List}
-use Rattle.step_machine.specs.declared.event.Event.{Event}
-use Rattle.step_machine.specs.declared.event.Event.TheVariants.{Release, Drop, Copy}
-use Rattle.step_machine.specs.declared.event.Name.{Name}
+use Rattle.run_events.specs.declared.event.Event.{Event}
+use Rattle.run_events.specs.declared.event.Event.TheVariants.{Release, Drop, Copy}
+use Rattle.run_events.specs.declared.name.Name.{Name}
 use Rattle.step_book.specs.Places.{IsCopyAt, IsFirstAfter, IsLeftAt, IsMadeAt, IsReceiveOf}
 use Rattle.step_book.specs.World.{World, is_receive}
 use Rattle.omission_reasons.specs.declared.departure.Sought.{Sought}

@@ -1,7 +1,7 @@
 -- Why an event of the network did nothing, by places in the trace.
 use Rattle.std.specs.Prelude.{◌≡◌, ℕ, ◌<◌, ◌≤◌, IsSome, None}
-use Rattle.step_machine.specs.declared.event.Name.{Name}
-use Rattle.step_machine.specs.Sealed.{original}
+use Rattle.run_events.specs.declared.name.Name.{Name}
+use Rattle.run_events.specs.Names.{original}
 use Rattle.step_book.specs.Agreed.{message_sent}
 use Rattle.step_book.specs.Log.{Log, world_of}
 use Rattle.step_book.specs.Places.{IsMadeAt, IsSlotAt}

@@ -1,9 +1,9 @@
 -- Where the events of a trace stand that name a node or a message.
 use Rattle.std.specs.Prelude.{ℕ, ◌+◌, ◌*◌, ◌==◌, Bool, false, if◌then◌else◌, List, [], ◌∷◌}
 use Rattle.std.specs.Prelude.{◌++◌, length}
-use Rattle.step_machine.specs.declared.event.Event.{Event}
-use Rattle.step_machine.specs.declared.event.Event.TheVariants.{Step, Release, Drop, Copy}
-use Rattle.step_machine.specs.declared.event.Name.{Name}
+use Rattle.run_events.specs.Events.{of_event}
+use Rattle.run_events.specs.declared.event.Event.{Event}
+use Rattle.run_events.specs.declared.name.Name.{Name}
 
 -- a list of places once an event has happened at this place: with it, if the event passes the test
 abbrev pub listed : (Event → Bool) → Event → ℕ → List ℕ → List ℕ
@@ -20,7 +20,4 @@ number_of nodes n = (n.round * nodes + n.from) * nodes + n.to
 
 -- the event is of the network, and names a message with this number
 abbrev pub has_number : ℕ → ℕ → Event → Bool
-has_number nodes k (Step i) = false
-has_number nodes k (Release n) = number_of nodes n == k
-has_number nodes k (Drop n) = number_of nodes n == k
-has_number nodes k (Copy n) = number_of nodes n == k
+has_number nodes k e = of_event (λ i. false) (λ n. number_of nodes n == k) e

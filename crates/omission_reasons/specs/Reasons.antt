@@ -1,8 +1,8 @@
 -- Why a report omits a message: what became of each of its copies, by places in the trace.
 use Rattle.std.specs.Prelude.{◌≡◌, ℕ, ◌<◌, ◌⊎◌, List, true}
 use Rattle.round_lang.specs.Sets.{is_in}
-use Rattle.step_machine.specs.declared.event.Event.{Event}
-use Rattle.step_machine.specs.declared.event.Name.{Name}
+use Rattle.run_events.specs.declared.event.Event.{Event}
+use Rattle.run_events.specs.declared.name.Name.{Name}
 use Rattle.step_book.specs.Agreed.{IsInFlight}
 use Rattle.step_book.specs.Log.{Log, round_of, world_of}
 use Rattle.step_book.specs.Places.{IsDropAt, IsFirstAfter, IsLeftAt, IsMadeAt, IsReceiveAt}

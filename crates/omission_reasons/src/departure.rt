@@ -9,10 +9,9 @@ ghost use Rattle.omission_reasons.specs.Reasons.{IsMade};
 
 use crate::idle::is_unsent;
 use crate::trace_index::TraceIndex;
+use run_events::{Event, Name, StoredEvent};
 use slot_plans::Plan;
 use step_book::{Book, Mark};
-use step_machine::{Event, Name};
-use stored_events::StoredEvent;
 
 /// Which events of a copy are sought: those that make it, or those by which it leaves.
 #[derive(Clone, Copy, PartialEq, Eq, Debug)]
@@ -79,7 +78,6 @@ fn first_after<P: Plan>(
         ((k : ℕ) → after < k → ¬ IsSoughtAt sought book.now.log.trace name k)
         (IsFirstAfter (IsSoughtAt sought book.now.log.trace name) after) }
 {
-    book.agrees();
     let trace = book.trace();
     for place in index.of_message(book.setup().nodes, name) {
         if after < *place && is_sought_at(trace, *place, sought, name) {

@@ -1,7 +1,7 @@
 //! Events of the network that did nothing.
 ghost use Rattle.std.specs.Prelude.{◌≡◌, ◌≢◌, ◌<◌, ◌≤◌, ◌↔◌, IfSome, IsTrue, MatchOption, None};
 ghost use Rattle.std.specs.Prelude.{Some};
-ghost use Rattle.step_machine.specs.Sealed.{original};
+ghost use Rattle.run_events.specs.Names.{original};
 ghost use Rattle.step_book.specs.Log.{mark_in, world_of};
 ghost use Rattle.step_book.specs.Names.{IsName};
 ghost use Rattle.step_book.specs.Places.{IsCopyAt, IsLeftAt};
@@ -12,9 +12,9 @@ ghost use Rattle.omission_reasons.specs.Indexing.{IsIndexOf};
 use crate::departure::{departure, making};
 use crate::omission::is_silent;
 use crate::trace_index::TraceIndex;
+use run_events::Name;
 use slot_plans::Plan;
 use step_book::{Book, Mark};
-use step_machine::Name;
 
 /// Why a release, a drop or a copy did nothing. Places are those of events in the trace, from 0.
 #[derive(Clone, Copy, PartialEq, Eq, Debug)]

@@ -1,13 +1,13 @@
 //! Which messages a report omits.
 ghost use Rattle.std.specs.Prelude.{◌≡◌, ◌↔◌, IsTrue};
-ghost use Rattle.step_machine.specs.Sealed.{original};
+ghost use Rattle.run_events.specs.Names.{original};
 ghost use Rattle.step_book.specs.Log.{mark_in};
 ghost use Rattle.step_book.specs.Names.{IsName};
 ghost use Rattle.omission_reasons.specs.Reasons.{IsOmitted};
 
+use run_events::Name;
 use slot_plans::Plan;
 use step_book::{Book, Mark, earliest};
-use step_machine::Name;
 
 /// Whether the report of a run omits a message: its round is closed at its receiver, its sender
 /// wasn't silent, and no copy of it was carried.

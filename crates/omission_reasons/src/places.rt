@@ -2,7 +2,7 @@
 ghost use Rattle.std.specs.Prelude.{◌≡◌, ◌++◌, ◌<◌, ◌∷◌, [], OnOk, slice_index_or, vec_len};
 ghost use Rattle.step_book.specs.Tables.{PutsAt, SameTable, tables_of};
 
-use round_lang::NoMemory;
+use run_events::NoMemory;
 use std::alloc::Global;
 use std::marker::Model;
 

@@ -10,9 +10,9 @@ use crate::omission::is_omitted;
 use crate::reason::Reason;
 use crate::receive::first_receive;
 use crate::trace_index::TraceIndex;
+use run_events::Name;
 use slot_plans::Plan;
 use step_book::{Book, Mark};
-use step_machine::Name;
 
 /// Why a copy of a message isn't heard, if the report of the run omits the message: `None` for a
 /// message that isn't omitted, and for a copy other than 0 that was never made. So an omitted

@@ -19,7 +19,6 @@ pub fn first_receive<P: Plan>(book: &Book<P>, low: u64) -> Option<Receive>
         (NoReceiveFrom (world_of (P.start book.now.plan) book.now.log) low)
         (IsFirstReceive (world_of (P.start book.now.plan) book.now.log) low) }
 {
-    book.agrees();
     let plan = book.plan();
     if low >= u64::from(plan.start(book.setup().rounds + 1)) {
         return None;

@@ -1,15 +1,15 @@
 //! Where the events of each node and of each message stand in a trace.
 ghost use Rattle.std.specs.Prelude.{◌≡◌, ◌≤◌, [], ℕ, IfOk, OnOk, slice_get, slice_index_or};
+ghost use Rattle.run_events.specs.Limits.{max_nodes};
 ghost use Rattle.step_book.specs.Trace.{is_step};
 ghost use Rattle.omission_reasons.specs.Listing.{has_number, listed, number_of};
 ghost use Rattle.omission_reasons.specs.Indexing.{IsIndexOf};
 
 use crate::places::Places;
-use round_lang::NoMemory;
+use run_events::{Event, Name, NoMemory};
 use slot_plans::Plan;
 use std::alloc::Global;
 use step_book::Book;
-use step_machine::{Event, Name};
 
 /// Where the events of a run stand in its trace: the steps of each node, and the network's events
 /// that name each message.
@@ -24,7 +24,6 @@ impl TraceIndex {
     pub fn new<P: Plan>(alloc: Global, book: &Book<P>) -> Result<TraceIndex, NoMemory>
         ensures { IfOk result (IsIndexOf book.now.log) }
     {
-        book.agrees();
         let nodes = book.setup().nodes;
         let mut index = TraceIndex {
             steps: Places::new(alloc),
@@ -38,7 +37,7 @@ impl TraceIndex {
 
     /// Adds an event that stands at a place.
     fn add(&mut self, nodes: u32, place: usize, event: Event) -> Result<(), NoMemory>
-        requires few { nodes ≤ 16 }
+        requires few { nodes ≤ max_nodes }
         ensures steps { OnOk result ((node : ℕ) → slice_index_or self.new.steps node []
             ≡ listed (is_step node) event place (slice_index_or self.old.steps node [])) }
         ensures events { OnOk result ((k : ℕ) → slice_index_or self.new.events k []
@@ -46,9 +45,9 @@ impl TraceIndex {
     {
         match event {
             Event::Step(node) => self.steps.add(node as usize, place),
-            Event::Release(name) => self.events.add(number_of(nodes, name), place),
-            Event::Drop(name) => self.events.add(number_of(nodes, name), place),
-            Event::Copy(name) => self.events.add(number_of(nodes, name), place),
+            Event::Release(name) | Event::Drop(name) | Event::Copy(name) => {
+                self.events.add(number_of(nodes, name), place)
+            }
         }
     }
 
@@ -61,7 +60,7 @@ impl TraceIndex {
 
     /// The places of the network's events that name a message of a run with so many nodes.
     pub(crate) fn of_message(&self, nodes: u32, name: Name) -> &[usize]
-        requires few { nodes ≤ 16 }
+        requires few { nodes ≤ max_nodes }
         ensures { result.now ≡ slice_index_or self.now.events (number_of nodes name) [] }
     {
         self.events.list(number_of(nodes, name))
@@ -70,7 +69,7 @@ impl TraceIndex {
 
 /// The number of a message in a run with so many nodes.
 fn number_of(nodes: u32, name: Name) -> usize
-    requires few { nodes ≤ 16 }
+    requires few { nodes ≤ max_nodes }
     ensures { result ≡ number_of nodes name }
 {
     let nodes = nodes as usize;

@@ -14,8 +14,8 @@ use Rattle.round_lang.specs.Syntax.{ProgramTree}
 use Rattle.round_meaning.proofs.RoundLaws.{map_same, rounds_same}
 use Rattle.round_meaning.specs.Rounds.{Algorithm, algorithm, algorithm_of, rounds}
 use Rattle.round_meaning.specs.declared.setup.Setup.{Setup}
-use Rattle.step_machine.specs.declared.event.Event.{Event}
-use Rattle.step_machine.specs.declared.event.Event.TheVariants.{Step, Release}
+use Rattle.run_events.specs.declared.event.Event.{Event}
+use Rattle.run_events.specs.declared.event.Event.TheVariants.{Step, Release}
 use Rattle.omission_schedules.specs.Reports.{IsRowUnder, ShowsRounds, count_until, ended_below}
 use Rattle.omission_schedules.specs.Reports.{ended_rounds, has_message, is_ended}
 use Rattle.omission_schedules.specs.Schedules.{all_step, each_below, has_slot, release_of, releases}

@@ -1,7 +1,7 @@
 -- That every omission test has a schedule, and every run one that goes round by round.
 use Rattle.std.specs.Prelude.{◌≡◌, ℕ, ◌+◌, ◌<◌, ◌≤◌, ◌↔◌, Bool, false, List, min, reverse}
 use Rattle.round_lang.specs.declared.value.Value.{Value}
-use Rattle.step_machine.specs.declared.event.Event.{Event}
+use Rattle.run_events.specs.declared.event.Event.{Event}
 use Rattle.slot_plans.specs.Plan.{PlanLaws}
 use Rattle.round_meaning.specs.Rounds.{rounds}
 use Rattle.step_book.specs.History.{omits_of, state}

@@ -2,8 +2,8 @@
 -- round r from node j.
 use Rattle.std.specs.Prelude.{ℕ, zero, suc, ◌+◌, ◌-◌, Bool, List, [], ◌∷◌, ◌++◌, ◌||◌, replicate}
 use Rattle.std.specs.Prelude.{if◌then◌else◌, min, nat_le, nat_lt}
-use Rattle.step_machine.specs.declared.event.Event.{Event}
-use Rattle.step_machine.specs.declared.event.Event.TheVariants.{Step, Release}
+use Rattle.run_events.specs.declared.event.Event.{Event}
+use Rattle.run_events.specs.declared.event.Event.TheVariants.{Step, Release}
 
 -- the events that are made for 0, 1, .. n - 1, one after another
 unfoldable pub each_below : ℕ → (ℕ → List Event) → List Event

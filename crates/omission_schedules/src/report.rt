@@ -10,14 +10,15 @@ ghost use Rattle.round_meaning.specs.Omissions.{is_omitted};
 ghost use Rattle.round_meaning.specs.Rounds.{algorithm_of, rounds};
 ghost use Rattle.round_meaning.specs.Setups.{IsLawful, IsSetup};
 ghost use Rattle.round_meaning.specs.States.{states_after};
-ghost use Rattle.slot_plans.specs.Limits.{max_rounds};
+ghost use Rattle.run_events.specs.Limits.{max_rounds};
 
 use crate::rounds::{Rounds, end_state, initial_states, turn_of};
 use adversary::RunFault;
 use omission_explainer::{Listed, Report, ReportRow, variable_names, variable_types};
 use round_check::Checked;
-use round_lang::{NoMemory, Vars};
+use round_lang::Vars;
 use round_meaning::{OmissionTable, Setup, decision_of, types_are_kept};
+use run_events::NoMemory;
 use slot_plans::Plan;
 use std::alloc::Global;
 use std::sync::Arc;

@@ -5,12 +5,13 @@ ghost use Rattle.omission_schedules.specs.Reports.{has_message, is_ended};
 ghost use Rattle.omission_schedules.specs.Schedules.{has_slot};
 ghost use Rattle.omission_schedules.specs.Stages.{omits_under, outcome_of};
 ghost use Rattle.round_meaning.specs.Rounds.{algorithm_of, inbox, rounds};
-ghost use Rattle.slot_plans.specs.Limits.{max_nodes, max_rounds};
+ghost use Rattle.run_events.specs.Limits.{max_nodes, max_rounds};
 ghost use Rattle.round_meaning.specs.States.{initial_states, state_in, states_after};
 
 use round_check::Checked;
-use round_lang::{Message, NoMemory, Vars};
+use round_lang::{Message, Vars};
 use round_meaning::{Heard, NodeSet, OmissionTable, Received, Setup, end_of, initial_of, send_of};
+use run_events::NoMemory;
 use slot_plans::Plan;
 use std::alloc::Global;
 

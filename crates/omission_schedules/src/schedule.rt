@@ -2,18 +2,16 @@
 ghost use Rattle.std.specs.Prelude.{◌≡◌, ◌<◌, ◌≤◌, ◌++◌, ◌+◌, IfOk, OnOk, length, replicate};
 ghost use Rattle.std.specs.Prelude.{slice_index};
 ghost use Rattle.round_meaning.specs.Omissions.{is_omitted};
-ghost use Rattle.slot_plans.specs.Limits.{max_nodes, max_rounds};
-ghost use Rattle.step_machine.specs.declared.event.Event.TheVariants.{Step};
+ghost use Rattle.run_events.specs.Limits.{max_nodes, max_rounds};
+ghost use Rattle.run_events.specs.declared.event.Event.TheVariants.{Step};
 ghost use Rattle.omission_schedules.specs.Schedules.{all_step, each_below, release_of, releases};
 ghost use Rattle.omission_schedules.specs.Schedules.{round_events, schedule_of};
 ghost use Rattle.omission_schedules.specs.Schedules.{schedule_with_stops, until};
 
-use round_lang::NoMemory;
 use round_meaning::{OmissionTable, Setup};
+use run_events::{Event, Name, NoMemory, StoredEvent};
 use slot_plans::Plan;
 use std::alloc::Global;
-use step_machine::{Event, Name};
-use stored_events::StoredEvent;
 
 /// The schedule in which each node takes all its steps, and exactly the messages of an omission
 /// table are omitted: round by round, first each node's sends, then the releases, then each node's

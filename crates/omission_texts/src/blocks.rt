@@ -6,8 +6,8 @@ ghost use Rattle.omission_texts.specs.Tables.{Adds, block};
 
 use crate::line::RoundRange;
 use crate::nodes::NodeList;
-use round_lang::NoMemory;
 use round_meaning::OmissionTable;
+use run_events::NoMemory;
 use std::alloc::Global;
 
 /// Adds the messages of these rounds from these senders to these receivers.

@@ -2,7 +2,7 @@
 ghost use Rattle.std.specs.Prelude.{◌≡◌};
 ghost use Rattle.omission_texts.specs.Forms.{at_line};
 
-use round_lang::NoMemory;
+use run_events::NoMemory;
 use schedule_text::ScheduleFault;
 use std::alloc::AllocFailed;
 

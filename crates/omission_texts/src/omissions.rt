@@ -1,7 +1,7 @@
 //! What a text says.
 ghost use Rattle.std.specs.Prelude.{◌≡◌, ◌≤◌, All, IfOk, map};
 ghost use Rattle.std.specs.List.{range_with_len};
-ghost use Rattle.slot_plans.specs.Limits.{max_rounds};
+ghost use Rattle.run_events.specs.Limits.{max_rounds};
 ghost use Rattle.omission_texts.specs.Meaning.{IsFirstUnknown, IsKnown, IsTableOf};
 ghost use Rattle.omission_texts.specs.Stops.{steps_of};
 
@@ -9,8 +9,8 @@ use crate::known::first_unknown;
 use crate::line::OmissionLine;
 use crate::stops::stops_of;
 use crate::table::table_of;
-use round_lang::NoMemory;
 use round_meaning::{OmissionTable, Setup};
+use run_events::NoMemory;
 use slot_plans::Plan;
 use std::alloc::Global;
 use std::marker::Model;

@@ -1,13 +1,13 @@
 //! How many steps each node takes.
 ghost use Rattle.std.specs.Prelude.{◌≡◌, ◌+◌, ◌≤◌, All, IfOk, map};
 ghost use Rattle.std.specs.List.{range_with_len};
-ghost use Rattle.slot_plans.specs.Limits.{max_rounds};
+ghost use Rattle.run_events.specs.Limits.{max_rounds};
 ghost use Rattle.omission_texts.specs.Meaning.{IsKnown};
 ghost use Rattle.omission_texts.specs.Stops as spec;
 
 use crate::line::OmissionLine;
-use round_lang::NoMemory;
 use round_meaning::Setup;
+use run_events::NoMemory;
 use slot_plans::Plan;
 use std::alloc::Global;
 

@@ -1,6 +1,6 @@
 //! The table of the messages that lines omit.
 ghost use Rattle.std.specs.Prelude.{◌≡◌, ◌≤◌, IfOk, OnOk};
-ghost use Rattle.slot_plans.specs.Limits.{max_rounds};
+ghost use Rattle.run_events.specs.Limits.{max_rounds};
 ghost use Rattle.omission_texts.specs.Meaning.{IsTableOf};
 ghost use Rattle.omission_texts.specs.Tables as spec;
 ghost use Rattle.omission_texts.specs.Tables.{Adds, of_line};
@@ -9,8 +9,8 @@ ghost use Rattle.omission_texts.specs.declared.line.OmissionLine.TheVariants as 
 use crate::blocks::{add_block, inside, outside};
 use crate::line::{OmissionLine, RoundRange};
 use crate::nodes::NodeList;
-use round_lang::NoMemory;
 use round_meaning::{OmissionTable, Setup};
+use run_events::NoMemory;
 use std::alloc::Global;
 
 /// The table of the messages of the run that the lines omit.

@@ -9,7 +9,7 @@ ghost use Rattle.omission_texts.specs.Forms.{Gives, GivesItems};
 use crate::fault::LineFault;
 use crate::line::RoundRange;
 use crate::nodes::NodeList;
-use round_lang::NoMemory;
+use run_events::NoMemory;
 use std::alloc::Global;
 
 /// The parts of a text between these marks.

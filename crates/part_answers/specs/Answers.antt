@@ -2,6 +2,7 @@
 use Rattle.std.specs.Prelude.{◌≤◌, ◌++◌, ◌∷◌, [], ℕ, List, codes, suc, ⊤}
 use Rattle.std.specs.Fmt.{decimal}
 use Rattle.std.specs.List.{flat_map}
+use Rattle.run_events.specs.Limits.{max_rounds}
 use Rattle.part_answers.specs.Properties.{name_text, rank}
 use Rattle.part_answers.specs.declared.answered.Answered.{Answered}
 use Rattle.part_answers.specs.declared.answered.Outcome.{Outcome}
@@ -9,7 +10,7 @@ use Rattle.part_answers.specs.declared.answered.Outcome.TheVariants as outcome
 
 -- a round that a program may have
 abbrev pub IsRound : ℕ → Type 0
-IsRound n = (1 ≤ n) × (n ≤ 4096)
+IsRound n = (1 ≤ n) × (n ≤ max_rounds)
 
 -- a `no` is in a round
 abbrev pub IsOutcome : Outcome → Type 0

@@ -4,6 +4,7 @@ ghost use Rattle.std.specs.Fmt.{decimal};
 ghost use Rattle.part_answers.specs.Answers.{IsRound};
 
 use itoa::Buffer;
+use run_events::MAX_ROUNDS;
 
 /// The number that a text is in decimal digits, with neither a sign nor a leading zero.
 pub(crate) fn read_number(text: &str) -> Option<u32>
@@ -17,9 +18,6 @@ pub(crate) fn read_number(text: &str) -> Option<u32>
         None
     }
 }
-
-/// The largest round.
-pub(crate) const MAX_ROUND: u32 = 4096;
 
 /// The round that a text is.
 pub(crate) fn read_round(text: &str) -> Option<u32>
@@ -37,5 +35,5 @@ pub(crate) fn read_round(text: &str) -> Option<u32>
 fn is_round(round: u32) -> bool
     ensures { IsTrue result ↔ IsRound round }
 {
-    1 <= round && round <= MAX_ROUND
+    1 <= round && round <= MAX_ROUNDS
 }

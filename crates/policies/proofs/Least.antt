@@ -1,6 +1,6 @@
 -- The least of what is due among the first messages of a flight.
 use Rattle.std.proofs.Common.{ℕ, ◌<◌, ◌≤◌, List, Option, Some, None, get_or}
-use Rattle.step_machine.specs.declared.event.InFlight.{InFlight}
+use Rattle.run_events.specs.declared.in_flight.InFlight.{InFlight}
 use Rattle.policies.specs.declared.bounded.Bounded.{Bounded}
 use Rattle.policies.specs.Policies.{IsDue}
 

@@ -1,9 +1,9 @@
 -- What each policy chooses, and what becomes of it.
 use Rattle.std.specs.Prelude.{◌≡◌, ℕ, ◌+◌, ◌<◌, ◌≤◌, min, max, List, [], ◌∷◌, length}
 use Rattle.std.specs.Prelude.{slice_index_or, Option, Some, None, All, if◌then◌else◌, ltb}
-use Rattle.step_machine.specs.declared.event.InFlight.{InFlight}
-use Rattle.step_machine.specs.declared.event.Name.{Name}
-use Rattle.step_machine.specs.Sealed.{original}
+use Rattle.run_events.specs.declared.in_flight.InFlight.{InFlight}
+use Rattle.run_events.specs.declared.name.Name.{Name}
+use Rattle.run_events.specs.Names.{original}
 use Rattle.policies.specs.declared.bounded.Bounded.{Bounded}
 use Rattle.policies.specs.declared.policy.Choice.{Choice}
 use Rattle.policies.specs.declared.policy.Choice.TheVariants.{Release}

@@ -4,7 +4,7 @@ ghost use Rattle.policies.specs.Policies.{BoundedChooses, IsDue, IsLeastDue, del
 
 use crate::policy::{Choice, Policy};
 use crate::table::Table;
-use step_machine::InFlight;
+use run_events::InFlight;
 
 /// Delays each message by a table, within a bound from a step on.
 ///

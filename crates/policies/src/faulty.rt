@@ -5,9 +5,9 @@ ghost use Rattle.policies.specs.Policies.{FaultyChooses};
 
 use crate::policy::{Choice, Policy};
 use crate::prompt::release_first;
+use run_events::InFlight;
 use std::collections::VecDeque;
 use std::marker::Model;
-use step_machine::InFlight;
 
 /// Makes these choices, one a call, each as it stands, and then chooses as
 /// [`Prompt`](crate::Prompt) does. A choice is used up also if it counts as none.

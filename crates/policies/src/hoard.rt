@@ -3,7 +3,7 @@ ghost use Rattle.policies.specs.Policies.{HoardChooses};
 
 use crate::policy::{Choice, Policy};
 use crate::prompt::release_first;
-use step_machine::InFlight;
+use run_events::InFlight;
 
 /// Chooses nothing until so many messages are in flight at one call, and from then on as
 /// [`Prompt`](crate::Prompt) does. The count is 0 from then on.

@@ -1,9 +1,9 @@
 //! What a policy is asked and what it answers.
 ghost use Rattle.std.specs.Prelude.{ℕ, List, Option};
-ghost use Rattle.step_machine.specs.declared.event.InFlight.{InFlight as OneInFlight};
+ghost use Rattle.run_events.specs.declared.in_flight.InFlight.{InFlight as OneInFlight};
 ghost use Rattle.policies.specs.declared.policy.Choice.{Choice as OneChoice};
 
-use step_machine::InFlight;
+use run_events::InFlight;
 
 /// What the network does next, and with which message: its place in the list of those in flight,
 /// from 0. A place past the end of the list counts as no choice.

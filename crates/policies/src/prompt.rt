@@ -3,7 +3,7 @@ ghost use Rattle.std.specs.Prelude.{◌≡◌};
 ghost use Rattle.policies.specs.Policies.{prompt_choice};
 
 use crate::policy::{Choice, Policy};
-use step_machine::InFlight;
+use run_events::InFlight;
 
 /// Releases the first message in flight, if there is one.
 #[derive(Clone, Copy, PartialEq, Eq, Debug)]

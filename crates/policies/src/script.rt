@@ -1,13 +1,13 @@
 //! Messages in an order that was fixed beforehand.
 ghost use Rattle.std.specs.Prelude.{◌≡◌, IfSome, IfNone, List, All};
-ghost use Rattle.step_machine.specs.declared.event.Name.{Name as OneName};
-ghost use Rattle.step_machine.specs.declared.event.InFlight.{InFlight as OneInFlight};
+ghost use Rattle.run_events.specs.declared.name.Name.{Name as OneName};
+ghost use Rattle.run_events.specs.declared.in_flight.InFlight.{InFlight as OneInFlight};
 ghost use Rattle.policies.specs.Policies.{IsFirstPlace, ScriptChooses};
 
 use crate::policy::{Choice, Policy};
+use run_events::{InFlight, Name};
 use std::collections::VecDeque;
 use std::marker::Model;
-use step_machine::{InFlight, Name};
 
 /// Releases these messages in their order, each by its copy 0 once that is in flight, and until
 /// then none; after the last of them it chooses nothing.

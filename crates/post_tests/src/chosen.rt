@@ -1,8 +1,8 @@
 //! Policies by words.
 use crate::reading::{choices, names};
 use policies::{Bounded, Choice, Faulty, Hoard, Policy, Prompt, Script, Table};
+use run_events::InFlight;
 use std::alloc::Global;
-use step_machine::InFlight;
 use test_kit::{Fault, number, numbers};
 
 /// A policy that words name.

@@ -7,7 +7,7 @@ use std::sync::atomic::{AtomicBool, Ordering};
 use std::sync::{Mutex, Wait};
 use step_book::{CloseFault, Refused};
 use step_journal::Took;
-use step_machine::{Finished, Name, Prepared};
+use step_machine::{Finished, Prepared};
 
 /// A post's calls, which release each message as soon as it was sent.
 #[derive(Drop)]

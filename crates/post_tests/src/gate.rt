@@ -1,8 +1,8 @@
 //! A gate that holds some threads until others have passed.
 use locked_buffers::{Gate, Point};
+use run_events::Name;
 use std::sync::atomic::{AtomicBool, Ordering};
 use std::thread;
-use step_machine::Name;
 
 /// How often a held thread looks, and yields the processor, before it goes on.
 pub const TURNS: u32 = 1_000_000;

@@ -7,10 +7,11 @@ use crate::row::{close, happen, receive, send};
 use locked_buffers::Post;
 use round_check::Checked;
 use round_meaning::Setup;
+use run_events::{Event, Name};
 use slot_plans::Plan;
 use std::alloc::Global;
 use std::sync::Wait;
-use step_machine::{Event, Name, Node};
+use step_machine::Node;
 use test_kit::Fault;
 
 /// What a post answers if node 0 sends to itself and hears it, and its round is closed with the

@@ -1,8 +1,8 @@
 //! Texts of numbers, messages and choices, and why a schedule's text has no answer.
 use policies::Choice;
+use run_events::{InFlight, Name};
 use schedule_text::ScheduleFault;
 use std::alloc::Global;
-use step_machine::{InFlight, Name};
 use test_kit::{Fault, number, numbers};
 
 /// Why there is no answer where the text of a schedule is refused.

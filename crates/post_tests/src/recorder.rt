@@ -8,12 +8,13 @@ ghost use Rattle.step_book.specs.Buffers.{IsMail};
 ghost use Rattle.step_machine.specs.Sealed.{IsPrepared};
 
 use locked_buffers::{OpenGate, Post, PostFault, Relay, RelayFault, Seat};
+use run_events::{InFlight, Name};
 use slot_plans::Plan;
 use std::alloc::Global;
 use std::sync::Wait;
 use step_book::{CloseFault, ReceiveFault, SendFault, Waiting};
 use step_journal::Journal;
-use step_machine::{Finished, InFlight, Name, Prepared};
+use step_machine::{Finished, Prepared};
 
 /// What records the events of a run, of which `program` and `setup` are those.
 pub trait Recorder {

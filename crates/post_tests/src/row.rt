@@ -1,6 +1,7 @@
 //! One schedule's events, recorded by a journal and by a post.
 ghost use Rattle.std.specs.Prelude.{◌≡◌, ◌<◌, ◌≤◌, All, IfOk};
-ghost use Rattle.round_meaning.specs.Setups.{IsLawful, IsSetup, max_rounds};
+ghost use Rattle.run_events.specs.Limits.{max_rounds};
+ghost use Rattle.round_meaning.specs.Setups.{IsLawful, IsSetup};
 ghost use Rattle.step_book.specs.Buffers.{IsMail};
 ghost use Rattle.step_machine.specs.Nodes.{algorithm_in};
 
@@ -9,13 +10,14 @@ use crate::reports::report;
 use locked_buffers::{Post, PostFault, RelayFault, Unmatched};
 use round_check::Checked;
 use round_meaning::Setup;
+use run_events::{Event, Name};
 use schedule_text::Schedule;
 use slot_plans::Plan;
 use std::alloc::Global;
 use std::sync::Wait;
 use step_book::{CloseFault, SendFault, Waiting, is_name};
 use step_journal::Journal;
-use step_machine::{Event, Name, Node};
+use step_machine::Node;
 use test_kit::Fault;
 
 /// The nodes of a run before their first step.

@@ -4,8 +4,9 @@ use adversary::{RunFault, run_policy};
 use algorithm_library::gather;
 use round_check::Checked;
 use round_meaning::{NodeSet, Setup};
+use run_events::PlanKind;
 use schedule_text::write_stored_schedule;
-use slot_plans::{Known, PlanKind};
+use slot_plans::Known;
 use std::alloc::Global;
 use test_kit::{Fault, comma_numbers, nodes, number, setup};
 

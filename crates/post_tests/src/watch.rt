@@ -3,9 +3,9 @@ use crate::chosen::Chosen;
 use crate::gate::TURNS;
 use locked_buffers::{Gate, Point};
 use policies::{Choice, Policy};
+use run_events::InFlight;
 use std::sync::atomic::{AtomicBool, AtomicU64, Ordering};
 use std::thread;
-use step_machine::InFlight;
 
 /// How many choices each node waits for before its message to node 1.
 const CHOICES: u64 = 2;

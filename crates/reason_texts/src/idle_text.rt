@@ -1,8 +1,8 @@
 //! Why an event of the network did nothing, in words.
 use crate::text_lines::TextLines;
 use omission_reasons::Idle;
+use run_events::{Event, Name};
 use std::fmt;
-use step_machine::{Event, Name};
 
 /// Why an event of the network did nothing.
 ///

@@ -1,8 +1,8 @@
 //! Why a copy of a message isn't heard, in words.
 use crate::text_lines::TextLines;
 use omission_reasons::Reason;
+use run_events::Name;
 use std::fmt;
-use step_machine::Name;
 
 /// Why a copy of a message isn't heard.
 ///

@@ -1,5 +1,6 @@
 //! The lines of a schedule, a header, a thread setup or an omission file.
-use round_lang::{NoMemory, Span};
+use round_lang::Span;
+use run_events::NoMemory;
 use std::alloc::Global;
 
 /// How many lines that say something a schedule has before its first event.

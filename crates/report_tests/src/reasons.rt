@@ -4,11 +4,11 @@ ghost use Rattle.step_book.specs.Names.{IsName};
 ghost use Rattle.omission_reasons.specs.Indexing.{IsIndexOf};
 
 use omission_reasons::{Idle, Reason, TraceIndex, reason_of, why_not_copied, why_not_let_go};
+use run_events::{Event, MAX_COPY, Name};
 use slot_plans::Plan;
 use std::alloc::Global;
 use std::io::Write;
 use step_book::Book;
-use step_machine::{Event, MAX_COPY, Name};
 use test_kit::Fault;
 
 /// Tells the reason of a copy.
@@ -70,7 +70,6 @@ pub(crate) fn tell_reasons<P: Plan>(
     book: &Book<P>,
     out: &mut Vec<u8>,
 ) -> Result<(), Fault> {
-    book.agrees();
     let index = TraceIndex::new(alloc, book)?;
     let nodes = book.setup().nodes;
     for round in 1..book.setup().rounds + 1 {

@@ -6,10 +6,10 @@ use crate::sources::program_of;
 use adversary::{RunFault, ScheduleFault, read_schedule, run_schedule};
 use round_check::Checked;
 use round_meaning::Setup;
+use run_events::Event;
 use slot_plans::{NamedPlan, Plan};
 use std::alloc::Global;
 use std::rt::Files;
-use step_machine::Event;
 use test_kit::Fault;
 
 /// A run of single steps: a program, its setup, and what happens, as the text of its schedule too.

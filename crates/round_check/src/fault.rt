@@ -1,7 +1,7 @@
 //! Why a program is refused.
 ghost use Rattle.std.specs.Prelude.{◌≡◌};
 
-use round_lang::NoMemory;
+use run_events::NoMemory;
 use thiserror::Error;
 
 /// Why a program is refused, numbered as it is reported; the causes are answered in the order

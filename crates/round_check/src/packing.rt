@@ -2,7 +2,7 @@
 ghost use Rattle.std.specs.Prelude.{◌≡◌, ◌++◌, IfOk, OnOk};
 ghost use Rattle.round_check.specs.Spelling.{number_bytes, packed};
 
-use round_lang::NoMemory;
+use run_events::NoMemory;
 use std::alloc::Global;
 
 /// From this number on a number takes five bytes.

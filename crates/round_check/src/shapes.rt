@@ -6,7 +6,8 @@ ghost use Rattle.round_check.specs.Spelling.{packed, spelled};
 use crate::packing::pack;
 use crate::spelling::spell;
 use crate::types::kind_type;
-use round_lang::{Block, Kind, NoMemory, Program, Shape};
+use round_lang::{Block, Kind, Program, Shape};
+use run_events::NoMemory;
 use std::alloc::Global;
 
 /// A program with the shape of its states, of each block's messages, and its spelling.

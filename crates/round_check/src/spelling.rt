@@ -8,9 +8,10 @@ ghost use Rattle.round_check.specs.Spelling.{name_then, program_then, spelled, t
 ghost use Rattle.round_check.specs.Spelling.{ty_number, unary_number, variable_then, words_spelled};
 
 use round_lang::{
-    Assignment, BinaryOperator, Block, Constant, Expr, Field, Formula, Identifier, NoMemory,
-    Program, Ty, UnaryOperator, Variable, VariableKind,
+    Assignment, BinaryOperator, Block, Constant, Expr, Field, Formula, Identifier, Program, Ty,
+    UnaryOperator, Variable, VariableKind,
 };
+use run_events::NoMemory;
 use std::alloc::Global;
 
 /// Spells a program.

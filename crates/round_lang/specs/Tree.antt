@@ -1,5 +1,5 @@
 -- The tree that an expression is, without the places of its parts in memory.
-use Rattle.std.specs.Prelude.{ℕ, suc, max, List}
+use Rattle.std.specs.Prelude.{ℕ, suc, ◌+◌, max, List}
 use Rattle.round_lang.specs.declared.expr.Constant.{Constant}
 use Rattle.round_lang.specs.declared.expr.UnaryOperator.{UnaryOperator}
 use Rattle.round_lang.specs.declared.expr.BinaryOperator.{BinaryOperator}
@@ -40,3 +40,15 @@ nesting (TBinary op a b) = suc (max (nesting a) (nesting b))
 nesting (TIf c a b) = suc (max (nesting c) (max (nesting a) (nesting b)))
 nesting (TSetOf x e) = suc (nesting e)
 nesting (TRowOf x e) = suc (nesting e)
+
+-- how many words a text has at least that spells the tree: those that stand for its parts, without
+-- brackets, commas and the like
+abbrev pub least_words : Tree → ℕ
+least_words (TNumber n) = 1
+least_words (TFixed c) = 1
+least_words (TNamed x) = 1
+least_words (TUnary op a) = suc (least_words a)
+least_words (TBinary op a b) = suc (least_words a + least_words b)
+least_words (TIf c a b) = 3 + (least_words c + (least_words a + least_words b))
+least_words (TSetOf x e) = 4 + least_words e
+least_words (TRowOf x e) = 4 + least_words e

@@ -3,10 +3,10 @@ ghost use Rattle.std.specs.Prelude.{◌≡◌, ◌<◌, ◌^◌, [], ◌∷◌, 
 ghost use Rattle.round_lang.specs.Words.{words_of, IsSmall};
 
 use crate::kind::Kind;
-use crate::memory::NoMemory;
 use crate::shape::Shape;
 use crate::value::Value;
 use crate::vars::{INLINE, Vars};
+use run_events::NoMemory;
 use smallvec::SmallVec;
 use std::alloc::Global;
 use std::marker::Model;

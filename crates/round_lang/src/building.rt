@@ -4,7 +4,7 @@ ghost use Rattle.round_lang.specs.Tree.{TBinary, TIf, TRowOf, TSetOf, TUnary, tr
 
 use crate::expr::{BinaryOperator, Expr, UnaryOperator};
 use crate::identifier::Identifier;
-use crate::memory::NoMemory;
+use run_events::NoMemory;
 use std::alloc::Global;
 
 pub(crate) fn unary(alloc: Global, operator: UnaryOperator, operand: Expr) -> Result<Expr, NoMemory>

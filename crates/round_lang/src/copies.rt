@@ -4,7 +4,7 @@ ghost use Rattle.round_lang.specs.Tree.{tree_of};
 
 use crate::building::{binary, choice, row_of, set_of, unary};
 use crate::expr::Expr;
-use crate::memory::NoMemory;
+use run_events::NoMemory;
 use std::alloc::Global;
 
 /// A copy with the same tree.

@@ -4,7 +4,7 @@ ghost use Rattle.std.specs.Str.{bytes_eq};
 ghost use Rattle.round_lang.specs.Tokens.{IsName};
 
 use crate::lexing::is_name;
-use crate::memory::NoMemory;
+use run_events::NoMemory;
 use std::marker::Model;
 
 /// A name of a variable, a field or a comprehension's number: a letter or `_` and then letters,

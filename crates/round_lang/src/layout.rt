@@ -3,7 +3,7 @@ ghost use Rattle.std.specs.Prelude.{◌≡◌, ◌≤◌, IfOk, IfSome, IsNone, 
 ghost use Rattle.round_lang.specs.Words.{IsSpot};
 
 use crate::kind::Kind;
-use crate::memory::NoMemory;
+use run_events::NoMemory;
 use std::alloc::Global;
 use std::marker::Model;
 

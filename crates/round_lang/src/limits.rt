@@ -15,6 +15,9 @@ pub(crate) const MAX_FIELDS: usize = 8;
 /// How deep an expression nests at most.
 pub(crate) const MAX_NESTING: usize = 32;
 
+/// How many bytes a text has at most.
+pub const MAX_TEXT: usize = 65_536;
+
 /// How many bytes a name has at most.
 pub(crate) const MAX_NAME: usize = 32;
 

@@ -1,5 +1,5 @@
 //! From a text to its program, or to its expression.
-ghost use Rattle.std.specs.Prelude.{◌≡◌, ◌≢◌, ◌<◌, ◌↔◌, IfOk, IfErr, Err, List, length};
+ghost use Rattle.std.specs.Prelude.{◌≡◌, ◌≢◌, ◌<◌, ◌≤◌, ◌↔◌, IfOk, IfErr, Err, List, length};
 ghost use Rattle.round_lang.specs.CodeTokens.{lexemes};
 ghost use Rattle.round_lang.specs.Lexemes.{Lexeme};
 ghost use Rattle.round_lang.specs.Limits.{max_text};
@@ -19,7 +19,7 @@ mod part;
 use crate::fault::LangFault;
 use crate::formula::Formula;
 use crate::lexing::{TokenFault, tokens};
-use crate::limits::{MAX_PERIOD, MAX_VALUES};
+use crate::limits::{MAX_PERIOD, MAX_TEXT, MAX_VALUES};
 use crate::program::Program;
 use crate::token::{Mark, Token};
 use cursor::{expect, number_at, span_at};
@@ -28,12 +28,10 @@ use fault::Fault;
 use part::{blocks, declarations};
 use std::alloc::Global;
 
-/// How many bytes a text has at most.
-pub const MAX_TEXT: usize = 65_536;
-
 /// The program that the tokens are.
 #[tactic(auto, unfolding(crate::specs::Parts::program))]
 fn program(parser: Parser, tokens: &[Token<'_>]) -> Result<Program, Fault>
+    requires { length tokens.now ≤ max_text }
     ensures { Gives (λ p. p) result (parts.program (lexemes tokens.now)) }
 {
     let rest = expect(parser.end, Mark::Values, tokens)?;
@@ -52,6 +50,7 @@ fn program(parser: Parser, tokens: &[Token<'_>]) -> Result<Program, Fault>
 /// The expression that the tokens are.
 #[tactic(auto, unfolding(crate::specs::Parts::lone_formula))]
 fn lone_formula(parser: Parser, tokens: &[Token<'_>]) -> Result<Formula, Fault>
+    requires { length tokens.now ≤ max_text }
     ensures { Gives (λ t. t) result (parts.lone_formula (lexemes tokens.now)) }
 {
     let (formula, rest) = formula(parser, tokens)?;
@@ -62,9 +61,11 @@ fn lone_formula(parser: Parser, tokens: &[Token<'_>]) -> Result<Formula, Fault>
     }
 }
 
-/// The tokens of the text.
+/// The tokens of the text, of which there are no more than bytes.
+#[tactic(auto, using(crate::proofs::LeastWords::bytes_many))]
 fn tokens_of(alloc: Global, text: &str) -> Result<Vec<Token<'_>>, LangFault>
     ensures found { IfOk result (λ v. Tokens text.now (lexemes v.items)) }
+    ensures few { IfOk result (λ v. length v.items ≤ max_text) }
     // The text has no other tokens.
     ensures only { IfOk result (λ v. (ls : List Lexeme) → Tokens text.now ls
         → ls ≡ lexemes v.items) }

@@ -1,7 +1,7 @@
 //! Rows, seen by contracts as the list of their numbers.
 ghost use Rattle.std.specs.Prelude.{◌≡◌, IfOk, length, slice_index};
 
-use crate::memory::NoMemory;
+use run_events::NoMemory;
 use std::marker::Model;
 
 /// A number for each of the K values.

@@ -4,7 +4,7 @@ ghost use Rattle.round_lang.specs.Words.{IsSpot};
 
 use crate::kind::Kind;
 use crate::layout::Layout;
-use crate::memory::NoMemory;
+use run_events::NoMemory;
 use std::alloc::Global;
 use std::marker::Model;
 use std::sync::Arc;

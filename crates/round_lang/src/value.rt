@@ -5,9 +5,9 @@ ghost use Rattle.round_lang.specs.Words.{kind_of};
 
 use crate::expr::{BinaryOperator, UnaryOperator};
 use crate::kind::Kind;
-use crate::memory::NoMemory;
 use crate::row::Row;
 use crate::sets::ValueSet;
+use run_events::NoMemory;
 
 /// A value.
 #[derive(PartialEq, Eq, Drop, Debug)]

@@ -8,11 +8,11 @@ ghost use Rattle.round_lang.specs.Words.{IsSmall, IsSpelled};
 
 use crate::builder::VarsBuilder;
 use crate::kind::Kind;
-use crate::memory::NoMemory;
 use crate::sets::ValueSet;
 use crate::shape::Shape;
 use crate::value::Value;
 use crate::words::{row_of, write};
+use run_events::NoMemory;
 use smallvec::SmallVec;
 use std::alloc::Global;
 use std::marker::Model;

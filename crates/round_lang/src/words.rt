@@ -2,9 +2,9 @@
 ghost use Rattle.std.specs.Prelude.{◌≡◌, ◌+◌, ◌≤◌, ◌<◌, ◌^◌, All, IfOk, length};
 ghost use Rattle.round_lang.specs.Words.{words_of, written, IsSmall};
 
-use crate::memory::NoMemory;
 use crate::row::Row;
 use crate::value::Value;
+use run_events::NoMemory;
 use std::alloc::Global;
 
 /// The row whose entries are these words.

@@ -1,15 +1,10 @@
 -- When a run may be asked for.
 use Rattle.std.specs.Prelude.{◌≡◌, ℕ, ◌<◌, ◌≤◌, All, length}
+use Rattle.run_events.specs.Limits.{max_nodes, max_rounds}
 use Rattle.round_meaning.specs.declared.setup.Setup.{Setup}
-
-abbrev pub max_nodes : ℕ
-max_nodes = 16
 
 abbrev pub max_faults : ℕ
 max_faults = 15
-
-abbrev pub max_rounds : ℕ
-max_rounds = 4096
 
 -- the numbers are within their limits, and each node has an input
 pub record IsSetup (s : Setup) : Type 0 where

@@ -7,7 +7,8 @@ ghost use Rattle.round_lang.specs.Values.{row, set};
 ghost use Rattle.round_meaning.specs.Envs.{env_of, found, scope_of};
 ghost use Rattle.round_meaning.specs.Meaning.{find_bound, look_up};
 
-use round_lang::{Field, Identifier, Message, NoMemory, Value, ValueSet, Variable, Vars};
+use round_lang::{Field, Identifier, Message, Value, ValueSet, Variable, Vars};
+use run_events::NoMemory;
 
 /// The comprehension variables in scope, the innermost first.
 #[derive(Clone, Copy)]

@@ -8,9 +8,8 @@ ghost use Rattle.round_meaning.specs.Envs.{env_of};
 ghost use Rattle.round_meaning.specs.Meaning.{value, constant, bind};
 
 use crate::env::{Env, Scope};
-use round_lang::{
-    BinaryOperator, Constant, Expr, Identifier, NoMemory, Row, Value, ValueSet, binary, unary,
-};
+use round_lang::{BinaryOperator, Constant, Expr, Identifier, Row, Value, ValueSet, binary, unary};
+use run_events::NoMemory;
 use std::alloc::Global;
 
 fn fixed(alloc: Global, word: Constant, env: &Env<'_>) -> Result<Value, NoMemory>

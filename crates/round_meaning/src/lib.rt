@@ -25,6 +25,7 @@ pub use nodes::NodeSet;
 pub use omissions::{Omission, OmissionTable};
 pub use received::{Heard, Received, is_inbox};
 pub use rounds::run_rounds;
-pub use setup::{Inputs, MAX_FAULTS, MAX_NODES, MAX_ROUNDS, Setup};
+pub use run_events::{MAX_NODES, MAX_ROUNDS};
+pub use setup::{Inputs, MAX_FAULTS, Setup};
 pub use states::StateTable;
 pub use turn::{decision_of, end_of, finish_of, initial_of, send_of, take_of};

@@ -1,7 +1,7 @@
 //! Omission tables.
 ghost use Rattle.std.specs.Prelude.{◌≡◌, ◌∷◌, [], OnErr, OnOk};
 
-use round_lang::NoMemory;
+use run_events::NoMemory;
 use std::alloc::Global;
 use std::collections::BTreeSet;
 use std::marker::Model;

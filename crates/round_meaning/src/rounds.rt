@@ -12,7 +12,8 @@ use crate::setup::Setup;
 use crate::states::{Snapshot, StateTable};
 use crate::turn::{end_of, initial_of, send_of};
 use round_check::Checked;
-use round_lang::{NoMemory, Vars};
+use round_lang::Vars;
+use run_events::NoMemory;
 use std::alloc::Global;
 
 /// The states of all nodes after each of some rounds, where all nodes go on at once: the basic

@@ -3,17 +3,11 @@ ghost use Rattle.std.specs.Prelude.{◌≡◌, ◌<◌, ◌↔◌, All, IsTrue, 
 ghost use Rattle.round_meaning.specs.Setups.{IsLawful, IsSetup};
 
 use round_check::Checked;
-use round_lang::NoMemory;
+use run_events::{MAX_NODES, MAX_ROUNDS, NoMemory};
 use std::marker::Model;
-
-/// The most nodes that a lawful setup has.
-pub const MAX_NODES: u32 = 16;
 
 /// The most faults of a lawful setup.
 pub const MAX_FAULTS: u32 = 15;
-
-/// The most rounds of a lawful setup.
-pub const MAX_ROUNDS: u32 = 4096;
 
 /// The nodes' inputs, by node.
 #[derive(Drop, Debug)]

@@ -4,7 +4,8 @@ ghost use Rattle.round_meaning.specs.States.{state_in};
 
 use crate::turn::decision_of;
 use round_check::Checked;
-use round_lang::{NoMemory, Vars};
+use round_lang::Vars;
+use run_events::NoMemory;
 use std::alloc::Global;
 use std::marker::Model;
 

@@ -8,11 +8,10 @@ use crate::rows::Rows;
 use crate::view::View;
 use omission_explainer::ReportRow;
 use omission_reasons::{Reason, TraceIndex, reason_of};
-use round_lang::NoMemory;
-use slot_plans::{MAX_ROUNDS, Plan};
+use run_events::{MAX_COPY, MAX_ROUNDS, Name, NoMemory};
+use slot_plans::Plan;
 use std::alloc::Global;
 use step_book::{Book, earliest, is_name, is_within};
-use step_machine::{MAX_COPY, Name};
 
 /// What the report says of a copy of a message.
 #[derive(Clone, Copy, PartialEq, Eq, Debug)]

@@ -4,8 +4,8 @@ use crate::messages::Fate;
 use crate::moment::Moment;
 use omission_reasons::Reason;
 use reason_texts::{ReasonText, TextLines};
+use run_events::Name;
 use std::fmt;
-use step_machine::Name;
 
 /// Whether a copy of a message was heard, and if not why, with the lines of the schedule's text.
 #[derive(Clone, Copy)]

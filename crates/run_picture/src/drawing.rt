@@ -8,7 +8,7 @@ use crate::rows::Rows;
 use crate::view::View;
 use omission_explainer::Report;
 use omission_reasons::TraceIndex;
-use round_lang::NoMemory;
+use run_events::NoMemory;
 use slot_plans::Plan;
 use std::alloc::Global;
 use step_book::Book;

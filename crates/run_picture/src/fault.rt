@@ -2,7 +2,7 @@
 ghost use Rattle.std.specs.Prelude.{◌≡◌};
 ghost use Rattle.run_picture.specs.declared.fault.PictureFault.TheVariants as fault;
 
-use round_lang::NoMemory;
+use run_events::NoMemory;
 use std::io;
 use thiserror::Error;
 

@@ -3,7 +3,7 @@ use crate::lane::Track;
 use crate::rows::Rows;
 use crate::view::View;
 use omission_explainer::ReportRow;
-use round_lang::NoMemory;
+use run_events::NoMemory;
 use std::alloc::Global;
 use std::fmt;
 

@@ -1,6 +1,6 @@
 //! Where lanes and columns lie, in pixels.
 use crate::view::View;
-use round_lang::NoMemory;
+use run_events::NoMemory;
 use std::alloc::Global;
 
 /// Half the height of a round's band.

@@ -6,11 +6,10 @@ use crate::messages::{Fate, MadeCopy, Messages, Sent};
 use crate::moment::Moment;
 use crate::step::{Work, work_at};
 use crate::view::View;
-use round_lang::NoMemory;
+use run_events::{Event, Name, NoMemory};
 use slot_plans::Plan;
 use std::alloc::Global;
 use step_book::Book;
-use step_machine::{Event, Name};
 
 /// The steps of each node and the messages that are drawn, and the columns in which they stand.
 #[derive(Drop)]

@@ -2,8 +2,8 @@
 use crate::crowd::Crowd;
 use crate::moment::Moment;
 use crate::step::{Step, Work};
-use round_lang::NoMemory;
 use round_meaning::NodeSet;
+use run_events::NoMemory;
 use std::alloc::Global;
 
 /// A round of a node that is drawn: its first and its last step, and whether that is the one with

@@ -1,8 +1,7 @@
 //! The messages that are drawn, and what became of each of their copies.
 use crate::moment::Moment;
-use round_lang::NoMemory;
+use run_events::{Name, NoMemory};
 use std::alloc::Global;
-use step_machine::Name;
 
 /// What became of a copy of a message.
 #[derive(Clone, Copy, PartialEq, Eq, Debug)]

@@ -1,6 +1,6 @@
 //! A report by node and round.
 use omission_explainer::{Report, ReportRow, write_report};
-use round_lang::NoMemory;
+use run_events::NoMemory;
 use std::alloc::Global;
 use std::str::from_utf8;
 

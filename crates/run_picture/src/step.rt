@@ -1,8 +1,8 @@
 //! Steps of nodes.
 use crate::moment::Moment;
-use slot_plans::{MAX_ROUNDS, Plan, Slot};
+use run_events::{MAX_ROUNDS, Name};
+use slot_plans::{Plan, Slot};
 use step_book::{Book, Mark, is_name};
-use step_machine::Name;
 
 /// What a node does in a step.
 #[derive(Clone, Copy, PartialEq, Eq, Debug)]

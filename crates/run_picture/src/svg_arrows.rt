@@ -6,9 +6,9 @@ use crate::flag::Flag;
 use crate::grid::{BAND, Point};
 use crate::path::ArrowPath;
 use reason_texts::TextLines;
+use run_events::Name;
 use std::io::Write;
 use std::{fmt, io};
-use step_machine::Name;
 
 /// The class of what the report says of a copy.
 impl fmt::Display for Standing {

@@ -8,10 +8,9 @@ use crate::rows::Rows;
 use crate::step::{Step, Work};
 use omission_reasons::Reason;
 use reason_texts::{ReasonText, TextLines};
-use round_meaning::MAX_NODES;
+use run_events::{MAX_NODES, Name};
 use std::io::Write;
 use std::{fmt, io};
-use step_machine::Name;
 
 /// How far to the right a band begins that is labelled with its node too, and the width that it
 /// has to have.

@@ -7,8 +7,8 @@ ghost use Rattle.run_samples.specs.Samples.{IsCaseOf};
 use crate::dice::{Dice, Rate};
 use round_check::Checked;
 use round_explorer::{AskedInputs, Case, Failure, FaultKind, Part, Property, Question};
-use round_lang::NoMemory;
 use round_meaning::{Inputs, Setup};
+use run_events::NoMemory;
 use std::alloc::Global;
 
 /// The rounds that a crash is likelier to be drawn from than others.

@@ -1,8 +1,8 @@
 //! Rows of missed nodes that are given, some of which a trial leaves out.
 use crate::missing::Rows;
 use round_explorer::{Case, may_be_heard};
-use round_lang::NoMemory;
 use round_meaning::{NodeSet, OmissionTable};
+use run_events::NoMemory;
 use std::alloc::Global;
 
 /// Some nodes in the rows from one place up to another.

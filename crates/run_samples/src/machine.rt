@@ -11,8 +11,9 @@ ghost use Rattle.step_code.specs.Turns.{InTurn, IsOfState};
 ghost use Rattle.run_samples.specs.Samples.{inbox_with};
 
 use round_check::Checked;
-use round_lang::{NoMemory, Vars};
+use round_lang::Vars;
 use round_meaning::{NodeSet, Setup};
+use run_events::NoMemory;
 use std::alloc::Global;
 use std::marker::Model;
 use step_code::{Room, StepProgram, compile};

@@ -10,8 +10,8 @@ use crate::running::failure_of;
 use crate::tally::Tally;
 use round_check::Checked;
 use round_explorer::{AskedInputs, Counterexample, Property, Question, Watch};
-use round_lang::NoMemory;
 use round_meaning::Setup;
+use run_events::NoMemory;
 use std::alloc::Global;
 
 /// How many runs are tried, and the seed of the random numbers that they are made of.

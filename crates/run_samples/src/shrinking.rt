@@ -10,8 +10,8 @@ use crate::running::{Failing, failing_run, told_of};
 use crate::tally::Tally;
 use round_check::Checked;
 use round_explorer::{Case, Counterexample, Property, Question, Unwatched};
-use round_lang::NoMemory;
 use round_meaning::{NodeSet, Omission, OmissionTable, Setup};
+use run_events::NoMemory;
 use std::alloc::Global;
 
 /// After so many messages no other run is tried.

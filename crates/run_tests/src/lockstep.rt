@@ -8,8 +8,9 @@ use lockstep_runs::{Changes, MessageDelay, Stop, run_changed_lockstep, run_locks
 use policies::{Bounded, Table};
 use round_check::Checked;
 use round_meaning::{NodeSet, OmissionTable, Setup};
+use run_events::PlanKind;
 use schedule_text::write_stored_schedule;
-use slot_plans::{Known, PlanKind};
+use slot_plans::Known;
 use std::alloc::Global;
 use step_journal::Journal;
 use test_kit::{Fault, comma_numbers, nodes, number, setup};

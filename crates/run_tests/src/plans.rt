@@ -1,6 +1,7 @@
 //! What plans answer.
 use crate::reading::{kind, two};
-use slot_plans::{Growing, Known, MAX_ROUNDS, Plan, Slot};
+use run_events::MAX_ROUNDS;
+use slot_plans::{Growing, Known, Plan, Slot};
 use test_kit::{Fault, cut, number};
 
 const OUTSIDE: &str = "not within its limits";

@@ -2,7 +2,8 @@
 ghost use Rattle.std.specs.Prelude.{◌≡◌, IfOk};
 ghost use Rattle.slot_plans.specs.Known.{known_nodes};
 
-use slot_plans::{Known, PlanKind};
+use run_events::PlanKind;
+use slot_plans::Known;
 use std::alloc::Global;
 use test_kit::{Fault, cut, number};
 

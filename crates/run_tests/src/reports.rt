@@ -1,6 +1,7 @@
 //! Reports made by hand.
 use omission_explainer::{Listed, Report, ReportRow, write_report};
-use round_lang::{Identifier, NoMemory, Row, Shape, Ty, Value, ValueSet, VarsBuilder};
+use round_lang::{Identifier, Row, Shape, Ty, Value, ValueSet, VarsBuilder};
+use run_events::NoMemory;
 use std::alloc::Global;
 use std::sync::Arc;
 use step_machine::StoredState;

@@ -3,7 +3,7 @@ use adversary::{
     Schedule, ScheduleFault, read_header, read_schedule, read_threads, write_schedule,
 };
 use round_meaning::Setup;
-use slot_plans::PlanKind;
+use run_events::PlanKind;
 use std::alloc::Global;
 use test_kit::Fault;
 

@@ -7,7 +7,7 @@ use omission_explainer::{
 };
 use round_check::{Checked, check};
 use round_lang::parse;
-use slot_plans::PlanKind;
+use run_events::PlanKind;
 use std::alloc::Global;
 use std::io;
 use std::io::Write;

@@ -9,7 +9,7 @@ use Rattle.std.proofs.lemmas.Bool.{and_from, eqb-true}
 use Rattle.std.proofs.lemmas.List.{append-nil}
 use Rattle.std.proofs.lemmas.Fmt.{digits_decimal, digits_value-decimal, decimal_nonempty}
 use Rattle.std.proofs.lemmas.Str.Parse.{IsNumeralModel, numerals_by_fold}
-use Rattle.step_machine.specs.declared.event.Name.{Name}
+use Rattle.run_events.specs.declared.name.Name.{Name}
 use Rattle.schedule_text.specs.Numbers.{is_number, value_of, max_number}
 use Rattle.schedule_text.specs.Small.{IsSmall, IsSmallName}
 use Rattle.schedule_text.specs.Stages.{one_of, all_of, name_of, sized_name, whole_name_of}

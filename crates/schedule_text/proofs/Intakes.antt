@@ -17,7 +17,7 @@ use Rattle.schedule_text.specs.declared.fault.ScheduleFault.TheVariants as sched
 use Rattle.schedule_text.specs.declared.intake.Intake.{Intake}
 use Rattle.schedule_text.specs.declared.kind.Kind.TheVariants.{Schedule as schedules}
 use Rattle.schedule_text.specs.declared.source.TextFault.TheVariants as fault
-use Rattle.slot_plans.specs.declared.kind.PlanKind.{PlanKind}
+use Rattle.run_events.specs.declared.plan_kind.PlanKind.{PlanKind}
 
 -- all bytes are read
 pub said_all : (i j : Intake) (n : ℕ) → length i.bytes.items ≤ n

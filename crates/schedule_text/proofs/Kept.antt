@@ -5,7 +5,7 @@ use Rattle.std.specs.List.{flat_map}
 use Rattle.std.proofs.lemmas.List.{flat_map_more, take_more}
 use Rattle.std.proofs.lemmas.List.Elements.{All-more}
 use Rattle.std.proofs.lemmas.Str.{IsUtf8-append}
-use Rattle.step_machine.specs.declared.event.Event.{Event}
+use Rattle.run_events.specs.declared.event.Event.{Event}
 use Rattle.schedule_text.specs.Small.{IsSmallEvent}
 use Rattle.schedule_text.specs.Writing.{event_line, line_text}
 use Rattle.schedule_text.proofs.EventLines.{line_utf8}

@@ -9,8 +9,8 @@ use Rattle.std.proofs.lemmas.Str.{IsUtf8-append, IsUtf8-nil}
 use Rattle.std.specs.Global.{Vec}
 use Rattle.std.specs.Str.Lines.{lines}
 use Rattle.round_meaning.specs.declared.setup.Setup.{Setup}
-use Rattle.slot_plans.specs.declared.kind.PlanKind.{PlanKind}
-use Rattle.step_machine.specs.declared.event.Event.{Event}
+use Rattle.run_events.specs.declared.plan_kind.PlanKind.{PlanKind}
+use Rattle.run_events.specs.declared.event.Event.{Event}
 use Rattle.schedule_text.specs.Bytes.{BeginsUtf8, IsNoText, IsText}
 use Rattle.schedule_text.specs.Intakes.{EndsIntake, HasNoEvents, IsFresh, IsLongFault, TakesLines}
 use Rattle.schedule_text.specs.Intakes.{header_in, said, says, without_events}

@@ -10,8 +10,8 @@ use Rattle.std.proofs.Math.Seq.{get_or-append_seam, take-append_seam}
 use Rattle.std.proofs.lemmas.Bool.{ltb-true, ltb-false}
 use Rattle.std.proofs.lemmas.List.{append-nil}
 use Rattle.std.proofs.lemmas.List.Elements.{filter-append}
-use Rattle.slot_plans.specs.declared.kind.PlanKind.{PlanKind}
-use Rattle.step_machine.specs.declared.event.Event.{Event}
+use Rattle.run_events.specs.declared.plan_kind.PlanKind.{PlanKind}
+use Rattle.run_events.specs.declared.event.Event.{Event}
 use Rattle.schedule_text.specs.declared.draft.Sizes.{Sizes}
 use Rattle.schedule_text.specs.declared.draft.Stage.{Stage}
 use Rattle.schedule_text.specs.declared.draft.Stage.TheVariants.{Start, Nodes, Faults, Inputs}

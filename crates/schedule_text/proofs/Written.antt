@@ -10,11 +10,11 @@ use Rattle.std.proofs.lemmas.List.Concat.{flat_map-append}
 use Rattle.std.proofs.lemmas.List.Folds.{flat_map-map}
 use Rattle.std.proofs.lemmas.List.Elements.{recursion_from_All}
 use Rattle.round_meaning.specs.declared.setup.Setup.{Setup}
-use Rattle.slot_plans.specs.declared.kind.PlanKind.{PlanKind}
-use Rattle.slot_plans.specs.declared.kind.PlanKind.TheVariants.{Known, Growing}
-use Rattle.step_machine.specs.declared.event.Event.{Event}
-use Rattle.step_machine.specs.declared.event.Event.TheVariants.{Step, Release, Drop, Copy}
-use Rattle.step_machine.specs.declared.event.Name.{Name}
+use Rattle.run_events.specs.declared.plan_kind.PlanKind.{PlanKind}
+use Rattle.run_events.specs.declared.plan_kind.PlanKind.TheVariants.{Known, Growing}
+use Rattle.run_events.specs.declared.event.Event.{Event}
+use Rattle.run_events.specs.declared.event.Event.TheVariants.{Step, Release, Drop, Copy}
+use Rattle.run_events.specs.declared.name.Name.{Name}
 use Rattle.schedule_text.specs.declared.draft.Stage.TheVariants.{Nodes, Faults, Inputs, Rounds}
 use Rattle.schedule_text.specs.declared.draft.Stage.TheVariants.{Whole}
 use Rattle.schedule_text.specs.declared.kind.Kind.TheVariants.{Schedule}

@@ -10,7 +10,7 @@ use Rattle.schedule_text.specs.declared.fault.LineFault.TheVariants as line
 use Rattle.std.specs.List.{list_all, take_while}
 use Rattle.std.specs.Char.{is_ascii_digit}
 use Rattle.std.specs.Str.Lines.{lines}
-use Rattle.step_machine.specs.declared.event.Event.{Event}
+use Rattle.run_events.specs.declared.event.Event.{Event}
 
 -- a number, if each above the largest counts as the next one
 abbrev pub capped : ℕ → ℕ

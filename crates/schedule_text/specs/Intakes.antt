@@ -18,7 +18,7 @@ use Rattle.schedule_text.specs.declared.line_reader.LineReader.{LineReader}
 use Rattle.schedule_text.specs.declared.intake.Intake.{Intake}
 use Rattle.schedule_text.specs.declared.source.TextFault.{TextFault}
 use Rattle.schedule_text.specs.declared.source.TextFault.TheVariants as fault
-use Rattle.slot_plans.specs.declared.kind.PlanKind.{PlanKind}
+use Rattle.run_events.specs.declared.plan_kind.PlanKind.{PlanKind}
 
 -- the bytes are none, or LF ends them
 abbrev pub EndsLine : List ℕ → Type 0

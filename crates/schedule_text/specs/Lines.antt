@@ -1,11 +1,12 @@
 -- What a line of a text can say, and how it says it.
 use Rattle.std.specs.Prelude.{◌≡◌, ℕ, ◌<◌, ◌≤◌, ◌⊎◌, All, List, [], ◌∷◌, ◌++◌, codes, length}
 use Rattle.std.specs.List.{AllZip}
-use Rattle.slot_plans.specs.declared.kind.PlanKind.{PlanKind}
-use Rattle.slot_plans.specs.declared.kind.PlanKind.TheVariants.{Known, Growing}
-use Rattle.step_machine.specs.declared.event.Event.{Event}
-use Rattle.step_machine.specs.declared.event.Event.TheVariants.{Step, Release, Drop, Copy}
-use Rattle.step_machine.specs.declared.event.Name.{Name}
+use Rattle.run_events.specs.declared.plan_kind.PlanKind.{PlanKind}
+use Rattle.run_events.specs.declared.plan_kind.PlanKind.TheVariants.{Known, Growing}
+use Rattle.run_events.specs.Events.{of_event}
+use Rattle.run_events.specs.declared.event.Event.{Event}
+use Rattle.run_events.specs.declared.event.Event.TheVariants.{Step, Release, Drop, Copy}
+use Rattle.run_events.specs.declared.name.Name.{Name}
 use Rattle.schedule_text.specs.declared.pace.Pace.{Pace}
 use Rattle.schedule_text.specs.declared.pace.Pace.TheVariants.{Free, Ticks}
 use Rattle.schedule_text.specs.declared.pace.Stop.{Stop}
@@ -50,10 +51,7 @@ numbers_of (inputs vs) = vs
 numbers_of (rounds r) = r ∷ []
 numbers_of (plan (Known d)) = d ∷ []
 numbers_of (plan Growing) = []
-numbers_of (event (Step i)) = i ∷ []
-numbers_of (event (Release m)) = name_numbers m
-numbers_of (event (Drop m)) = name_numbers m
-numbers_of (event (Copy m)) = name_numbers m
+numbers_of (event e) = of_event (λ i. i ∷ []) name_numbers e
 numbers_of (pace p) = []
 numbers_of (stop s) = s.node ∷ s.steps ∷ []
 

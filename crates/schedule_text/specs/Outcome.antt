@@ -11,7 +11,7 @@ use Rattle.schedule_text.specs.declared.draft.Draft.{Draft}
 use Rattle.schedule_text.specs.declared.draft.Stage.{Stage}
 use Rattle.schedule_text.specs.declared.draft.Stage.TheVariants.{Whole}
 use Rattle.round_meaning.specs.declared.setup.Setup.{Setup}
-use Rattle.slot_plans.specs.declared.kind.PlanKind.{PlanKind}
+use Rattle.run_events.specs.declared.plan_kind.PlanKind.{PlanKind}
 use Rattle.schedule_text.specs.declared.kind.Kind.{Kind}
 use Rattle.schedule_text.specs.declared.line_reader.LineReader.{LineReader}
 use Rattle.schedule_text.specs.declared.kind.Kind.TheVariants as kinds

@@ -12,8 +12,8 @@ use Rattle.schedule_text.specs.Texts.{max_text}
 use Rattle.schedule_text.specs.declared.intake.Intake.{Intake}
 use Rattle.schedule_text.specs.declared.kind.Kind.TheVariants as kinds
 use Rattle.schedule_text.specs.declared.source.TextFault.{TextFault}
-use Rattle.slot_plans.specs.declared.kind.PlanKind.{PlanKind}
-use Rattle.step_machine.specs.declared.event.Event.{Event}
+use Rattle.run_events.specs.declared.plan_kind.PlanKind.{PlanKind}
+use Rattle.run_events.specs.declared.event.Event.{Event}
 
 -- a reader: what is left in its source, if that says so, what it took in, how many bytes these
 -- were, and whether the text has ended

@@ -1,11 +1,11 @@
 -- Schedules whose numbers a text can hold.
 use Rattle.std.specs.Prelude.{ℕ, ◌≤◌, All}
 use Rattle.round_meaning.specs.declared.setup.Setup.{Setup}
-use Rattle.slot_plans.specs.declared.kind.PlanKind.{PlanKind}
-use Rattle.slot_plans.specs.declared.kind.PlanKind.TheVariants.{Known, Growing}
-use Rattle.step_machine.specs.declared.event.Event.{Event}
-use Rattle.step_machine.specs.declared.event.Event.TheVariants.{Step, Release, Drop, Copy}
-use Rattle.step_machine.specs.declared.event.Name.{Name}
+use Rattle.run_events.specs.declared.plan_kind.PlanKind.{PlanKind}
+use Rattle.run_events.specs.declared.plan_kind.PlanKind.TheVariants.{Known, Growing}
+use Rattle.run_events.specs.Events.{of_event}
+use Rattle.run_events.specs.declared.event.Event.{Event}
+use Rattle.run_events.specs.declared.name.Name.{Name}
 use Rattle.schedule_text.specs.Numbers.{max_number}
 
 -- a number that a line may have
@@ -21,10 +21,7 @@ abbrev pub IsSmallName : Name → Type 0
 IsSmallName m = IsSmall m.from × IsSmall m.to × IsSmall m.round × IsSmall m.copy
 
 abbrev pub IsSmallEvent : Event → Type 0
-IsSmallEvent (Step i) = IsSmall i
-IsSmallEvent (Release m) = IsSmallName m
-IsSmallEvent (Drop m) = IsSmallName m
-IsSmallEvent (Copy m) = IsSmallName m
+IsSmallEvent e = of_event IsSmall IsSmallName e
 
 -- each number of the setup is small
 pub record IsSmallSetup (s : Setup) : Type 0 where

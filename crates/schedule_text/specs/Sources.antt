@@ -6,8 +6,8 @@ use Rattle.schedule_text.specs.Texts.{SaysOf, max_text}
 use Rattle.schedule_text.specs.declared.fault.ScheduleFault.TheVariants as schedule
 use Rattle.schedule_text.specs.declared.kind.Kind.TheVariants as kinds
 use Rattle.round_meaning.specs.declared.setup.Setup.{Setup}
-use Rattle.slot_plans.specs.declared.kind.PlanKind.{PlanKind}
-use Rattle.step_machine.specs.declared.event.Event.{Event}
+use Rattle.run_events.specs.declared.plan_kind.PlanKind.{PlanKind}
+use Rattle.run_events.specs.declared.event.Event.{Event}
 use Rattle.schedule_text.specs.declared.source.SourceFault.{SourceFault}
 use Rattle.schedule_text.specs.declared.source.SourceFault.TheVariants as source
 use Rattle.schedule_text.specs.declared.source.TextFault.{TextFault}

@@ -9,12 +9,9 @@ use crate::last_round::LastRound;
 use crate::line::{event_of, inputs_of, number_after, pace_of, plan_of, stop_of};
 use crate::pace::{Pace, Stop};
 use crate::reading::{Schedule, ThreadSetup};
-use round_lang::NoMemory;
 use round_meaning::{Inputs, Setup};
-use slot_plans::PlanKind;
+use run_events::{Event, Events, NoMemory, PlanKind};
 use std::alloc::Global;
-use step_machine::Event;
-use stored_events::Events;
 
 /// The numbers of a header, but for the inputs.
 #[derive(Clone, Copy)]

@@ -1,6 +1,6 @@
 //! Why a text is no schedule.
 
-use round_lang::NoMemory;
+use run_events::NoMemory;
 use std::alloc::AllocFailed;
 use thiserror::Error;
 

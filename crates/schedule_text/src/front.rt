@@ -3,11 +3,11 @@ ghost use Rattle.std.specs.Prelude.{◌≡◌, ◌<◌, ◌≤◌, ◌==◌, not
 ghost use Rattle.std.specs.List.{prefix_len};
 ghost use Rattle.std.specs.Str.Lines.{lines, strip_carriage_return};
 ghost use Rattle.schedule_text.specs.Fronts.{IsFrontEvent};
-ghost use Rattle.step_machine.specs.declared.event.Event.TheVariants.{Release, Step};
+ghost use Rattle.run_events.specs.declared.event.Event.TheVariants.{Release, Step};
 
 use crate::last_round::{LastRound, ROUND_DIGITS};
 use crate::number::number_before;
-use step_machine::Name;
+use run_events::Name;
 
 /// How many digits the number of a node has at most in a line that is read here.
 const NODE_DIGITS: usize = 2;

@@ -14,10 +14,9 @@ use crate::kind::Kind;
 use crate::line_reader::LineReader;
 use crate::source::TextFault;
 use memchr::memrchr;
-use round_lang::NoMemory;
 use round_meaning::Setup;
+use run_events::{NoMemory, PlanKind};
 use simdutf8::compat::from_utf8;
-use slot_plans::PlanKind;
 use std::alloc::Global;
 use std::str;
 

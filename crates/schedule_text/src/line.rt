@@ -12,9 +12,8 @@ ghost use Rattle.schedule_text.specs.Outcome.{GivesItems};
 use crate::fault::LineFault;
 use crate::number::{MAX_NUMBER, first_number};
 use crate::pace::{Pace, Stop};
-use slot_plans::PlanKind;
+use run_events::{Event, Name, PlanKind};
 use std::alloc::Global;
-use step_machine::{Event, Name};
 
 #[tactic(auto, unfolding(crate::specs::Stages::after))]
 pub(crate) fn after<'a>(line: &'a [u8], start: &[u8]) -> Option<&'a [u8]>

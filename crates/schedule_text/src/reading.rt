@@ -14,9 +14,8 @@ use crate::kind::Kind;
 use crate::line_reader::LineReader;
 use crate::pace::{Pace, Stop};
 use round_meaning::Setup;
-use slot_plans::PlanKind;
+use run_events::{Events, PlanKind};
 use std::alloc::Global;
-use stored_events::Events;
 
 /// What a schedule's text says.
 #[derive(Drop)]

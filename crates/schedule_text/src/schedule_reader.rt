@@ -9,10 +9,9 @@ use crate::intake::Intake;
 use crate::reading::MAX_TEXT;
 use crate::source::{TextFault, TextSource};
 use round_meaning::Setup;
-use slot_plans::PlanKind;
+use run_events::{Events, PlanKind};
 use std::alloc::Global;
 use std::marker::Model;
-use stored_events::Events;
 
 /// How many bytes are read at a time.
 const PIECE: usize = 65_536;

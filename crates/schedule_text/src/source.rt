@@ -3,7 +3,7 @@ ghost use Rattle.std.specs.Prelude.{◌≡◌, ◌≤◌, ℕ, Err, IfSome, List
 ghost use Rattle.schedule_text.specs.Sources.{Adds};
 
 use crate::fault::ScheduleFault;
-use round_lang::NoMemory;
+use run_events::NoMemory;
 use thiserror::Error;
 
 /// Why a source gives no bytes.

@@ -12,14 +12,11 @@ ghost use Rattle.schedule_text.specs.Writing.{copy_ending, line, name_line, numb
 ghost use Rattle.schedule_text.specs.Writing.{plan_line, text_of};
 ghost use Rattle.short_text.specs.Short.{room};
 
-use round_lang::NoMemory;
 use round_meaning::Setup;
+use run_events::{Event, Name, NoMemory, PlanKind, StoredEvent};
 use short_text::{ROOM, ShortText, push_number_and};
 use simdutf8::basic::from_utf8;
-use slot_plans::PlanKind;
 use std::alloc::Global;
-use step_machine::{Event, Name};
-use stored_events::StoredEvent;
 
 /// How many bytes of room an event's line is given. It has 52 at most, but its last number is
 /// written only if there is room for 20 digits.

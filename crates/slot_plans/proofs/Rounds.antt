@@ -1,7 +1,7 @@
 -- The rounds of a plan follow each other, and each step lies in one.
 use Rattle.std.proofs.Common.{◌≡◌, ℕ, zero, suc, ◌+◌, ◌-◌, ◌^◌, ◌<◌, ◌≤◌, ⊎_elim, refl, arith}
 use Rattle.std.proofs.lemmas.Bool.{cases_lt}
-use Rattle.slot_plans.specs.Limits.{max_rounds}
+use Rattle.run_events.specs.Limits.{max_rounds}
 use Rattle.slot_plans.specs.Plan.{ClearRoundsLast, PlanLaws}
 
 -- the send slots of a round end before the next round starts

@@ -1,7 +1,6 @@
 pub mod Growing
 pub mod Known
 pub mod Laws
-pub mod Limits
 pub mod Named
 pub mod NamedLaws
 pub mod Plan

@@ -3,8 +3,8 @@ use Rattle.std.specs.Prelude.{◌&&◌, ℕ, ⊤, Bool, eqb, false}
 use Rattle.slot_plans.specs.Growing.{growing_nodes, growing_start}
 use Rattle.slot_plans.specs.Known.{known_delta, known_nodes, known_start}
 use Rattle.slot_plans.specs.Plan.{IsDelta}
-use Rattle.slot_plans.specs.declared.kind.PlanKind.{PlanKind}
-use Rattle.slot_plans.specs.declared.kind.PlanKind.TheVariants as kind
+use Rattle.run_events.specs.declared.plan_kind.PlanKind.{PlanKind}
+use Rattle.run_events.specs.declared.plan_kind.PlanKind.TheVariants as kind
 use Rattle.slot_plans.specs.declared.named.NamedPlan.{NamedPlan}
 use Rattle.slot_plans.specs.declared.named.NamedPlan.TheVariants as named
 

@@ -1,6 +1,6 @@
 -- What a plan is, and which of its rounds are clear.
 use Rattle.std.specs.Prelude.{◌≡◌, ℕ, ◌+◌, ◌^◌, ◌<◌, ◌≤◌, Option, Some, None}
-use Rattle.slot_plans.specs.Limits.{max_delta, max_nodes, max_rounds}
+use Rattle.run_events.specs.Limits.{max_delta, max_nodes, max_rounds}
 
 -- a number of nodes that a plan can have
 abbrev pub IsNodeCount : ℕ → Type 0

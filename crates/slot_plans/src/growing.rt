@@ -2,8 +2,8 @@
 ghost use Rattle.std.specs.Prelude.{◌≡◌, ◌≤◌, ◌↔◌, IsSome, IfSome};
 ghost use Rattle.slot_plans.specs.Plan.{IsNodeCount};
 
-use crate::limits::MAX_NODES;
 use crate::plan::Plan;
+use run_events::MAX_NODES;
 
 /// Rounds that grow: with N nodes, round r has N send and r receive steps.
 #[derive(Clone, Copy, PartialEq, Eq, Debug)]

@@ -2,8 +2,8 @@
 ghost use Rattle.std.specs.Prelude.{◌≡◌, ◌≤◌, ◌↔◌, IsSome, IfSome};
 ghost use Rattle.slot_plans.specs.Plan.{IsNodeCount, IsDelta};
 
-use crate::limits::{MAX_DELTA, MAX_NODES};
 use crate::plan::Plan;
+use run_events::{MAX_DELTA, MAX_NODES};
 
 /// Rounds of one length: with N nodes and the bound Δ, each has N send and Δ receive steps.
 #[derive(Clone, Copy, PartialEq, Eq, Debug)]

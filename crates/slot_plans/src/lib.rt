@@ -6,19 +6,16 @@
 #![tactic(auto)]
 
 mod growing;
-mod kind;
 mod known;
 mod laws;
-mod limits;
 mod named;
 mod plan;
 mod slot;
 
 pub use growing::Growing;
-pub use kind::PlanKind;
 pub use known::Known;
 pub use laws::{clear_rounds_last, one_slot};
-pub use limits::{MAX_DELTA, MAX_NODES, MAX_ROUNDS};
 pub use named::NamedPlan;
 pub use plan::Plan;
+pub use run_events::{MAX_DELTA, MAX_NODES, MAX_ROUNDS, PlanKind};
 pub use slot::Slot;

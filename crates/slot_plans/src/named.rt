@@ -4,9 +4,9 @@ ghost use Rattle.slot_plans.specs.Named.{IsPlan};
 ghost use Rattle.slot_plans.specs.Plan.{IsNodeCount};
 
 use crate::growing::Growing;
-use crate::kind::PlanKind;
 use crate::known::Known;
 use crate::plan::Plan;
+use run_events::PlanKind;
 
 /// The plan of a name, for a number of nodes. Code that is given a [`PlanKind`] runs under it with
 /// no case for each plan.

@@ -1,11 +1,11 @@
 //! What each plan does, and what follows from it.
 ghost use Rattle.std.specs.Prelude.{◌≡◌, ℕ, ◌+◌, ◌<◌, ◌≤◌, true};
-ghost use Rattle.slot_plans.specs.Limits.{max_rounds};
+ghost use Rattle.run_events.specs.Limits.{max_rounds};
 ghost use Rattle.slot_plans.specs.Plan.{PlanLaws, IsClearRound};
 ghost use Rattle.slot_plans.specs.Slot.{IsSlotOf};
 
-use crate::limits::MAX_ROUNDS;
 use crate::slot::Slot;
+use run_events::MAX_ROUNDS;
 
 /// Which step of a node belongs to which round, and to what.
 ///

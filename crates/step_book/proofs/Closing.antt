@@ -9,7 +9,7 @@ use Rattle.round_lang.specs.declared.value.Value.{Value}
 use Rattle.round_meaning.specs.Rounds.{Algorithm, algorithm_of}
 use Rattle.step_machine.specs.Sealed.{Frame, held_at}
 use Rattle.step_machine.specs.Nodes.{NodeView, IsHeld, IsFrom, algorithm_in, held_now, inbox_of}
-use Rattle.step_machine.specs.declared.event.Name.{Name}
+use Rattle.run_events.specs.declared.name.Name.{Name}
 use Rattle.step_book.specs.declared.mark.Mark.{Mark}
 use Rattle.step_book.specs.Trace.{steps}
 use Rattle.step_book.specs.World.{earliest}

@@ -6,10 +6,11 @@ use Rattle.std.specs.Prelude.{reverse}
 use Rattle.std.proofs.lemmas.Bool.{and_parts, cases_lt, lt-leb, leb-true}
 use Rattle.std.proofs.lemmas.List.{reverse-append, length-reverse}
 use Rattle.round_meaning.specs.Rounds.{algorithm_of}
-use Rattle.step_machine.specs.Sealed.{Ready, IsPrepared, original}
-use Rattle.step_machine.specs.declared.event.Event.{Event}
-use Rattle.step_machine.specs.declared.event.Event.TheVariants.{Step, Release, Drop, Copy}
-use Rattle.step_machine.specs.declared.event.Name.{Name}
+use Rattle.run_events.specs.Names.{original}
+use Rattle.step_machine.specs.Sealed.{Ready, IsPrepared}
+use Rattle.run_events.specs.declared.event.Event.{Event}
+use Rattle.run_events.specs.declared.event.Event.TheVariants.{Step, Release, Drop, Copy}
+use Rattle.run_events.specs.declared.name.Name.{Name}
 use Rattle.step_book.specs.declared.mark.Mark.{Mark}
 use Rattle.step_book.specs.declared.mark.Mark.TheVariants.{Unsent, Silent, Flying, Released, Lost}
 use Rattle.step_book.specs.World.{World, nodes_of, is_receive}

@@ -7,10 +7,10 @@ use Rattle.round_lang.specs.declared.value.Value.{Value}
 use Rattle.round_meaning.specs.declared.received.Received.{Received}
 use Rattle.round_meaning.specs.Rounds.{rounds, inbox, received}
 use Rattle.round_meaning.proofs.RoundLaws.{filter_map_same}
-use Rattle.step_machine.specs.declared.event.Event.{Event}
-use Rattle.step_machine.specs.declared.event.Event.TheVariants.{Release, Drop, Copy}
-use Rattle.step_machine.specs.declared.event.Name.{Name}
-use Rattle.step_machine.specs.Sealed.{original}
+use Rattle.run_events.specs.declared.event.Event.{Event}
+use Rattle.run_events.specs.declared.event.Event.TheVariants.{Release, Drop, Copy}
+use Rattle.run_events.specs.declared.name.Name.{Name}
+use Rattle.run_events.specs.Names.{original}
 use Rattle.step_book.specs.declared.mark.Mark.{Mark}
 use Rattle.step_book.specs.declared.mark.Mark.TheVariants as mark
 use Rattle.step_book.specs.Fates.{Fate, Unmade, Moving, Waiting, Taken, Lost, after, carried, fate}

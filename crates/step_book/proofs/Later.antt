@@ -3,8 +3,8 @@ use Rattle.std.proofs.Common.{◌≡◌, ℕ, ◌+◌, ◌<◌, ◌≤◌, List,
 use Rattle.std.proofs.Common.{◌∙◌, arith, Bool}
 use Rattle.std.proofs.lemmas.List.{get_or_append_left, length_push}
 use Rattle.round_lang.specs.declared.value.Value.{Value}
-use Rattle.step_machine.specs.declared.event.Event.{Event}
-use Rattle.step_machine.specs.declared.event.Name.{Name}
+use Rattle.run_events.specs.declared.event.Event.{Event}
+use Rattle.run_events.specs.declared.name.Name.{Name}
 use Rattle.step_machine.specs.Nodes.{NodeView}
 use Rattle.step_book.specs.declared.mark.Mark.{Mark}
 use Rattle.step_book.specs.Agreed.{KeepsClosed}

@@ -19,7 +19,7 @@ use Rattle.std.proofs.Common.{get_or, take, subst, sym, refl, ap, ◌∙◌, ari
 use Rattle.std.proofs.Math.Seq.{drop-length, take-length}
 use Rattle.std.proofs.lemmas.List.{drop-append-le, drop-drop, length-drop, length-take-le}
 use Rattle.std.proofs.lemmas.List.{take-append-drop, take-append-le}
-use Rattle.step_machine.specs.declared.event.Name.{Name}
+use Rattle.run_events.specs.declared.name.Name.{Name}
 use Rattle.step_book.specs.Mailing.{AreParted, Rise, last_end, parts}
 
 -- ends that rise stay below the last

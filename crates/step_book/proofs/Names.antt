@@ -5,11 +5,11 @@ use Rattle.std.proofs.lemmas.Bool.{and_from, and_parts, cases_eq, eq-eqb, eqb-tr
 use Rattle.std.proofs.lemmas.Bool.{false_from_ne_true}
 use Rattle.round_meaning.specs.Setups.{IsSetup}
 use Rattle.round_meaning.specs.declared.setup.Setup.{Setup}
-use Rattle.step_machine.specs.declared.event.Name.{Name}
-use Rattle.step_machine.specs.Sealed.{original}
+use Rattle.run_events.specs.declared.name.Name.{Name}
+use Rattle.run_events.specs.Names.{original}
 use Rattle.step_book.specs.Names.{IsName, IsNameOf}
 use Rattle.step_book.specs.Trace.{is_name}
-use Rattle.stored_events.specs.Stored.{IsStorableName}
+use Rattle.run_events.specs.Stored.{IsStorableName}
 
 -- the numbers of a name of a run are small enough to be stored
 pub storable_name : (s : Setup) → IsSetup s → (n : Name) → IsName s n → IsStorableName n

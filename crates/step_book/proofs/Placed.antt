@@ -8,10 +8,10 @@ use Rattle.std.proofs.lemmas.Bool.{cases_lt, and_from, and_parts, lt-ltb, ltb-tr
 use Rattle.std.proofs.lemmas.Bool.{le-leb, leb-true, eq-eqb, eqb-true, or_cases}
 use Rattle.std.proofs.lemmas.List.{length-reverse}
 use Rattle.std.proofs.lemmas.Option.{same_Some, slice_get_within}
-use Rattle.step_machine.specs.declared.event.Event.{Event}
-use Rattle.step_machine.specs.declared.event.Event.TheVariants.{Step, Release, Drop, Copy}
-use Rattle.step_machine.specs.declared.event.Name.{Name}
-use Rattle.step_machine.specs.Sealed.{original}
+use Rattle.run_events.specs.declared.event.Event.{Event}
+use Rattle.run_events.specs.declared.event.Event.TheVariants.{Step, Release, Drop, Copy}
+use Rattle.run_events.specs.declared.name.Name.{Name}
+use Rattle.run_events.specs.Names.{original}
 use Rattle.step_book.specs.Fates.{Fate, Unmade, Moving, Waiting, Taken, Lost, after, carried, fate}
 use Rattle.step_book.specs.Fates.{is_moving, is_slot, is_take, makes, taken_near}
 use Rattle.step_book.specs.Places.{Copied, IsCarried, IsCarriedAs, IsCopiedAt, IsCopyAt, IsDropAt}

@@ -9,8 +9,8 @@ use Rattle.std.specs.Arc.{arc_value}
 use Rattle.std.specs.declared.sync.Arc.{Arc}
 use Rattle.round_lang.specs.declared.value.Value.{Value}
 use Rattle.round_meaning.specs.Rounds.{algorithm}
-use Rattle.step_machine.specs.declared.event.Event.{Event}
-use Rattle.step_machine.specs.declared.event.Name.{Name}
+use Rattle.run_events.specs.declared.event.Event.{Event}
+use Rattle.run_events.specs.declared.name.Name.{Name}
 use Rattle.step_book.specs.declared.mark.Mark.{Mark}
 use Rattle.step_book.specs.declared.mark.Mark.TheVariants.{Unsent}
 use Rattle.step_book.specs.World.{nodes_of}

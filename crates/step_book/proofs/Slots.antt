@@ -4,7 +4,7 @@ use Rattle.std.proofs.Common.{Bool, arith}
 use Rattle.std.proofs.lemmas.Bool.{cases_lt}
 use Rattle.slot_plans.specs.Plan.{PlanLaws}
 use Rattle.slot_plans.specs.Slot.{IsSendSlot, IsReceiveSlot}
-use Rattle.step_machine.specs.declared.event.Name.{Name}
+use Rattle.run_events.specs.declared.name.Name.{Name}
 use Rattle.step_book.specs.Log.{Log, world_of}
 use Rattle.step_book.specs.Slots.{IsMessageAt, IsNoMessageAt}
 use Rattle.step_book.specs.World.{World, IsPlan, nodes_of}

@@ -15,7 +15,7 @@ use Rattle.round_meaning.specs.Rounds.{algorithm, algorithm_of}
 use Rattle.round_meaning.specs.Setups.{IsLawful}
 use Rattle.round_meaning.specs.Typed.{StartsAreStates}
 use Rattle.slot_plans.specs.Plan.{PlanLaws}
-use Rattle.step_machine.specs.declared.event.Name.{Name}
+use Rattle.run_events.specs.declared.name.Name.{Name}
 use Rattle.step_machine.proofs.Typing.{state_of_program}
 use Rattle.step_book.specs.declared.mark.Mark.{Mark}
 use Rattle.step_book.specs.World.{World, IsPlan}

@@ -5,7 +5,7 @@ use Rattle.std.specs.Prelude.{IsSome, slice_index_or}
 use Rattle.std.specs.List.{count_by}
 use Rattle.round_lang.specs.declared.value.Value.{Value}
 use Rattle.round_meaning.specs.Rounds.{algorithm_of}
-use Rattle.step_machine.specs.declared.event.Name.{Name}
+use Rattle.run_events.specs.declared.name.Name.{Name}
 use Rattle.step_machine.specs.Sealed.{Frame, sent_under}
 use Rattle.step_book.specs.declared.mark.Mark.{Mark}
 use Rattle.step_book.specs.declared.mark.Mark.TheVariants.{Unsent, Silent, Flying, Released, Lost}

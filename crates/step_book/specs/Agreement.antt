@@ -10,8 +10,8 @@ use Rattle.step_book.specs.Names.{IsNameOf}
 use Rattle.step_book.specs.Tables.{read_at}
 use Rattle.step_book.specs.Trace.{is_name, steps}
 use Rattle.step_book.specs.World.{World, nodes_of}
-use Rattle.step_machine.specs.declared.event.Event.{Event}
-use Rattle.step_machine.specs.declared.event.Name.{Name}
+use Rattle.run_events.specs.declared.event.Event.{Event}
+use Rattle.run_events.specs.declared.name.Name.{Name}
 
 -- a node's states after 0, 1, .. closed rounds
 abbrev pub Row : Type 0

@@ -4,8 +4,9 @@ use Rattle.std.specs.Prelude.{map, slice_index_or}
 use Rattle.round_lang.specs.Syntax.{ProgramTree}
 use Rattle.round_meaning.specs.Rounds.{Algorithm, algorithm_of}
 use Rattle.round_meaning.specs.declared.setup.Setup.{Setup}
-use Rattle.step_machine.specs.declared.event.Name.{Name}
-use Rattle.step_machine.specs.Sealed.{Frame, IsHonest, max_copy}
+use Rattle.run_events.specs.declared.name.Name.{Name}
+use Rattle.run_events.specs.Limits.{max_copy}
+use Rattle.step_machine.specs.Sealed.{Frame, IsHonest}
 use Rattle.step_book.specs.Agreement.{Row, row}
 use Rattle.step_book.specs.Tables.{read_at}
 

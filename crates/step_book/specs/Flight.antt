@@ -3,8 +3,8 @@ use Rattle.std.specs.Prelude.{◌≡◌, ℕ, ◌+◌, ◌<◌, ◌⊎◌, List,
 use Rattle.step_book.specs.Log.{Log, IsFlying, history, world_of}
 use Rattle.step_book.specs.Names.{IsName}
 use Rattle.step_book.specs.Serials.{serial}
-use Rattle.step_machine.specs.declared.event.InFlight.{InFlight}
-use Rattle.step_machine.specs.declared.event.Name.{Name}
+use Rattle.run_events.specs.declared.in_flight.InFlight.{InFlight}
+use Rattle.run_events.specs.declared.name.Name.{Name}
 
 -- a copy in flight, with the step number of its message's slot and its message's serial
 pub record IsEntry (start : ℕ → ℕ) (v : Log) (m : InFlight) : Type 0 where

@@ -18,9 +18,10 @@ use Rattle.step_book.specs.Names.{IsName}
 use Rattle.step_book.specs.Serials.{AreSent}
 use Rattle.step_book.specs.Trace.{steps}
 use Rattle.step_book.specs.World.{World, IsPlan, is_receive}
-use Rattle.step_machine.specs.declared.event.Event.{Event}
-use Rattle.step_machine.specs.declared.event.Name.{Name}
-use Rattle.step_machine.specs.Sealed.{max_copy, original}
+use Rattle.run_events.specs.declared.event.Event.{Event}
+use Rattle.run_events.specs.declared.name.Name.{Name}
+use Rattle.run_events.specs.Limits.{max_copy}
+use Rattle.run_events.specs.Names.{original}
 use Rattle.step_machine.specs.Nodes.{NodeView, algorithm_in, held_now, inbox_of}
 
 -- a run so far: its program and setup, the events in their order, and the states of each node after

@@ -1,6 +1,6 @@
 -- The names released to a node, separated by its receives.
 use Rattle.std.specs.Prelude.{◌≡◌, ℕ, ⊤, ◌-◌, ◌≤◌, List, [], ◌∷◌, drop, length, take}
-use Rattle.step_machine.specs.declared.event.Name.{Name}
+use Rattle.run_events.specs.declared.name.Name.{Name}
 
 -- the names that each receive handed out, and those that wait
 pub record Mailed : Type 0 where

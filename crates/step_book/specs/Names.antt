@@ -1,8 +1,8 @@
 -- Which names are of messages of a run.
 use Rattle.std.specs.Prelude.{ℕ, ◌<◌, ◌≤◌}
 use Rattle.round_meaning.specs.declared.setup.Setup.{Setup}
-use Rattle.step_machine.specs.declared.event.Name.{Name}
-use Rattle.step_machine.specs.Sealed.{max_copy}
+use Rattle.run_events.specs.declared.name.Name.{Name}
+use Rattle.run_events.specs.Limits.{max_copy}
 
 -- the name is of one of the copies of a message between so many nodes, in so many rounds
 pub record IsNameOf (nodes rounds : ℕ) (n : Name) : Type 0 where

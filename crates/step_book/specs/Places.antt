@@ -3,10 +3,11 @@
 -- number `start r`: a send to each node, from 0 on, and then receives. A `Name` names one copy of a
 -- message: `from`, `to`, `round` and `copy`.
 use Rattle.std.specs.Prelude.{◌≡◌, ℕ, ◌+◌, ◌<◌, ◌≤◌, ◌⊎◌, List, Some, count_by, slice_get, take}
-use Rattle.step_machine.specs.declared.event.Event.{Event}
-use Rattle.step_machine.specs.declared.event.Event.TheVariants.{Step, Release, Drop, Copy}
-use Rattle.step_machine.specs.declared.event.Name.{Name}
-use Rattle.step_machine.specs.Sealed.{max_copy, original}
+use Rattle.run_events.specs.declared.event.Event.{Event}
+use Rattle.run_events.specs.declared.event.Event.TheVariants.{Step, Release, Drop, Copy}
+use Rattle.run_events.specs.declared.name.Name.{Name}
+use Rattle.run_events.specs.Limits.{max_copy}
+use Rattle.run_events.specs.Names.{original}
 use Rattle.step_book.specs.Trace.{is_step}
 use Rattle.step_book.specs.World.{World, earliest, nodes_of}
 

@@ -8,9 +8,9 @@ use Rattle.step_book.specs.Names.{IsNameOf}
 use Rattle.step_book.specs.Trace.{steps}
 use Rattle.step_book.specs.Work.{sent_name}
 use Rattle.step_book.specs.World.{World, nodes_of}
-use Rattle.step_machine.specs.declared.event.Event.{Event}
-use Rattle.step_machine.specs.declared.event.Event.TheVariants.{Step, Release, Drop, Copy}
-use Rattle.step_machine.specs.declared.event.Name.{Name}
+use Rattle.run_events.specs.Events.{of_event}
+use Rattle.run_events.specs.declared.event.Event.{Event}
+use Rattle.run_events.specs.declared.name.Name.{Name}
 
 -- step number x is one of the sends of round r
 abbrev pub sends_in : World → ℕ → ℕ → Bool
@@ -31,10 +31,8 @@ is_said w t (Some n) = is_some (message w t n)
 
 -- the event sends a message
 abbrev pub sends : World → Event → List Event → Bool
-sends w (Step i) past = is_said w past (slot_by w i (steps i past) w.rounds)
-sends w (Release n) past = false
-sends w (Drop n) past = false
-sends w (Copy n) past = false
+sends w e past =
+    of_event (λ i. is_said w past (slot_by w i (steps i past) w.rounds)) (λ n. false) e
 
 -- how many messages were sent
 unfoldable pub sent : World → List Event → ℕ

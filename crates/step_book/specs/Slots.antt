@@ -2,7 +2,7 @@
 use Rattle.std.specs.Prelude.{◌≡◌, ◌≢◌, ℕ, ◌+◌}
 use Rattle.step_book.specs.Names.{IsNameOf}
 use Rattle.step_book.specs.World.{World, nodes_of}
-use Rattle.step_machine.specs.declared.event.Name.{Name}
+use Rattle.run_events.specs.declared.name.Name.{Name}
 
 -- step number x of node i is this message's slot, which makes its copy 0
 pub record IsMessageAt (w : World) (i x : ℕ) (n : Name) : Type 0 where

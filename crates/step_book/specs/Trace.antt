@@ -1,19 +1,17 @@
 -- Events of a history, which has the newest event first: a moment is the list of what went before
 -- it.
 use Rattle.std.specs.Prelude.{ℕ, ◌+◌, Bool, false, ◌&&◌, ◌==◌, if◌then◌else◌, List, [], ◌∷◌}
-use Rattle.step_machine.specs.declared.event.Event.{Event}
-use Rattle.step_machine.specs.declared.event.Event.TheVariants.{Step, Release, Drop, Copy}
-use Rattle.step_machine.specs.declared.event.Name.{Name}
+use Rattle.run_events.specs.Events.{of_event}
+use Rattle.run_events.specs.declared.event.Event.{Event}
+use Rattle.run_events.specs.declared.event.Event.TheVariants.{Step, Release, Drop, Copy}
+use Rattle.run_events.specs.declared.name.Name.{Name}
 
 -- the names are one
 abbrev pub is_name : Name → Name → Bool
 is_name n m = m.from == n.from && m.to == n.to && m.round == n.round && m.copy == n.copy
 
 abbrev pub is_step : ℕ → Event → Bool
-is_step i (Step k) = k == i
-is_step i (Release m) = false
-is_step i (Drop m) = false
-is_step i (Copy m) = false
+is_step i e = of_event (λ k. k == i) (λ m. false) e
 
 abbrev pub is_release : Name → Event → Bool
 is_release n (Step k) = false

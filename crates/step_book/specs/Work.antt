@@ -7,9 +7,10 @@ use Rattle.step_book.specs.declared.mark.Mark.TheVariants.{Unsent, Silent, Flyin
 use Rattle.step_book.specs.Fates.{carried, some_copy}
 use Rattle.step_book.specs.History.{message, state}
 use Rattle.step_book.specs.World.{World, nodes_of}
-use Rattle.step_machine.specs.declared.event.Event.{Event}
-use Rattle.step_machine.specs.declared.event.Name.{Name}
-use Rattle.step_machine.specs.Sealed.{Frame, HeldRow, held_at, original}
+use Rattle.run_events.specs.declared.event.Event.{Event}
+use Rattle.run_events.specs.declared.name.Name.{Name}
+use Rattle.run_events.specs.Names.{original}
+use Rattle.step_machine.specs.Sealed.{Frame, HeldRow, held_at}
 
 -- a message by the name of its copy 0 and its sender's state
 pub record Tag : Type 0 where

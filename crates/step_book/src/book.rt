@@ -21,7 +21,7 @@ ghost use Rattle.step_book.specs.Serials.{AreSent, HasSerial};
 ghost use Rattle.step_book.specs.Slots.{IsMessageAt, IsNoMessageAt};
 ghost use Rattle.step_book.specs.Stored.{IsShort};
 ghost use Rattle.step_book.specs.declared.mark.Mark.TheVariants.{Unsent};
-ghost use Rattle.step_machine.specs.declared.event.Name.{Name as OneName};
+ghost use Rattle.run_events.specs.declared.name.Name.{Name as OneName};
 
 mod closing;
 mod network;
@@ -33,14 +33,13 @@ use crate::marks::Marks;
 use crate::notes::{note_receive, note_send, note_step};
 use crate::opening::{first_rows, no_mail, no_steps};
 use round_check::Checked;
-use round_lang::NoMemory;
 use round_meaning::Setup;
+use run_events::{InFlight, MAX_COPY, Name, NoMemory, StoredEvent, StoredName};
 use slot_plans::{Plan, Slot};
 use std::alloc::Global;
 use std::marker::Model;
 use std::sync::Arc;
-use step_machine::{InFlight, MAX_COPY, Name, Prepared, StoredState};
-use stored_events::{StoredEvent, StoredName};
+use step_machine::{Prepared, StoredState};
 
 /// The record of a run: its events, the steps of each node, the states of its closed rounds, what
 /// became of each copy of each message, what each receive handed out, how each event of the network
@@ -135,20 +134,26 @@ impl<P: Plan> Book<P> {
         &self.program
     }
 
+    /// The setup, which is lawful for the program.
     pub fn setup(&self) -> &Setup
-        ensures { result.now ≡ self.now.log.setup }
+        ensures value { result.now ≡ self.now.log.setup }
+        ensures lawful { IsLawful self.now.log.program.values self.now.log.setup }
     {
         &self.setup
     }
 
+    /// The plan, which has the setup's number of nodes.
     pub fn plan(&self) -> P
-        ensures { result ≡ self.now.plan }
+        ensures value { result ≡ self.now.plan }
+        ensures sized { P.nodes self.now.plan ≡ self.now.log.setup.nodes }
     {
         self.plan
     }
 
+    /// The events, in their order; what is recorded of them agrees with the run in rounds.
     pub fn trace(&self) -> &[StoredEvent]
-        ensures { result.now ≡ self.now.log.trace }
+        ensures value { result.now ≡ self.now.log.trace }
+        ensures faithful { IsFaithful (P.start self.now.plan) self.now.log }
     {
         &self.trace
     }

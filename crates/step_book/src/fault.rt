@@ -4,7 +4,7 @@ ghost use Rattle.step_book.specs.declared.fault.ReceiveFault.TheVariants as rece
 ghost use Rattle.step_book.specs.declared.fault.CloseFault.TheVariants as close;
 ghost use Rattle.step_book.specs.declared.fault.IdleFault.TheVariants as idle;
 
-use round_lang::NoMemory;
+use run_events::NoMemory;
 use step_machine::Prepared;
 use thiserror::Error;
 

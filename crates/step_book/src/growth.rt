@@ -1,7 +1,7 @@
 //! Room that is made before anything is recorded.
 ghost use Rattle.std.specs.Prelude.{◌≡◌, ◌<◌, OnOk, vec_capacity, vec_len};
 
-use round_lang::NoMemory;
+use run_events::NoMemory;
 
 /// Makes room for one item more. Mostly there is some, so that is tested first.
 #[inline(always)]

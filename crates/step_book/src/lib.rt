@@ -26,6 +26,6 @@ pub use growth::room;
 pub use mailbox::Mailbox;
 pub use mark::Mark;
 pub use naming::is_name;
-pub use stored_events::{StoredEvent, StoredName, add_names, events_of};
+pub use run_events::{StoredEvent, StoredName, add_names, events_of};
 pub use tags::{earliest, is_within};
 pub use waiting::{Waiting, take_all};

@@ -2,14 +2,12 @@
 ghost use Rattle.std.specs.Prelude.{◌≡◌, ◌-◌, ◌<◌, ◌≤◌, ◌++◌, ◌∷◌, [], OnErr, OnOk, drop, length};
 ghost use Rattle.std.specs.Prelude.{slice_index, slice_index_or, take};
 ghost use Rattle.step_book.specs.Mailing.{mailed};
-ghost use Rattle.stored_events.specs.Stored.{IsStorableName};
+ghost use Rattle.run_events.specs.Stored.{IsStorableName};
 
 use crate::growth::room;
-use round_lang::NoMemory;
+use run_events::{Name, NoMemory, StoredName};
 use std::alloc::Global;
 use std::marker::Model;
-use step_machine::Name;
-use stored_events::StoredName;
 
 /// The names of the messages that were released to a node, in the order of their releases: those
 /// that each of its receives handed out, and then those that wait.

@@ -5,7 +5,7 @@ ghost use Rattle.step_book.specs.Stored.{IsShort};
 ghost use Rattle.step_book.specs.Tables.{HasPlace, Puts, SameTable, SameTables, read_at, tables_of};
 
 use crate::mark::{Mark, StoredMark};
-use round_lang::NoMemory;
+use run_events::NoMemory;
 use std::alloc::Global;
 use std::marker::Model;
 

@@ -3,7 +3,7 @@ ghost use Rattle.std.specs.Prelude.{◌↔◌, IsTrue};
 ghost use Rattle.step_book.specs.Names.{IsName};
 
 use round_meaning::Setup;
-use step_machine::{MAX_COPY, Name};
+use run_events::{MAX_COPY, Name};
 
 /// Whether a name is that of a copy of a message of the setup's rounds.
 pub fn is_name(setup: &Setup, name: Name) -> bool

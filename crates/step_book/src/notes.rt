@@ -3,21 +3,21 @@
 ghost use Rattle.std.specs.Arc.{arc_value};
 ghost use Rattle.std.specs.Prelude.{◌≡◌, ◌+◌, ◌<◌, ◌≤◌, [], ◌∷◌, ◌++◌, OnOk, OnErr};
 ghost use Rattle.std.specs.Prelude.{slice_index, slice_set, true, vec_len};
+ghost use Rattle.run_events.specs.Limits.{max_nodes};
 ghost use Rattle.step_book.specs.declared.mark.Mark.TheVariants.{Unsent};
 ghost use Rattle.step_book.specs.History.{arrival};
 ghost use Rattle.step_book.specs.Stored.{IsShort};
 ghost use Rattle.step_book.specs.Tables.{Puts, SameTables};
 ghost use Rattle.step_book.specs.Log.{states_of};
-ghost use Rattle.stored_events.specs.Stored.{IsStorable, IsStorableName};
+ghost use Rattle.run_events.specs.Stored.{IsStorable, IsStorableName};
 
 use crate::growth::room;
 use crate::mailbox::Mailbox;
 use crate::mark::Mark;
 use crate::marks::Marks;
-use round_lang::NoMemory;
+use run_events::{Event, Name, NoMemory, StoredEvent, StoredName};
 use std::sync::Arc;
-use step_machine::{Event, Name, StoredState};
-use stored_events::{StoredEvent, StoredName};
+use step_machine::StoredState;
 
 /// A step of a node.
 #[inline(always)]
@@ -26,7 +26,7 @@ pub(crate) fn note_step(
     steps: &mut Vec<u64>,
     node: u32,
 ) -> Result<(), NoMemory>
-    requires storable { node < 16 }
+    requires storable { node < max_nodes }
     requires node_in { node < vec_len steps.old }
     requires counted { slice_index steps.old.items node ≤ vec_len trace.old }
     ensures trace { OnOk result (trace.new.items ≡ trace.old.items ++ Event.Step node ∷ []) }
@@ -85,7 +85,7 @@ pub(crate) fn note_receive(
     mail: &mut Mailbox,
     node: u32,
 ) -> Result<(), NoMemory>
-    requires storable { node < 16 }
+    requires storable { node < max_nodes }
     requires node_in { node < vec_len steps.old }
     requires counted { slice_index steps.old.items node ≤ vec_len trace.old }
     ensures trace { OnOk result (trace.new.items ≡ trace.old.items ++ Event.Step node ∷ []) }

@@ -5,8 +5,8 @@ ghost use Rattle.step_book.specs.Mailing.{mailed};
 
 use crate::mailbox::Mailbox;
 use round_check::Checked;
-use round_lang::NoMemory;
 use round_meaning::{Setup, initial_of, types_are_kept};
+use run_events::NoMemory;
 use std::alloc::Global;
 use std::sync::Arc;
 use step_machine::StoredState;

@@ -4,7 +4,7 @@ ghost use Rattle.std.specs.Prelude.{length, slice_index_or, vec_len};
 ghost use Rattle.step_book.specs.Tables.{PutsAt, SameTable};
 
 use crate::spare_places::SparePlaces;
-use round_lang::NoMemory;
+use run_events::NoMemory;
 use std::alloc::Global;
 use std::marker::Model;
 use std::mem;

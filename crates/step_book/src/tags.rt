@@ -4,7 +4,8 @@ ghost use Rattle.step_book.specs.Work.{is_within, tag_of};
 ghost use Rattle.step_book.specs.World.{earliest};
 
 use crate::mark::Mark;
-use step_machine::{Name, ROUNDS_HELD, Sealed, StoredState};
+use run_events::Name;
+use step_machine::{ROUNDS_HELD, Sealed, StoredState};
 
 /// The first of the rounds in which a message of this round is kept.
 pub fn earliest(round: u32) -> u32

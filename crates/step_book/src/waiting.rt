@@ -6,7 +6,7 @@ ghost use Rattle.step_book.specs.Taking.{HasTaken};
 ghost use Rattle.step_machine.specs.Nodes.{HasPlaces, algorithm_in};
 
 use crate::frames::Frames;
-use round_lang::NoMemory;
+use run_events::NoMemory;
 use std::alloc::Global;
 use std::marker::Model;
 use std::mem;

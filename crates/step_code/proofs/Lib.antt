@@ -16,10 +16,12 @@ pub mod Logical
 pub mod Moved
 pub mod Ops
 pub mod Patch
+pub mod Places
 pub mod Relating
 pub mod Runs
 pub mod Safe
 pub mod Small
+pub mod Short
 pub mod Sound
 pub mod Steps
 pub mod Taking

@@ -1,9 +1,11 @@
 //! The code of a block.
-ghost use Rattle.std.specs.Prelude.{◌≡◌, ◌++◌, IfOk, OnOk, map};
+ghost use Rattle.std.specs.Prelude.{◌≡◌, ◌<◌, ◌≤◌, ◌+◌, ◌*◌, ◌^◌, ◌++◌, IfOk, OnOk, length, map};
+ghost use Rattle.round_lang.specs.Limits.{max_fields};
 ghost use Rattle.step_code.specs.Assignments.{body_code, body_top, values_code, values_top};
 ghost use Rattle.step_code.specs.Assignments.{BodyNumbers, ValuesNumbers};
 ghost use Rattle.step_code.specs.Code.{code_of, place_of, top_of, HasSmallNumbers};
 ghost use Rattle.step_code.specs.Compiled.{block_view, BlockNumbers, BlocksNumbers};
+ghost use Rattle.step_code.specs.Compiled.{SendsFields};
 ghost use Rattle.step_code.specs.Joined.{joined_code};
 ghost use Rattle.step_code.specs.Layout.{block_code, block_top, blocks_top, free_place};
 ghost use Rattle.step_code.specs.Layout.{message_names, message_place, state_names, state_place};
@@ -15,7 +17,8 @@ use crate::layout::{place_fields, place_variables};
 use crate::names::{Known, Scope};
 use crate::pieces::{Piece, emit_body, emit_values};
 use crate::single::further;
-use round_lang::{Assignment, Block, Formula, NoMemory, Program};
+use round_lang::{Assignment, Block, Formula, Program};
+use run_events::NoMemory;
 use std::alloc::Global;
 
 /// The code of a block, where the value of its condition stands, and where the free words begin.
@@ -42,14 +45,17 @@ fn names_in(
     message: u16,
     block: &Block,
 ) -> Result<Readable, NoMemory>
-    requires { message ≡ message_place program.now }
+    requires message { message ≡ message_place program.now }
+    requires low { message < 2 ^ 11 }
     ensures names { IfOk result (λ r. r.names.items ≡ message_names program.now block.now) }
     ensures free { IfOk result (λ r. r.free ≡ free_place program.now block.now) }
+    ensures near { IfOk result (λ r. r.free < 2 ^ 12) }
+    ensures few { OnOk result (length block.now.fields ≤ max_fields) }
 {
     let k = program.values();
     let mut names = Vec::new(alloc);
     let free = place_fields(&mut names, k, message, block.fields())?;
-    let state = further(13, k)?;
+    let state = further(13, k);
     place_variables(&mut names, k, state, program.variables())?;
     Ok(Readable { names, free })
 }
@@ -62,6 +68,8 @@ fn body_piece(
     body: &[Assignment],
     d: u16,
 ) -> Result<Piece, NoMemory>
+    requires few { k ≤ 64 }
+    requires near { d < 2 ^ 12 }
     ensures code { IfOk result (λ r. r.code.items
         ≡ joined_code (body_code k names.now variables.now body.now d)) }
     ensures top { IfOk result (λ r. r.top ≡ body_top k names.now body.now d) }
@@ -81,6 +89,9 @@ fn sent_piece(
     p: u16,
     d: u16,
 ) -> Result<Piece, NoMemory>
+    requires few { k ≤ 64 }
+    requires near { d < 2 ^ 12 }
+    requires places { p + 64 * length formulas.now < 2 ^ 16 }
     ensures code { IfOk result (λ r. r.code.items
         ≡ joined_code (values_code k names.now formulas.now p d)) }
     ensures top { IfOk result (λ r. r.top ≡ values_top k names.now formulas.now d) }
@@ -100,6 +111,8 @@ fn condition_piece(
     formula: &Formula,
     d: u16,
 ) -> Result<(Piece, u16), NoMemory>
+    requires few { k ≤ 64 }
+    requires near { d < 2 ^ 12 }
     ensures code { IfOk result (λ r. r.0.code.items
         ≡ joined_code (code_of k names.now formula.now d)) }
     ensures top { IfOk result (λ r. r.0.top ≡ top_of k names.now formula.now d) }
@@ -124,6 +137,8 @@ fn compile_block(
 ) -> Result<(BlockCode, usize), NoMemory>
     requires variables { variables.now ≡ state_names program.now }
     requires message { message ≡ message_place program.now }
+    requires low { message < 2 ^ 11 }
+    requires counted { length block.now.sent ≡ length block.now.fields }
     ensures code { IfOk result (λ r. block_view r.0 ≡ block_code program.now block.now) }
     ensures top { IfOk result (λ r. r.1 ≡ block_top program.now block.now) }
     ensures numbers { OnOk result (BlockNumbers block.now) }
@@ -157,6 +172,8 @@ pub(crate) fn compile_blocks(
 ) -> Result<usize, NoMemory>
     requires variables { variables.now ≡ state_names program.now }
     requires message { message ≡ message_place program.now }
+    requires low { message < 2 ^ 11 }
+    requires counted { SendsFields blocks.now }
     ensures codes { OnOk result (map block_view codes.new.items
         ≡ map block_view codes.old.items ++ map (block_code program.now) blocks.now) }
     ensures top { IfOk result (λ n. n ≡ blocks_top program.now blocks.now) }

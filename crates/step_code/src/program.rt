@@ -20,7 +20,8 @@ use crate::pieces::{Piece, emit_starts};
 use crate::round_code::RoundCode;
 use crate::single::further;
 use round_check::Checked;
-use round_lang::{Block, Message, NoMemory, Program, Shape, Ty, Vars};
+use round_lang::{Block, Message, Program, Shape, Ty, Vars};
+use run_events::NoMemory;
 use std::alloc::Global;
 use std::marker::Model;
 
@@ -194,7 +195,7 @@ pub fn compile(alloc: Global, program: &Checked) -> Result<StepProgram, NoMemory
     let tree = program.program();
     let k = tree.values();
     let mut variables = Vec::new(alloc);
-    let state = further(13, k)?;
+    let state = further(13, k);
     let message = place_variables(&mut variables, k, state, tree.variables())?;
     let start = start_piece(alloc, program, state, message)?;
     let mut blocks = Vec::new(alloc);
@@ -217,6 +218,7 @@ fn start_piece(
 ) -> Result<Piece, NoMemory>
     requires state { state ≡ 13 + program.now.values }
     requires message { message ≡ message_place program.now }
+    requires low { message < 2 ^ 11 }
     ensures code { IfOk result (λ r. r.code.items ≡ init_code program.now) }
     ensures top { IfOk result (λ r. r.top ≡ starts_top program.now.values (start_names program.now)
         program.now.variables (message_place program.now)) }
@@ -224,7 +226,7 @@ fn start_piece(
 {
     let tree = program.program();
     let k = tree.values();
-    let place = further(12, k)?;
+    let place = further(12, k);
     let name = program.input().copy()?;
     let mut names = Vec::new(alloc);
     names.push(Known {

@@ -20,8 +20,9 @@ use crate::block_code::BlockCode;
 use crate::fields::Fields;
 use crate::program::StepProgram;
 use crate::room::Room;
-use round_lang::{Block, Message, NoMemory, Vars};
+use round_lang::{Block, Message, Vars};
 use round_meaning::Setup;
+use run_events::NoMemory;
 use std::alloc::Global;
 
 impl StepProgram {

@@ -7,9 +7,9 @@ use Rattle.std.proofs.lemmas.Bool.{cases_eq, cases_lt, ne_eqb}
 use Rattle.std.proofs.lemmas.List.{get_or-map, get_or_past, length-map}
 use Rattle.std.proofs.lemmas.List.Elements.{All-nil, All-push, All-append, All-same}
 use Rattle.round_meaning.specs.Rounds.{Algorithm, algorithm_of}
-use Rattle.step_machine.specs.declared.event.Event.{Event}
-use Rattle.step_machine.specs.declared.event.Event.TheVariants.{Step, Release, Drop, Copy}
-use Rattle.step_machine.specs.declared.event.Name.{Name}
+use Rattle.run_events.specs.declared.event.Event.{Event}
+use Rattle.run_events.specs.declared.event.Event.TheVariants.{Step, Release, Drop, Copy}
+use Rattle.run_events.specs.declared.name.Name.{Name}
 use Rattle.step_machine.specs.Sealed.{Frame, sent_under}
 use Rattle.step_book.specs.declared.mark.Mark.{Mark}
 use Rattle.step_book.specs.declared.mark.Mark.TheVariants.{Unsent, Silent, Flying, Released, Lost}

@@ -1,8 +1,9 @@
 -- What a book and its buffers are asked, part by part.
 use Rattle.std.specs.Prelude.{◌≡◌, ℕ, ◌-◌, ◌<◌, ◌≤◌, All, List, [], Option, None, IsSomeAnd, length}
 use Rattle.std.specs.Prelude.{slice_index_or}
-use Rattle.step_machine.specs.declared.event.Name.{Name}
-use Rattle.step_machine.specs.Sealed.{Frame, max_copy}
+use Rattle.run_events.specs.declared.name.Name.{Name}
+use Rattle.run_events.specs.Limits.{max_copy}
+use Rattle.step_machine.specs.Sealed.{Frame}
 use Rattle.step_book.specs.declared.mark.Mark.{Mark}
 use Rattle.step_book.specs.declared.mark.Mark.TheVariants.{Flying}
 use Rattle.step_book.specs.Agreement.{Row, row}

@@ -4,12 +4,13 @@ ghost use Rattle.step_book.specs.Log.{mark_in};
 ghost use Rattle.step_book.specs.Names.{IsName};
 ghost use Rattle.step_book.specs.Buffers.{flying_at};
 ghost use Rattle.step_journal.specs.Fits.{Fits, place_among};
-ghost use Rattle.step_machine.specs.Sealed.{max_copy};
+ghost use Rattle.run_events.specs.Limits.{max_copy};
 ghost use Rattle.step_journal.specs.Fitting.{AreNamed, FitsNode, FliesAs, HoldsAt, IsRecorded};
 
+use run_events::{MAX_COPY, Name};
 use slot_plans::Plan;
 use step_book::{Book, Buffer, StoredName, Waiting};
-use step_machine::{MAX_COPY, Name, SealedView};
+use step_machine::SealedView;
 
 /// Whether the buffers hold the frames that the book names.
 pub(crate) fn fits<P: Plan>(book: &Book<P>, buffers: &[Buffer]) -> bool
@@ -102,11 +103,10 @@ fn fly<P: Plan>(book: &Book<P>, buffer: &Buffer, node: u32) -> bool
 /// Whether the frames of one copy number are.
 fn flies_as<P: Plan>(book: &Book<P>, buffer: &Buffer, node: u32, copy: u32) -> bool
     requires node { node < book.now.log.setup.nodes }
-    requires copy { copy ≤ 3 }
+    requires copy { copy ≤ max_copy }
     ensures { IsTrue result ↔ FliesAs (P.start book.now.plan) book.now.log buffer.now node copy
         book.now.log.setup.rounds }
 {
-    book.agrees();
     let first = copy as usize * book.setup().nodes as usize;
     if !book.has_copies(copy) && buffer.is_free_from(first) {
         return true;

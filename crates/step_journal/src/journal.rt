@@ -3,7 +3,8 @@ ghost use Rattle.std.specs.Prelude.{◌≡◌, ◌<◌, ◌↔◌, All, IfErr, I
 ghost use Rattle.std.specs.Prelude.{OnErr, OnOk};
 ghost use Rattle.round_meaning.specs.Rounds.{algorithm_of};
 ghost use Rattle.round_meaning.specs.Setups.{IsLawful};
-ghost use Rattle.step_machine.specs.Sealed.{IsPrepared, original};
+ghost use Rattle.run_events.specs.Names.{original};
+ghost use Rattle.step_machine.specs.Sealed.{IsPrepared};
 ghost use Rattle.step_book.specs.Agreed.{IsSaid, JournalAgrees};
 ghost use Rattle.step_book.specs.Causes.{CloseCause, IdleCause, IsDueIn, EndsAsRecorded};
 ghost use Rattle.step_book.specs.Causes.{IsReceiveFit, IsSendFit, ReceiveCause, SendCause};
@@ -18,13 +19,13 @@ ghost use Rattle.step_journal.specs.HandedOut.{AreHandedOut};
 
 use crate::fitting::{fits, place};
 use round_check::Checked;
-use round_lang::NoMemory;
 use round_meaning::Setup;
+use run_events::{InFlight, Name, NoMemory};
 use slot_plans::Plan;
 use std::alloc::Global;
 use std::marker::Model;
 use step_book::{Book, Buffer, CloseFault, IdleFault, ReceiveFault, Refused, Waiting};
-use step_machine::{Finished, InFlight, Name, Prepared, Sealed, SealedView};
+use step_machine::{Finished, Prepared, Sealed, SealedView};
 
 /// What a receive handed out, in the order of the releases.
 #[derive(Drop)]
@@ -346,7 +347,8 @@ impl<P: Plan> Journal<P> {
             (CloseCause (P.start self.old.plan) self.old.log finished.now.node.now) }
     {
         self.book.agrees();
-        let _one = finished.node();
+        // Nothing at run time: what is known of the node.
+        let _node = finished.node();
         self.book.close(finished)?;
         Ok(())
     }
@@ -361,7 +363,8 @@ impl<P: Plan> Journal<P> {
         ensures err { OnErr result (self.new ≡ self.old) }
     {
         self.book.agrees();
-        let _one = finished.node();
+        // Nothing at run time: what is known of the node.
+        let _node = finished.node();
         let state = finished.stored_state()?;
         self.book.record_close(finished, state)?;
         Ok(())

@@ -12,7 +12,7 @@ use Rattle.frame_format.specs.Places.{copy_at, from_at, head_at, round_at, to_at
 use Rattle.frame_format.specs.Reading.{SpelledIsRead, frame_at}
 use Rattle.frame_format.specs.Spelling.{Spells}
 use Rattle.frame_views.specs.Writing.{AreToAll, first_copy, frame_size, nth_frame}
-use Rattle.step_machine.specs.declared.event.Name.{Name}
+use Rattle.run_events.specs.declared.name.Name.{Name}
 use Rattle.step_machine.specs.Sealed.{copied_as}
 use Rattle.step_machine.specs.Framing.{IsSealed, frame_in, name_in, wire, written_as}
 

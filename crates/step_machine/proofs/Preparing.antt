@@ -2,7 +2,7 @@
 use Rattle.std.proofs.Common.{◌≡◌, ℕ, List, Option, ap, refl, subst, sym, ◌∙◌}
 use Rattle.round_lang.specs.declared.value.Value.{Value}
 use Rattle.round_meaning.specs.Rounds.{algorithm_of}
-use Rattle.step_machine.specs.declared.event.Name.{Name}
+use Rattle.run_events.specs.declared.name.Name.{Name}
 use Rattle.step_machine.specs.declared.node.Node.TheInside.{Inside}
 use Rattle.step_machine.specs.declared.spoken.Spoken.{Spoken}
 use Rattle.step_machine.specs.Nodes.{NodeView, algorithm_in, sent_to}

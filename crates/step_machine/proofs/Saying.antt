@@ -28,7 +28,7 @@ use Rattle.frame_format.specs.Formats.{Format, IsFormat, position}
 use Rattle.frame_format.specs.Reading.{SpelledIsRead}
 use Rattle.frame_format.specs.Spelling.{Spells}
 use Rattle.frame_views.specs.Writing.{frame_size, nth_frame}
-use Rattle.step_machine.specs.declared.event.Name.{Name}
+use Rattle.run_events.specs.declared.name.Name.{Name}
 use Rattle.step_machine.specs.declared.origin.Origin.{Origin}
 use Rattle.step_machine.specs.declared.said.Said.{Said}
 use Rattle.step_machine.specs.Sealed.{Frame, copied_as}

@@ -6,7 +6,7 @@ use Rattle.frame_format.specs.declared.version.FrameVersion.TheVariants.{V2}
 use Rattle.frame_format.specs.Formats.{Format}
 use Rattle.frame_format.specs.Reading.{IsFrame, frame_at}
 use Rattle.frame_format.specs.Spelling.{Spells}
-use Rattle.step_machine.specs.declared.event.Name.{Name}
+use Rattle.run_events.specs.declared.name.Name.{Name}
 use Rattle.step_machine.specs.Sealed.{Frame}
 
 -- a message under its name, as it is written: in version 2

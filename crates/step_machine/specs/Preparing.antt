@@ -1,7 +1,7 @@
 -- What a node has ready for a send slot.
 use Rattle.std.specs.Prelude.{◌≡◌, ⊤, Some, None}
 use Rattle.std.specs.Arc.{arc_value}
-use Rattle.step_machine.specs.declared.event.Name.{Name}
+use Rattle.run_events.specs.declared.name.Name.{Name}
 use Rattle.step_machine.specs.declared.prepared.Sending.{Sending}
 use Rattle.step_machine.specs.declared.prepared.Sending.TheVariants.{Message, Silence}
 use Rattle.step_machine.specs.Sealed.{Ready}

@@ -5,15 +5,7 @@ use Rattle.round_lang.specs.Syntax.{ProgramTree}
 use Rattle.round_meaning.specs.declared.setup.Setup.{Setup}
 use Rattle.round_meaning.specs.Rounds.{Algorithm, algorithm_of}
 use Rattle.round_meaning.specs.Typed.{EndsAreStates, IsStateOf, SendsAreMessages, StartsAreStates}
-use Rattle.step_machine.specs.declared.event.Name.{Name}
-
--- the message's copy 0
-abbrev pub original : Name → Name
-original n = record n { copy = 0 }
-
--- the greatest number of a copy
-abbrev pub max_copy : ℕ
-max_copy = 3
+use Rattle.run_events.specs.declared.name.Name.{Name}
 
 -- a message under its name, with its sender's state
 pub record Frame : Type 0 where

@@ -4,7 +4,7 @@ ghost use Rattle.std.specs.Prelude.{replicate, slice_set};
 ghost use Rattle.step_machine.specs.Sealed.{held_at};
 
 use crate::sealed::Sealed;
-use round_lang::NoMemory;
+use run_events::NoMemory;
 use std::alloc::Global;
 use std::marker::Model;
 

@@ -15,7 +15,6 @@ ghost use Rattle.frame_format.specs.Spelling.{AreOf};
 
 mod finished;
 
-use crate::event::Name;
 use crate::held::Held;
 use crate::machine::{Machine, keeps_types};
 use crate::origin::Origin;
@@ -25,8 +24,9 @@ use crate::spoken::Spoken;
 pub use finished::Finished;
 use frame_format::Layout;
 use round_check::Checked;
-use round_lang::{Message, NoMemory, Vars};
+use round_lang::{Message, Vars};
 use round_meaning::{Setup, is_broadcast};
+use run_events::{Name, NoMemory};
 use std::alloc::Global;
 use std::marker::Model;
 use std::mem;

@@ -2,14 +2,15 @@
 ghost use Rattle.std.specs.Arc.{arc_value};
 ghost use Rattle.std.specs.Option.{ForSome};
 ghost use Rattle.std.specs.Prelude.{◌≡◌, ◌↔◌, ◌<◌, ◌≤◌, IfOk, IsTrue, None, Some};
+ghost use Rattle.run_events.specs.Limits.{max_rounds};
 ghost use Rattle.frame_format.specs.Formats.{kinds_at};
 ghost use Rattle.frame_format.specs.Spelling.{AreOf};
 ghost use Rattle.step_machine.specs.Saying.{layout_in};
 
-use crate::event::Name;
 use crate::origin::Origin;
 use crate::sealed::Sealed;
-use round_lang::{Message, NoMemory, Vars};
+use round_lang::{Message, Vars};
+use run_events::{Name, NoMemory};
 use std::marker::Model;
 use std::sync::Arc;
 
@@ -51,7 +52,7 @@ impl Prepared {
         requires from { name.from < (layout_in (arc_value origin)).nodes }
         requires to { name.to < (layout_in (arc_value origin)).nodes }
         requires first { 1 ≤ name.round }
-        requires last { name.round ≤ 4096 }
+        requires last { name.round ≤ max_rounds }
         requires original { name.copy ≡ 0 }
         requires kinds { ForSome message (AreOf (layout_in (arc_value origin)).values
             (kinds_at (layout_in (arc_value origin)) name.round)) }

@@ -1,13 +1,15 @@
 //! What nodes say.
 ghost use Rattle.std.specs.Prelude.{◌≡◌, ◌<◌, ◌≤◌, IfOk, Some};
 ghost use Rattle.std.specs.Arc.{arc_value};
+ghost use Rattle.run_events.specs.Limits.{max_rounds};
 ghost use Rattle.frame_format.specs.Formats.{kinds_at};
 ghost use Rattle.frame_format.specs.Spelling.{AreOf};
 ghost use Rattle.step_machine.specs.Saying.{bytes_from, layout_in, IsFrameFrom, IsToAll};
 
 use crate::origin::Origin;
 use frame_views::write_to_all;
-use round_lang::{Message, NoMemory};
+use round_lang::Message;
+use run_events::NoMemory;
 use std::sync::Arc;
 
 /// What a node says in a round, in one piece of memory: the frames of a message, each of `size`
@@ -29,7 +31,7 @@ impl Said {
     ) -> Result<Said, NoMemory>
         requires from { from < (layout_in (arc_value origin)).nodes }
         requires first { 1 ≤ round }
-        requires last { round ≤ 4096 }
+        requires last { round ≤ max_rounds }
         requires kinds { AreOf (layout_in (arc_value origin)).values
             (kinds_at (layout_in (arc_value origin)) round) message.now }
         ensures origin { IfOk result (λ said. arc_value said.origin ≡ arc_value origin) }

@@ -4,17 +4,17 @@ ghost use Rattle.std.specs.Prelude.{◌≡◌, ◌<◌, ◌≤◌, IfOk, map};
 ghost use Rattle.round_lang.specs.Words.{kind_of};
 ghost use Rattle.frame_format.specs.Formats.{kinds_at};
 ghost use Rattle.frame_format.specs.Spelling.{AreOf};
-ghost use Rattle.step_machine.specs.Sealed.{max_copy};
+ghost use Rattle.run_events.specs.Limits.{max_copy, max_rounds};
 ghost use Rattle.step_machine.specs.Framing.{frame_in, wire, IsSealed, IsSpelling};
 ghost use Rattle.step_machine.specs.Saying.{frame_from, layout_in, IsFrameFrom};
 
-use crate::event::Name;
 use crate::origin::Origin;
 use crate::said::Said;
 use crate::sealed_view::SealedView;
 use frame_format::{FrameVersion, spelled_is_read};
 use frame_views::{FieldsView, FrameView, write_frame};
-use round_lang::{Kind, Message, NoMemory, Vars};
+use round_lang::{Kind, Message, Vars};
+use run_events::{Name, NoMemory};
 use std::marker::Model;
 use std::sync::Arc;
 
@@ -61,7 +61,7 @@ impl Sealed {
         requires from { name.from < (layout_in (arc_value origin)).nodes }
         requires to { name.to < (layout_in (arc_value origin)).nodes }
         requires first { 1 ≤ name.round }
-        requires last { name.round ≤ 4096 }
+        requires last { name.round ≤ max_rounds }
         requires copy { name.copy ≤ max_copy }
         requires kinds { AreOf (layout_in (arc_value origin)).values
             (kinds_at (layout_in (arc_value origin)) name.round) message.now }

@@ -2,14 +2,15 @@
 ghost use Rattle.std.specs.Prelude.{◌≡◌, ◌≤◌, IfOk};
 ghost use Rattle.step_machine.specs.Framing.{wire};
 ghost use Rattle.step_machine.specs.Saying.{frame_from, IsFrameFrom};
-ghost use Rattle.step_machine.specs.Sealed.{copied_as, max_copy};
+ghost use Rattle.run_events.specs.Limits.{max_copy};
+ghost use Rattle.step_machine.specs.Sealed.{copied_as};
 
-use crate::event::Name;
 use crate::said::Said;
 use crate::sealed::{Sealed, alone};
 use frame_format::{copy_of, from_of, round_of, spelled_is_read, to_of};
 use frame_views::{FrameView, write_copy};
-use round_lang::{NoMemory, Vars};
+use round_lang::Vars;
+use run_events::{Name, NoMemory};
 use std::marker::Model;
 use std::sync::Arc;
 

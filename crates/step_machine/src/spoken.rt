@@ -2,18 +2,19 @@
 ghost use Rattle.std.specs.Arc.{arc_value};
 ghost use Rattle.std.specs.Option.{ForSome};
 ghost use Rattle.std.specs.Prelude.{◌≡◌, ◌<◌, ◌≤◌, IfOk, List, Option};
+ghost use Rattle.run_events.specs.Limits.{max_rounds};
 ghost use Rattle.round_lang.specs.declared.value.Value.{Value};
 ghost use Rattle.frame_format.specs.Formats.{kinds_at};
 ghost use Rattle.frame_format.specs.Spelling.{AreOf};
 ghost use Rattle.step_machine.specs.Saying.{layout_in, origin_of, AreSpoken};
 
-use crate::event::Name;
 use crate::origin::Origin;
 use crate::prepared::Prepared;
 use crate::said::Said;
 use crate::sealed::Sealed;
 use frame_format::spelled_is_read;
-use round_lang::{Message, NoMemory};
+use round_lang::Message;
+use run_events::{Name, NoMemory};
 use std::sync::Arc;
 
 /// What a node says to all in a round: the frames of its message to each node, or silence.
@@ -32,7 +33,7 @@ impl Spoken {
     ) -> Result<Spoken, NoMemory>
         requires from { from < (layout_in (arc_value origin)).nodes }
         requires first { 1 ≤ round }
-        requires last { round ≤ 4096 }
+        requires last { round ≤ max_rounds }
         requires kinds { ForSome message (AreOf (layout_in (arc_value origin)).values
             (kinds_at (layout_in (arc_value origin)) round)) }
         ensures origin { IfOk result (λ spoken. origin_of spoken ≡ arc_value origin) }

@@ -5,7 +5,8 @@ ghost use Rattle.round_lang.specs.Words.{kind_of};
 
 use crate::state_reader::StateReader;
 use crate::word_bytes::{BYTES, are_words, spell_the_same, spelled, words_of};
-use round_lang::{NoMemory, Shape, ValueSet, Vars};
+use round_lang::{Shape, ValueSet, Vars};
+use run_events::NoMemory;
 use smallvec::SmallVec;
 use std::alloc::Global;
 use std::marker::Model;

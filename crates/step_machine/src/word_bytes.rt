@@ -3,7 +3,7 @@ ghost use Rattle.std.specs.Prelude.{◌≡◌, ◌↔◌, ℕ, List, ◌∷◌, 
 ghost use Rattle.std.specs.Prelude.{IfSome, IsNone, drop, option_to_list, slice_index};
 ghost use Rattle.step_machine.specs.StoredStates.{words_from, words_in, IsWhole};
 
-use round_lang::NoMemory;
+use run_events::NoMemory;
 use smallvec::SmallVec;
 use std::alloc::Global;
 

@@ -7,6 +7,7 @@ ghost use Rattle.test_kit.specs.declared.fault.Fault.TheVariants.{Unreadable};
 use crate::fault::Fault;
 use crate::reading::{comma_numbers, number};
 use round_meaning::{Inputs, NodeSet, Setup};
+use run_events::MAX_NODES;
 use std::alloc::Global;
 
 /// The set of these nodes, without those past 63.
@@ -20,7 +21,7 @@ pub fn nodes(members: &[u32]) -> NodeSet
     set
 }
 
-/// A setup without faults, of as many nodes as there are inputs, but at most 16.
+/// A setup without faults, of as many nodes as there are inputs, but at most `MAX_NODES`.
 pub fn setup(alloc: Global, inputs: &str, rounds: &str) -> Result<Setup, Fault>
     ensures ok { IfOk result (IsFaultless inputs.now rounds.now) }
     ensures unreadable { result ≡ Err Unreadable
@@ -28,7 +29,7 @@ pub fn setup(alloc: Global, inputs: &str, rounds: &str) -> Result<Setup, Fault>
 {
     let inputs = comma_numbers(alloc, inputs)?;
     Ok(Setup {
-        nodes: inputs.len().min(16) as u32,
+        nodes: inputs.len().min(MAX_NODES as usize) as u32,
         faults: 0,
         inputs: Inputs::new(inputs),
         rounds: number(rounds)?,

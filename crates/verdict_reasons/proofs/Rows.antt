@@ -3,7 +3,7 @@ use Rattle.std.proofs.Common.{◌≡◌, ℕ, zero, suc, ◌<◌, List, [], ◌�
 use Rattle.std.proofs.Common.{subst, arith}
 use Rattle.std.proofs.lemmas.Option.{same_Some}
 use Rattle.round_lang.specs.Sets.{is_in}
-use Rattle.step_machine.specs.declared.event.Event.TheVariants.{Step}
+use Rattle.run_events.specs.declared.event.Event.TheVariants.{Step}
 use Rattle.omission_explainer.specs.Rows.{ClosedRound}
 use Rattle.slot_plans.specs.Known.{known_start}
 use Rattle.verdict_reasons.specs.Clearness.{HasClearRound, IsUnclear}

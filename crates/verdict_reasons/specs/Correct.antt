@@ -3,8 +3,8 @@ use Rattle.std.specs.Prelude.{◌≡◌, ℕ, true, false, List, length, slice_i
 use Rattle.round_lang.specs.Sets.{is_in}
 use Rattle.step_book.specs.Places.{steps_before}
 use Rattle.step_book.specs.Trace.{is_step}
-use Rattle.step_machine.specs.declared.event.Event.{Event}
-use Rattle.step_machine.specs.declared.event.Event.TheVariants.{Step}
+use Rattle.run_events.specs.declared.event.Event.{Event}
+use Rattle.run_events.specs.declared.event.Event.TheVariants.{Step}
 
 -- the event is a step of this node, which is correct
 pub record IsStepOf (correct : ℕ) (e : Event) (node : ℕ) : Type 0 where

@@ -2,7 +2,7 @@
 use Rattle.std.specs.Prelude.{◌≡◌, ℕ, ◌<◌, ◌≤◌, true, List, slice_index}
 use Rattle.round_lang.specs.Sets.{is_in}
 use Rattle.step_book.specs.Places.{IsStepAt, steps_before}
-use Rattle.step_machine.specs.declared.event.Event.{Event}
+use Rattle.run_events.specs.declared.event.Event.{Event}
 use Rattle.verdict_reasons.specs.declared.pace.PaceBreak.{PaceBreak}
 
 -- a correct node takes its step number `step` at this place, and another has taken fewer steps

@@ -1,7 +1,7 @@
 //! The receive by which a run breaks the bound on the delay.
 ghost use Rattle.std.specs.Prelude.{◌≡◌, MatchOption, Some, slice_get, true};
 ghost use Rattle.round_lang.specs.Sets.{is_in};
-ghost use Rattle.step_machine.specs.declared.event.Event.TheVariants.{Step};
+ghost use Rattle.run_events.specs.declared.event.Event.TheVariants.{Step};
 ghost use Rattle.step_book.specs.Log.{count_of, history, world_of};
 ghost use Rattle.step_book.specs.Names.{IsName};
 ghost use Rattle.omission_explainer.specs.Lateness.{HasReceive, KeepsBound, marks_of, open_until};
@@ -14,9 +14,9 @@ use crate::correct::{COUNTS, correct_step};
 use omission_explainer::open_until;
 use omission_reasons::{TraceIndex, first_receive};
 use round_meaning::NodeSet;
+use run_events::Name;
 use slot_plans::Plan;
 use step_book::Book;
-use step_machine::Name;
 
 /// A receive that should have had a message. The sender sends it at the place `sent` of the trace,
 /// by its step number `sent_step`. The receiver takes its step number `received_step`, a receive,

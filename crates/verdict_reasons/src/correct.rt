@@ -4,8 +4,7 @@ ghost use Rattle.omission_explainer.specs.Verdict.{AreNodes};
 ghost use Rattle.verdict_reasons.specs.Correct.{IsOtherEvent, IsStepOf};
 
 use round_meaning::NodeSet;
-use slot_plans::MAX_NODES;
-use step_machine::Event;
+use run_events::{Event, MAX_NODES};
 
 /// For how many nodes step counts are kept: a run has no more.
 pub(crate) const COUNTS: usize = MAX_NODES as usize;

@@ -1,12 +1,14 @@
 //! The step by which a run breaks lockstep.
 ghost use Rattle.std.specs.Prelude.{◌≡◌, ◌<◌, MatchOption, length};
+ghost use Rattle.run_events.specs.Limits.{max_nodes};
 ghost use Rattle.omission_explainer.specs.Lateness.{KeepsPace};
 ghost use Rattle.omission_explainer.specs.Verdict.{AreNodes, IsLockstep};
 ghost use Rattle.verdict_reasons.specs.Pace.{IsFirstBehind, IsFirstPaceBreak};
 
 use crate::correct::{COUNTS, correct_step};
 use round_meaning::NodeSet;
-use slot_plans::{MAX_NODES, Plan};
+use run_events::MAX_NODES;
+use slot_plans::Plan;
 use step_book::Book;
 
 /// A step that a correct node takes ahead of another: at a place in the trace, counted from 0, the
@@ -54,8 +56,8 @@ pub fn pace_break<P: Plan>(book: &Book<P>, correct: NodeSet) -> Option<PaceBreak
 
 /// The least of the correct nodes that have taken fewer steps than this one.
 fn node_behind(correct: NodeSet, counts: &[u64], node: u32) -> Option<u32>
-    requires sized { length counts.now ≡ 16 }
-    requires node { node < 16 }
+    requires sized { length counts.now ≡ max_nodes }
+    requires node { node < max_nodes }
     requires within { AreNodes 16 correct.bits }
     ensures { MatchOption result
         (KeepsPace correct.bits counts.now node)

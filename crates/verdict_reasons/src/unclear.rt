@@ -2,7 +2,8 @@
 ghost use Rattle.std.specs.Prelude.{MatchOption};
 ghost use Rattle.verdict_reasons.specs.Clearness.{HasClearRound, IsUnclear};
 
-use slot_plans::{MAX_ROUNDS, Plan};
+use run_events::MAX_ROUNDS;
+use slot_plans::Plan;
 
 /// Why no round is clear.
 #[derive(Clone, Copy, PartialEq, Eq, Debug)]

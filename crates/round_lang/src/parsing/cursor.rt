@@ -1,5 +1,5 @@
 //! What comes next among the tokens.
-ghost use Rattle.std.specs.Prelude.{◌≡◌, ◌≤◌, IfOk, length, option_map};
+ghost use Rattle.std.specs.Prelude.{◌≡◌, ◌≤◌, IfOk, IfSome, length, option_map};
 ghost use Rattle.round_lang.specs.CodeTokens.{lexemes};
 ghost use Rattle.round_lang.specs.Outcome.{Gives, left_of, name_found, operator_found, rest_of};
 ghost use Rattle.round_lang.specs.Reading as reading;
@@ -27,7 +27,8 @@ pub(crate) fn span_at(end: usize, tokens: &[Token<'_>]) -> Span {
 /// The tokens after this mark, if it comes next.
 #[tactic(auto, unfolding(crate::specs::Reading::after))]
 pub(crate) fn after<'t, 'a>(mark: Mark, tokens: &'t [Token<'a>]) -> Option<&'t [Token<'a>]>
-    ensures { option_map rest_of result ≡ reading.after mark (lexemes tokens.now) }
+    ensures after { option_map rest_of result ≡ reading.after mark (lexemes tokens.now) }
+    ensures fewer { IfSome result (λ rest. length rest.now ≤ length tokens.now) }
 {
     match tokens {
         [first, rest @ ..] => match first.word {
@@ -50,7 +51,8 @@ pub(crate) fn expect<'t, 'a>(
     mark: Mark,
     tokens: &'t [Token<'a>],
 ) -> Result<&'t [Token<'a>], Fault>
-    ensures { Gives rest_of result (reading.after mark (lexemes tokens.now)) }
+    ensures gives { Gives rest_of result (reading.after mark (lexemes tokens.now)) }
+    ensures fewer { IfOk result (λ rest. length rest.now ≤ length tokens.now) }
 {
     match after(mark, tokens) {
         Some(rest) => Ok(rest),
@@ -64,7 +66,8 @@ pub(crate) fn expect_equal<'t, 'a>(
     end: usize,
     tokens: &'t [Token<'a>],
 ) -> Result<&'t [Token<'a>], Fault>
-    ensures { Gives rest_of result (reading.after_equal (lexemes tokens.now)) }
+    ensures gives { Gives rest_of result (reading.after_equal (lexemes tokens.now)) }
+    ensures fewer { IfOk result (λ rest. length rest.now ≤ length tokens.now) }
 {
     match tokens {
         [first, rest @ ..] => match first.word {
@@ -82,6 +85,7 @@ pub(crate) fn name_at<'t, 'a>(
     tokens: &'t [Token<'a>],
 ) -> Result<(Name<'a>, &'t [Token<'a>]), Fault>
     ensures gives { Gives name_found result (reading.name_at (lexemes tokens.now)) }
+    ensures fewer { IfOk result (λ x. length x.1.now ≤ length tokens.now) }
     ensures short { IfOk result (λ x. length x.0.text.now ≤ MAX_NAME) }
 {
     match tokens {
@@ -105,7 +109,8 @@ pub(crate) fn type_at<'t, 'a>(
     end: usize,
     tokens: &'t [Token<'a>],
 ) -> Result<(Ty, &'t [Token<'a>]), Fault>
-    ensures { Gives left_of result (reading.type_at (lexemes tokens.now)) }
+    ensures gives { Gives left_of result (reading.type_at (lexemes tokens.now)) }
+    ensures fewer { IfOk result (λ x. length x.1.now ≤ length tokens.now) }
 {
     match tokens {
         [first, rest @ ..] => match first.word {
@@ -152,7 +157,8 @@ pub(crate) fn number_at<'t, 'a>(
 ) -> Result<(u32, &'t [Token<'a>]), Fault>
     requires first { least ≤ MAX_NUMBER }
     requires last { most ≤ MAX_NUMBER }
-    ensures { Gives left_of result (reading.number_at least most (lexemes tokens.now)) }
+    ensures gives { Gives left_of result (reading.number_at least most (lexemes tokens.now)) }
+    ensures fewer { IfOk result (λ x. length x.1.now ≤ length tokens.now) }
 {
     match tokens {
         [first, rest @ ..] => match first.word {

@@ -1,6 +1,7 @@
 //! Expressions, by recursive descent with one token of lookahead.
 ghost use Rattle.std.specs.Prelude.{◌≡◌, ◌<◌, ◌≤◌, suc, IfOk, length};
 ghost use Rattle.round_lang.specs.CodeTokens.{lexemes};
+ghost use Rattle.round_lang.specs.Limits.{max_text};
 ghost use Rattle.round_lang.specs.Outcome.{Gives, IsChainLevel, expr_found, left_of};
 ghost use Rattle.round_lang.specs.Reading as reading;
 ghost use Rattle.round_lang.specs.Tree.{TRowOf, TSetOf, tree_of};
@@ -10,12 +11,12 @@ use crate::expr::{BinaryOperator, Expr, UnaryOperator};
 use crate::formula::Formula;
 use crate::identifier::Identifier;
 use crate::limits::{MAX_NAME, MAX_NESTING, MAX_NUMBER};
-use crate::memory::NoMemory;
 use crate::name::Name;
 use crate::parsing::cursor::{after, expect, name_at, number_at, operator_at, span_at};
 use crate::parsing::fault::Fault;
 use crate::parsing::level::{Level, tighter};
 use crate::token::{Mark, Token, Word};
+use run_events::NoMemory;
 use std::alloc::Global;
 
 /// What a parser carries along: its allocator, and the length of the text.
@@ -336,13 +337,15 @@ fn row_of<'t, 'a>(parser: Parser, inner: usize, tokens: &'t [Token<'a>]) -> Nest
     Ok((tree, depth + 1, rest))
 }
 
-/// A whole expression that nests within the limit.
+/// A whole expression that nests within the limit. It has no more words than there are tokens.
 #[tactic(auto, unfolding(crate::specs::Reading::formula))]
 pub fn formula<'t, 'a>(
     parser: Parser,
     tokens: &'t [Token<'a>],
 ) -> Result<(Formula, &'t [Token<'a>]), Fault>
-    ensures { Gives left_of result (reading.formula (lexemes tokens.now)) }
+    requires { length tokens.now ≤ max_text }
+    ensures gives { Gives left_of result (reading.formula (lexemes tokens.now)) }
+    ensures fewer { IfOk result (λ x. length x.1.now ≤ length tokens.now) }
 {
     let (expr, _, rest) = read(parser, MAX_NESTING, Level::Whole, tokens)?;
     Ok((Formula::known(expr), rest))

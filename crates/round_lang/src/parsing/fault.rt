@@ -1,7 +1,7 @@
 //! Why tokens are no program.
 
 use crate::fault::Span;
-use crate::memory::NoMemory;
+use run_events::NoMemory;
 use std::alloc::{AllocError, AllocFailed};
 
 /// Why tokens are no program, or no part of one.

@@ -1,6 +1,7 @@
 //! The parts of a program: declarations, blocks and assignments.
 ghost use Rattle.std.specs.Prelude.{◌≡◌, ◌≤◌, ◌++◌, [], ◌∷◌, IfOk, length, vec_len};
 ghost use Rattle.round_lang.specs.CodeTokens.{lexemes};
+ghost use Rattle.round_lang.specs.Limits.{max_text};
 ghost use Rattle.round_lang.specs.Outcome.{Gives, name_found, left_of, list_found, head_found};
 ghost use Rattle.round_lang.specs.Outcome.{sending_found, declared_found};
 ghost use Rattle.round_lang.specs.Parts as parts;
@@ -11,7 +12,6 @@ use crate::expr::Ty;
 use crate::formula::Formula;
 use crate::identifier::Identifier;
 use crate::limits::{MAX_FIELDS, MAX_NAME, MAX_NUMBER, MAX_VARIABLES};
-use crate::memory::NoMemory;
 use crate::name::Name;
 use crate::parsing::cursor::{
     after, begins_name, begins_with, expect, expect_equal, name_at, number_at, span_at, type_at,
@@ -20,6 +20,7 @@ use crate::parsing::expression::{Parser, formula, identifier};
 use crate::parsing::fault::Fault;
 use crate::program::{Variable, VariableKind};
 use crate::token::{Mark, Token, Word};
+use run_events::NoMemory;
 use std::alloc::Global;
 
 /// What a declaration declares.
@@ -46,6 +47,7 @@ fn counted_name<'t, 'a>(
     tokens: &'t [Token<'a>],
 ) -> Result<(Name<'a>, &'t [Token<'a>]), Fault>
     ensures gives { Gives name_found result (parts.counted_name count most (lexemes tokens.now)) }
+    ensures fewer { IfOk result (λ x. length x.1.now ≤ length tokens.now) }
     ensures short { IfOk result (λ x. length x.0.text.now ≤ MAX_NAME) }
 {
     let (name, rest) = name_at(end, tokens)?;
@@ -63,7 +65,9 @@ fn state<'t, 'a>(
     count: usize,
     tokens: &'t [Token<'a>],
 ) -> Result<(Declaration, &'t [Token<'a>]), Fault>
-    ensures { Gives left_of result (parts.state count (lexemes tokens.now)) }
+    requires { length tokens.now ≤ max_text }
+    ensures gives { Gives left_of result (parts.state count (lexemes tokens.now)) }
+    ensures fewer { IfOk result (λ x. length x.1.now ≤ length tokens.now) }
 {
     let (name, rest) = counted_name(parser.end, count, MAX_VARIABLES, tokens)?;
     let rest = expect(parser.end, Mark::Colon, rest)?;
@@ -81,7 +85,8 @@ fn input<'t, 'a>(
     count: usize,
     tokens: &'t [Token<'a>],
 ) -> Result<(Declaration, &'t [Token<'a>]), Fault>
-    ensures { Gives left_of result (parts.input count (lexemes tokens.now)) }
+    ensures gives { Gives left_of result (parts.input count (lexemes tokens.now)) }
+    ensures fewer { IfOk result (λ x. length x.1.now ≤ length tokens.now) }
 {
     let (name, rest) = counted_name(parser.end, count, MAX_VARIABLES, tokens)?;
     let name = identifier(parser.alloc, name)?;
@@ -94,7 +99,8 @@ fn decide<'t, 'a>(
     parser: Parser,
     tokens: &'t [Token<'a>],
 ) -> Result<(Declaration, &'t [Token<'a>]), Fault>
-    ensures { Gives left_of result (parts.decide (lexemes tokens.now)) }
+    ensures gives { Gives left_of result (parts.decide (lexemes tokens.now)) }
+    ensures fewer { IfOk result (λ x. length x.1.now ≤ length tokens.now) }
 {
     let (name, rest) = name_at(parser.end, tokens)?;
     Ok((Declaration::Decide(identifier(parser.alloc, name)?), rest))
@@ -121,7 +127,9 @@ fn read_declaration<'t, 'a>(
     count: usize,
     tokens: &'t [Token<'a>],
 ) -> Result<(Declaration, &'t [Token<'a>]), Fault>
-    ensures { Gives left_of result (parts.declaration count (lexemes tokens.now)) }
+    requires { length tokens.now ≤ max_text }
+    ensures gives { Gives left_of result (parts.declaration count (lexemes tokens.now)) }
+    ensures fewer { IfOk result (λ x. length x.1.now ≤ length tokens.now) }
 {
     match tokens {
         [first, rest @ ..] => match first.word {
@@ -160,7 +168,9 @@ pub(crate) fn declarations<'t, 'a>(
     parser: Parser,
     tokens: &'t [Token<'a>],
 ) -> Result<(Declared, &'t [Token<'a>]), Fault>
+    requires { length tokens.now ≤ max_text }
     ensures gives { Gives declared_found result (parts.declared (lexemes tokens.now)) }
+    ensures fewer { IfOk result (λ x. length x.1.now ≤ length tokens.now) }
     ensures few { IfOk result (λ x. vec_len x.0.variables ≤ MAX_VARIABLES) }
 {
     let (variables, mut rest) = no_items(parser.alloc, tokens);
@@ -179,7 +189,9 @@ fn assignment<'t, 'a>(
     parser: Parser,
     tokens: &'t [Token<'a>],
 ) -> Result<(Assignment, &'t [Token<'a>]), Fault>
-    ensures { Gives left_of result (parts.assignment (lexemes tokens.now)) }
+    requires { length tokens.now ≤ max_text }
+    ensures gives { Gives left_of result (parts.assignment (lexemes tokens.now)) }
+    ensures fewer { IfOk result (λ x. length x.1.now ≤ length tokens.now) }
 {
     let (name, rest) = name_at(parser.end, tokens)?;
     let rest = expect(parser.end, Mark::Assign, rest)?;
@@ -193,7 +205,9 @@ fn assignments<'t, 'a>(
     parser: Parser,
     tokens: &'t [Token<'a>],
 ) -> Result<(Vec<Assignment>, &'t [Token<'a>]), Fault>
-    ensures { Gives list_found result (parts.assignments (lexemes tokens.now)) }
+    requires { length tokens.now ≤ max_text }
+    ensures gives { Gives list_found result (parts.assignments (lexemes tokens.now)) }
+    ensures fewer { IfOk result (λ x. length x.1.now ≤ length tokens.now) }
 {
     let (mut assignments, mut rest) = no_items(parser.alloc, tokens);
     while begins_name(rest) {
@@ -211,7 +225,8 @@ fn field<'t, 'a>(
     count: usize,
     tokens: &'t [Token<'a>],
 ) -> Result<(Field, &'t [Token<'a>]), Fault>
-    ensures { Gives left_of result (parts.field count (lexemes tokens.now)) }
+    ensures gives { Gives left_of result (parts.field count (lexemes tokens.now)) }
+    ensures fewer { IfOk result (λ x. length x.1.now ≤ length tokens.now) }
 {
     let (name, rest) = counted_name(parser.end, count, MAX_FIELDS, tokens)?;
     let rest = expect(parser.end, Mark::Colon, rest)?;
@@ -226,6 +241,7 @@ fn fields<'t, 'a>(
     tokens: &'t [Token<'a>],
 ) -> Result<(Vec<Field>, &'t [Token<'a>]), Fault>
     ensures gives { Gives list_found result (parts.fields (lexemes tokens.now)) }
+    ensures fewer { IfOk result (λ x. length x.1.now ≤ length tokens.now) }
     ensures few { IfOk result (λ x. vec_len x.0 ≤ MAX_FIELDS) }
 {
     let mut fields = Vec::new(parser.alloc);
@@ -247,7 +263,9 @@ fn sent<'t, 'a>(
     parser: Parser,
     tokens: &'t [Token<'a>],
 ) -> Result<(Vec<Formula>, &'t [Token<'a>]), Fault>
-    ensures { Gives list_found result (parts.sent (lexemes tokens.now)) }
+    requires { length tokens.now ≤ max_text }
+    ensures gives { Gives list_found result (parts.sent (lexemes tokens.now)) }
+    ensures fewer { IfOk result (λ x. length x.1.now ≤ length tokens.now) }
 {
     let mut sent = Vec::new(parser.alloc);
     if begins_with(Mark::Close, tokens) {
@@ -270,6 +288,7 @@ fn head<'t, 'a>(
     tokens: &'t [Token<'a>],
 ) -> Result<(u32, Vec<Field>, &'t [Token<'a>]), Fault>
     ensures gives { Gives head_found result (parts.head (lexemes tokens.now)) }
+    ensures fewer { IfOk result (λ x. length x.2.now ≤ length tokens.now) }
     ensures few { IfOk result (λ x. vec_len x.1 ≤ MAX_FIELDS) }
 {
     let (number, rest) = number_at(parser.end, 0, MAX_NUMBER, tokens)?;
@@ -287,7 +306,9 @@ fn sending<'t, 'a>(
     parser: Parser,
     tokens: &'t [Token<'a>],
 ) -> Result<(Formula, Vec<Formula>, &'t [Token<'a>]), Fault>
-    ensures { Gives sending_found result (parts.sending (lexemes tokens.now)) }
+    requires { length tokens.now ≤ max_text }
+    ensures gives { Gives sending_found result (parts.sending (lexemes tokens.now)) }
+    ensures fewer { IfOk result (λ x. length x.2.now ≤ length tokens.now) }
 {
     let rest = expect(parser.end, Mark::Send, tokens)?;
     let rest = expect(parser.end, Mark::When, rest)?;
@@ -305,7 +326,9 @@ fn on_message<'t, 'a>(
     parser: Parser,
     tokens: &'t [Token<'a>],
 ) -> Result<(Vec<Assignment>, &'t [Token<'a>]), Fault>
-    ensures { Gives list_found result (parts.on_message (lexemes tokens.now)) }
+    requires { length tokens.now ≤ max_text }
+    ensures gives { Gives list_found result (parts.on_message (lexemes tokens.now)) }
+    ensures fewer { IfOk result (λ x. length x.1.now ≤ length tokens.now) }
 {
     let rest = expect(parser.end, Mark::On, tokens)?;
     let rest = expect(parser.end, Mark::Message, rest)?;
@@ -319,7 +342,9 @@ fn end<'t, 'a>(
     parser: Parser,
     tokens: &'t [Token<'a>],
 ) -> Result<(Vec<Assignment>, &'t [Token<'a>]), Fault>
-    ensures { Gives list_found result (parts.ending (lexemes tokens.now)) }
+    requires { length tokens.now ≤ max_text }
+    ensures gives { Gives list_found result (parts.ending (lexemes tokens.now)) }
+    ensures fewer { IfOk result (λ x. length x.1.now ≤ length tokens.now) }
 {
     let rest = expect(parser.end, Mark::End, tokens)?;
     let rest = expect(parser.end, Mark::Colon, rest)?;
@@ -329,7 +354,9 @@ fn end<'t, 'a>(
 /// A block behind its `at`.
 #[tactic(auto, unfolding(crate::specs::Parts::block))]
 fn block<'t, 'a>(parser: Parser, tokens: &'t [Token<'a>]) -> Result<(Block, &'t [Token<'a>]), Fault>
-    ensures { Gives left_of result (parts.block (lexemes tokens.now)) }
+    requires { length tokens.now ≤ max_text }
+    ensures gives { Gives left_of result (parts.block (lexemes tokens.now)) }
+    ensures fewer { IfOk result (λ x. length x.1.now ≤ length tokens.now) }
 {
     let (number, fields, rest) = head(parser, tokens)?;
     let (condition, sent, rest) = sending(parser, rest)?;
@@ -343,7 +370,9 @@ pub(crate) fn blocks<'t, 'a>(
     parser: Parser,
     tokens: &'t [Token<'a>],
 ) -> Result<(Vec<Block>, &'t [Token<'a>]), Fault>
-    ensures { Gives list_found result (parts.blocks (lexemes tokens.now)) }
+    requires { length tokens.now ≤ max_text }
+    ensures gives { Gives list_found result (parts.blocks (lexemes tokens.now)) }
+    ensures fewer { IfOk result (λ x. length x.1.now ≤ length tokens.now) }
 {
     let (mut blocks, mut rest) = no_items(parser.alloc, tokens);
     while let Some(next) = after(Mark::At, rest) {

@@ -1,6 +1,6 @@
 //! The acts on a journal.
 use crate::reading::two;
-use step_machine::Name;
+use run_events::Name;
 use test_kit::{Fault, cut, number};
 
 /// What is done. A node that isn't the journal's own, a double, does the same with frames of its

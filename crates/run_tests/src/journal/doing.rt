@@ -11,12 +11,12 @@ use crate::journal::sealing::seal;
 use crate::journal::seen::{Answer, Seen, tell};
 use crate::journal::taking::receive;
 use crate::journal::telling::within;
-use round_lang::NoMemory;
+use run_events::{Name, NoMemory};
 use slot_plans::Known;
 use std::alloc::Global;
 use step_book::{CloseFault, IdleFault, SendFault};
 use step_journal::Journal;
-use step_machine::{Name, Node, Prepared};
+use step_machine::{Node, Prepared};
 use test_kit::Fault;
 
 /// What the node has for another.

@@ -9,11 +9,11 @@ use crate::journal::doing::prepare;
 use crate::journal::seen::{Answer, tell};
 use crate::journal::telling::tell_name;
 use frame_format::{Frame, FrameFault, Layout, decode};
-use round_lang::NoMemory;
+use run_events::{Name, NoMemory};
 use slot_plans::Known;
 use std::alloc::Global;
 use step_journal::Journal;
-use step_machine::{Name, Node};
+use step_machine::Node;
 use test_kit::Fault;
 
 /// The format of what the nodes send, by the program and the number of nodes; if there was no
@@ -23,7 +23,6 @@ fn layout_of(alloc: Global, journal: &Journal<Known>) -> Result<Layout, NoMemory
         ≡ format_of journal.now.log.program journal.now.log.setup.nodes) }
 {
     let book = journal.book();
-    book.agrees();
     let program = book.program();
     let nodes = book.setup().nodes;
     match Layout::of(alloc, program, nodes) {

@@ -4,11 +4,11 @@ ghost use Rattle.step_book.specs.Names.{IsName};
 
 use crate::journal::act::Question;
 use round_lang::ValueSet;
+use run_events::{InFlight, MAX_COPY, Name};
 use slot_plans::Known;
 use std::alloc::Global;
 use step_book::StoredName;
 use step_journal::Journal;
-use step_machine::{InFlight, MAX_COPY, Name};
 use test_kit::Fault;
 
 const OUTSIDE: &str = "not within its limits";

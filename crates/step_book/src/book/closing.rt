@@ -2,6 +2,7 @@
 ghost use Rattle.std.specs.Arc.{arc_value};
 ghost use Rattle.std.specs.Prelude.{◌≡◌, ◌-◌, ◌<◌, ◌≤◌, ◌↔◌, IfErr, IsTrue, MatchOption, OnErr};
 ghost use Rattle.std.specs.Prelude.{OnOk, Some, length, option_map};
+ghost use Rattle.run_events.specs.Limits.{max_copy};
 ghost use Rattle.step_book.specs.Causes.{CloseCause, IsDueIn, EndsAsRecorded};
 ghost use Rattle.step_book.specs.Effects.{Closes};
 ghost use Rattle.step_book.specs.Log.{IsDue, history, mark_in, round_of, state_before, world_of};
@@ -12,10 +13,11 @@ use crate::book::Book;
 use crate::fault::CloseFault;
 use crate::notes::note_close;
 use crate::tags::{earliest, is_tagged, is_within};
-use round_lang::{NoMemory, Vars};
+use round_lang::Vars;
+use run_events::{Name, NoMemory};
 use slot_plans::Plan;
 use std::sync::Arc;
-use step_machine::{Finished, Name, Sealed, StoredState};
+use step_machine::{Finished, Sealed, StoredState};
 
 impl<P: Plan> Book<P> {
     /// Closes the due round that a node of the run finished.
@@ -148,7 +150,7 @@ impl<P: Plan> Book<P> {
 
     fn was_let_go(&self, name: Name, copy: u32, first: u64, end: u64) -> bool
         requires name { IsName self.now.log.setup name }
-        requires copy { copy ≤ 3 }
+        requires copy { copy ≤ max_copy }
         ensures { result ≡ is_within (mark_in (P.start self.now.plan) self.now.log
             (record name { copy = copy })) first end }
     {

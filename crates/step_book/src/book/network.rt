@@ -6,9 +6,8 @@ ghost use Rattle.step_book.specs.Names.{IsName};
 use crate::book::Book;
 use crate::mark::Mark;
 use crate::notes::{note_answer, note_release};
-use round_lang::NoMemory;
+use run_events::{Event, Name, NoMemory};
 use slot_plans::Plan;
-use step_machine::{Event, Name};
 
 impl<P: Plan> Book<P> {
     /// A release by the network: true if a copy went from flight to those that wait.

@@ -6,7 +6,8 @@ ghost use Rattle.step_machine.specs.Nodes.{IsEnd, IsHeld, algorithm_in, held_now
 use crate::node::Node;
 use crate::sealed::Sealed;
 use crate::stored_state::StoredState;
-use round_lang::{NoMemory, Vars};
+use round_lang::Vars;
+use run_events::NoMemory;
 use std::sync::Arc;
 
 /// What a node ended its round with.

@@ -1,6 +1,6 @@
 use Rattle.std.proofs.Common.{◌≡◌, ◌<◌, arith, length, refl, set, subst, sym}
 use Rattle.step_book.specs.Log.{Recorded}
-use Rattle.step_machine.specs.declared.event.Event.TheVariants.{Release, Drop, Copy}
+use Rattle.run_events.specs.declared.event.Event.TheVariants.{Release, Drop, Copy}
 use Rattle.adversary.specs.Driving.{IsNodeOf}
 use Rattle.adversary.proofs.Runs.{driven_rest, driven_step, known_step, plan_kept}
 use Rattle.adversary.proofs.Settled.{on_each, on_four}

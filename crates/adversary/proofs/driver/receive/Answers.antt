@@ -2,7 +2,7 @@ use Rattle.std.proofs.Common.{subst, sym}
 use Rattle.round_meaning.specs.declared.setup.Setup.{Setup}
 use Rattle.step_book.proofs.Starts.{plan_is}
 use Rattle.step_book.specs.Log.{Recorded, happened}
-use Rattle.step_machine.specs.declared.event.Event.TheVariants.{Step}
+use Rattle.run_events.specs.declared.event.Event.TheVariants.{Step}
 use Rattle.step_machine.specs.Nodes.{HasPlaces}
 use Rattle.adversary.specs.Driving.{IsNodeOf}
 use Rattle.adversary.proofs.Nodes.{node_received, noted, receive_fit}

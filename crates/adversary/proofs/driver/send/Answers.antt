@@ -1,7 +1,7 @@
 use Rattle.std.proofs.Common.{◌≡◌, ◌∙◌, ap, subst, sym}
 use Rattle.step_book.proofs.Starts.{plan_is}
 use Rattle.step_book.specs.Log.{Recorded, happened}
-use Rattle.step_machine.specs.declared.event.Event.TheVariants.{Step}
+use Rattle.run_events.specs.declared.event.Event.TheVariants.{Step}
 use Rattle.step_machine.specs.Sealed.{Ready}
 use Rattle.step_machine.specs.Nodes.{NodeView}
 use Rattle.adversary.specs.Driving.{IsNodeOf}

@@ -15,16 +15,16 @@ returns-then-offset-from-clause-settled g c =
     ∙ ap (λ (b : Recorded _). round_of b.log me) is in
     let count : c.count_of-count.result ≡ count_of j.log me = c.count_of-count.ensures
     ∙ ap (λ (b : Recorded _). count_of b.log me) is in
-    let plan : c.plan-plan.result ≡ j.plan = c.plan-plan.ensures
+    let plan : c.plan-plan.result ≡ j.plan = c.plan-plan.ensures.value
     ∙ ap (λ (b : Recorded _). b.plan) is in
     let first : c.start.result ≡ start (round_of j.log me) = c.start.ensures
     ∙ ap (λ p. g.P.Plan.start p c.round_of-round.result) plan ∙ ap start round in
     let nodes : c.from-2.result ≡ j.log.setup.nodes = c.from-2.ensures
-    ∙ ap (λ (s : Setup). s.nodes) c.setup-2.ensures
+    ∙ ap (λ (s : Setup). s.nodes) c.setup-2.ensures.value
     ∙ ap (λ (b : Recorded _). b.log.setup.nodes) is in
     let sized : g.P.Plan.nodes j.plan ≡ j.log.setup.nodes =
     subst (λ (b : Recorded _). g.P.Plan.nodes b.plan ≡ b.log.setup.nodes) is
-    c.agrees.ensures.sized in
+    c.plan-plan.ensures.sized in
     let within : count_of j.log me < start (round_of j.log me) + g.P.Plan.nodes j.plan =
     omega (
       arith,
@@ -52,7 +52,7 @@ returns-in_ok-close-clause-settled g c =
     ∙ ap (λ (b : Recorded _). round_of b.log me) is in
     let count : c.count_of-count.result ≡ count_of j.log me = c.count_of-count.ensures
     ∙ ap (λ (b : Recorded _). count_of b.log me) is in
-    let plan : c.plan-plan.result ≡ j.plan = c.plan-plan.ensures
+    let plan : c.plan-plan.result ≡ j.plan = c.plan-plan.ensures.value
     ∙ ap (λ (b : Recorded _). b.plan) is in
     let next : c.start-2.result ≡ start (round_of j.log me + 1) = c.start-2.ensures
     ∙ ap (λ p. g.P.Plan.start p (c.round_of-round.result + 1)) plan
@@ -90,7 +90,7 @@ returns-else-saturating_add-from-clause-settled g c =
     ∙ ap (λ (b : Recorded _). round_of b.log me) is in
     let count : c.count_of-count.result ≡ count_of j.log me = c.count_of-count.ensures
     ∙ ap (λ (b : Recorded _). count_of b.log me) is in
-    let plan : c.plan-plan.result ≡ j.plan = c.plan-plan.ensures
+    let plan : c.plan-plan.result ≡ j.plan = c.plan-plan.ensures.value
     ∙ ap (λ (b : Recorded _). b.plan) is in
     let next : c.start-2.result ≡ start (round_of j.log me + 1) = c.start-2.ensures
     ∙ ap (λ p. g.P.Plan.start p (c.round_of-round.result + 1)) plan
@@ -111,7 +111,7 @@ returns-else-saturating_add-from-clause-settled g c =
       arith,
       c.if-round-setup.false,
       round,
-      ap (λ (s : Setup). s.rounds) c.setup.ensures,
+      ap (λ (s : Setup). s.rounds) c.setup.ensures.value,
       ap (λ (b : Recorded _). b.log.setup.rounds) is,
     ) in
     subst (λ q. IsSettled (g.P.Plan.start q) c.receive.new.journal.log me)
@@ -131,7 +131,7 @@ close-requires-clause-due g c =
     ∙ ap (λ (b : Recorded _). round_of b.log me) is in
     let count : c.count_of-count.result ≡ count_of j.log me = c.count_of-count.ensures
     ∙ ap (λ (b : Recorded _). count_of b.log me) is in
-    let plan : c.plan-plan.result ≡ j.plan = c.plan-plan.ensures
+    let plan : c.plan-plan.result ≡ j.plan = c.plan-plan.ensures.value
     ∙ ap (λ (b : Recorded _). b.plan) is in
     let next : c.start-2.result ≡ start (round_of j.log me + 1) = c.start-2.ensures
     ∙ ap (λ p. g.P.Plan.start p (c.round_of-round.result + 1)) plan

@@ -34,7 +34,7 @@ returns-in-Some-clause-cause g c =
     let stored = c.parts.result.0.now in
     let whole = c.parts.result.1.now in
     let f = c.unknown_at.result in
-    let same = ap length (c.trace.ensures
+    let same = ap length (c.trace.ensures.value
     ∙ ap (λ b. b.log.trace) (c.book.ensures ∙ c.journal.ensures)
     ∙ c.in_ok-next.ensures.log.trace) in
     let counted : m ≡ n + length stored = omega (

@@ -1,5 +1,5 @@
 use Rattle.std.proofs.Common.{ℕ, ◌<◌, get_or}
-use Rattle.step_machine.specs.declared.event.Event.{Event}
+use Rattle.run_events.specs.declared.event.Event.{Event}
 use Rattle.adversary.specs.Driving.{IsKnown}
 use Rattle.adversary.proofs.running.first_unknown.Given as goal
 

@@ -49,7 +49,7 @@ returns-clause-made g c =
     let timing = timing_by b changes correct in
     let run = followed journal.log (idle_steps timing s.nodes first (after - first)) in
     let lawful : IsLawful c.args.program.now.values s = c.if-not-is_lawful.ensures.0 refl in
-    let same = c.trace.ensures ∙ ap (λ (x : Recorded _). x.log.trace) c.book.ensures in
+    let same = c.trace.ensures.value ∙ ap (λ (x : Recorded _). x.log.trace) c.book.ensures in
     let inputs = lawful.sized.inputs in
     let nodes = lawful.sized.some_node in
     let whole : IsWholeRun (start c.args.plan) (g.P.Plan.receives c.args.plan) b changes correct

@@ -49,7 +49,7 @@ returns-clause-explained g c =
     let of_program =
     subst (λ p. All (IsOfRounds (algorithm_of p run.setup) (printed_omits rows)) rows)
     ran.program said.in_rounds in
-    let same = c.trace.ensures ∙ ap (λ (x : Recorded _). x.log.trace) c.book.ensures in
+    let same = c.trace.ensures.value ∙ ap (λ (x : Recorded _). x.log.trace) c.book.ensures in
     let fit : ¬ ¬ (IsFitForThreads c.args.program.now.values t.setup c.as_slice-stops.result.now) =
     λ none. cc (ran.bad_setup.1 none) in
     let inputs : 0 < length t.setup.inputs =

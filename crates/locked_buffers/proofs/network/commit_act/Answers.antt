@@ -1,7 +1,7 @@
 use Rattle.std.proofs.Common.{sym, subst}
-use Rattle.stored_events.specs.Stored.{IsStorable, IsStorableName}
+use Rattle.run_events.specs.Stored.{IsStorable, IsStorableName}
 use Rattle.step_book.proofs.Names.{storable_name}
-use Rattle.step_machine.specs.declared.event.Name.{Name}
+use Rattle.run_events.specs.declared.name.Name.{Name}
 use Rattle.locked_buffers.specs.Acts.{event_of}
 use Rattle.locked_buffers.specs.declared.act.Act.{Act}
 use Rattle.locked_buffers.specs.declared.act.Act.TheVariants as act

@@ -1,5 +1,5 @@
 use Rattle.std.proofs.Common.{◌≡◌, subst}
-use Rattle.step_machine.specs.Sealed.{original}
+use Rattle.run_events.specs.Names.{original}
 use Rattle.step_journal.specs.Fits.{place_among}
 use Rattle.locked_buffers.specs.Acts.{made_by}
 use Rattle.locked_buffers.specs.declared.act.Act.{Act}

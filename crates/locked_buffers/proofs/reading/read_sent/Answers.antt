@@ -17,7 +17,7 @@ use Rattle.std.proofs.Common.{
 }
 use Rattle.std.proofs.Math.ListN.{drop_of_length-le}
 use Rattle.std.proofs.lemmas.List.{take_rest}
-use Rattle.step_machine.specs.declared.event.Name.{Name}
+use Rattle.run_events.specs.declared.name.Name.{Name}
 use Rattle.locked_buffers.proofs.reading.read_sent.Goals as goal
 use Rattle.locked_buffers.proofs.reading.read_sent.Goals.{in-Some+in_ok-add_names, in_default}
 
@@ -42,5 +42,5 @@ returns-clause-sent g c =
         | in_default w ↦ ap (λ v. v.items) w.sent-is
             ∙ past old names k w.in_default.ensures.lookup.0
       ];
-      counted = ap length c.trace.ensures;
+      counted = ap length c.trace.ensures.value;
     }

@@ -5,7 +5,7 @@ use Rattle.step_book.specs.Serials.{sent}
 use Rattle.step_book.specs.Slots.{IsMessageAt, IsNoMessageAt}
 use Rattle.step_book.specs.World.{nodes_of}
 use Rattle.step_book.proofs.Reading.{nodes_are}
-use Rattle.step_machine.specs.declared.event.Event.TheVariants.{Step}
+use Rattle.run_events.specs.declared.event.Event.TheVariants.{Step}
 use Rattle.lockstep_runs.specs.Changes.{own_delay, timing_by}
 use Rattle.lockstep_runs.specs.Pacing.{HoldsByTicks}
 use Rattle.lockstep_runs.proofs.Maps.{inserted}

@@ -39,7 +39,7 @@ loop-turn-init g c =
     let j = c.loop-name.driver in
     let read : c.book-book.result.now ≡ j = c.book-book.ensures ∙ c.journal.ensures in
     let some = subst (λ (z : Recorded _). 0 < z.log.setup.nodes) read
-    c.agrees.ensures.lawful.sized.some_node in
+    c.setup.ensures.lawful.sized.some_node in
     stepping_first g.P.Plan.start
     (timing_by c.args.course.now.bounded.now c.args.course.now.changes.now
     c.args.course.now.correct.bits) c.args.now c.args.driver j c.loop-name.flight
@@ -54,13 +54,13 @@ step-requires-clause-count g c =
     let j = c.loop-turn.driver in
     let turn = c.loop-turn.turn in
     let nodes = c.setup.result.now.nodes in
-    let read : c.setup.result.now ≡ c.loop-name.driver.log.setup = c.setup.ensures
+    let read : c.setup.result.now ≡ c.loop-name.driver.log.setup = c.setup.ensures.value
     ∙ ap (λ (z : Recorded _). z.log.setup) (c.book-book.ensures ∙ c.journal.ensures) in
     let setup : c.setup.result.now ≡ j.log.setup =
     read ∙ c.loop-name.invariant.same.setup ∙ sym c.loop-turn.invariant.same.setup in
     let same : nodes ≡ j.log.setup.nodes = ap (λ (z : Setup). z.nodes) setup in
-    let some : 0 < nodes = subst (λ (z : Setup). 0 < z.nodes) (sym c.setup.ensures)
-    c.agrees.ensures.lawful.sized.some_node in
+    let some : 0 < nodes = subst (λ (z : Setup). 0 < z.nodes) (sym c.setup.ensures.value)
+    c.setup.ensures.lawful.sized.some_node in
     let node = (c.entry.result % nodes + turn) % nodes in
     let below : node < nodes = mod_below (c.entry.result % nodes + turn) nodes some in
     stepping_count start b c.args.now c.args.driver j c.loop-turn.flight turn node
@@ -80,13 +80,13 @@ loop-turn-preserved g c =
     let j = c.loop-turn.driver in
     let turn = c.loop-turn.turn in
     let nodes = c.setup.result.now.nodes in
-    let read : c.setup.result.now ≡ c.loop-name.driver.log.setup = c.setup.ensures
+    let read : c.setup.result.now ≡ c.loop-name.driver.log.setup = c.setup.ensures.value
     ∙ ap (λ (z : Recorded _). z.log.setup) (c.book-book.ensures ∙ c.journal.ensures) in
     let setup : c.setup.result.now ≡ j.log.setup =
     read ∙ c.loop-name.invariant.same.setup ∙ sym c.loop-turn.invariant.same.setup in
     let same : nodes ≡ j.log.setup.nodes = ap (λ (z : Setup). z.nodes) setup in
-    let some : 0 < nodes = subst (λ (z : Setup). 0 < z.nodes) (sym c.setup.ensures)
-    c.agrees.ensures.lawful.sized.some_node in
+    let some : 0 < nodes = subst (λ (z : Setup). 0 < z.nodes) (sym c.setup.ensures.value)
+    c.setup.ensures.lawful.sized.some_node in
     let node = (c.entry.result % nodes + turn) % nodes in
     let below : node < nodes = mod_below (c.entry.result % nodes + turn) nodes some in
     let own : 0 < j.log.setup.nodes = omega (arith, some, same) in
@@ -126,13 +126,13 @@ pub returns-clause-steps : goal.returns-clause-steps
 returns-clause-steps g c =
     let j = c.loop-turn.driver in
     let nodes = c.setup.result.now.nodes in
-    let read : c.setup.result.now ≡ c.loop-name.driver.log.setup = c.setup.ensures
+    let read : c.setup.result.now ≡ c.loop-name.driver.log.setup = c.setup.ensures.value
     ∙ ap (λ (z : Recorded _). z.log.setup) (c.book-book.ensures ∙ c.journal.ensures) in
     let setup : c.setup.result.now ≡ j.log.setup =
     read ∙ c.loop-name.invariant.same.setup ∙ sym c.loop-turn.invariant.same.setup in
     let same : nodes ≡ j.log.setup.nodes = ap (λ (z : Setup). z.nodes) setup in
-    let some : 0 < nodes = subst (λ (z : Setup). 0 < z.nodes) (sym c.setup.ensures)
-    c.agrees.ensures.lawful.sized.some_node in
+    let some : 0 < nodes = subst (λ (z : Setup). 0 < z.nodes) (sym c.setup.ensures.value)
+    c.setup.ensures.lawful.sized.some_node in
     stepping_last_taken g.P.Plan.start
     (timing_by c.args.course.now.bounded.now c.args.course.now.changes.now
     c.args.course.now.correct.bits) c.args.now c.args.driver j c.loop-turn.flight

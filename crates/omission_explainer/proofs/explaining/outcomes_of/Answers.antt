@@ -29,10 +29,10 @@ loop-from-preserved g c = λ few.
     let v = c.args.book.now.log in
     let start = g.P.Plan.start p in
     let first : c.from-first.result ≡ start (earliest c.args.round) = c.from-first.ensures
-    ∙ c.start.ensures ∙ ap (λ x. g.P.Plan.start x c.earliest.result) c.plan.ensures
+    ∙ c.start.ensures ∙ ap (λ x. g.P.Plan.start x c.earliest.result) c.plan.ensures.value
     ∙ ap start c.earliest.ensures in
     let end : c.from-end.result ≡ start (c.args.round + 1) = c.from-end.ensures ∙ c.start-2.ensures
-    ∙ ap (λ x. g.P.Plan.start x (c.args.round + 1)) c.plan-2.ensures in
+    ∙ ap (λ x. g.P.Plan.start x (c.args.round + 1)) c.plan-2.ensures.value in
     let marks = marks_to (world_of start v) (history v) c.args.node c.args.round c.loop-from.from in
     let within : any_within marks c.from-first.result c.from-end.result
     ≡ within_in start v c.args.node c.args.round c.loop-from.from =
@@ -67,7 +67,7 @@ returns-clause-heard g c =
     (shows (g.P.Plan.start p) (g.P.Plan.receives p)
     (g.P.Plan.nodes p) c.args.book.now.log c.args.node c.args.round c.setup.result.now
     c.loop-from.from _ _ _ (g.met.P.Plan.laws p) c.agrees.ensures.sized
-    c.agrees.ensures.faithful c.requires.node c.requires.first c.requires.closed c.setup.ensures
+    c.agrees.ensures.faithful c.requires.node c.requires.first c.requires.closed c.setup.ensures.value
     c.loop-from-test.false c.loop-from.auto.from-end c.loop-from.invariant).0
 
 pub returns-clause-silent : goal.returns-clause-silent
@@ -76,7 +76,7 @@ returns-clause-silent g c =
     (shows (g.P.Plan.start p) (g.P.Plan.receives p)
     (g.P.Plan.nodes p) c.args.book.now.log c.args.node c.args.round c.setup.result.now
     c.loop-from.from _ _ _ (g.met.P.Plan.laws p) c.agrees.ensures.sized
-    c.agrees.ensures.faithful c.requires.node c.requires.first c.requires.closed c.setup.ensures
+    c.agrees.ensures.faithful c.requires.node c.requires.first c.requires.closed c.setup.ensures.value
     c.loop-from-test.false c.loop-from.auto.from-end c.loop-from.invariant).1
 
 pub returns-clause-omitted : goal.returns-clause-omitted
@@ -85,5 +85,5 @@ returns-clause-omitted g c =
     (shows (g.P.Plan.start p) (g.P.Plan.receives p)
     (g.P.Plan.nodes p) c.args.book.now.log c.args.node c.args.round c.setup.result.now
     c.loop-from.from _ _ _ (g.met.P.Plan.laws p) c.agrees.ensures.sized
-    c.agrees.ensures.faithful c.requires.node c.requires.first c.requires.closed c.setup.ensures
+    c.agrees.ensures.faithful c.requires.node c.requires.first c.requires.closed c.setup.ensures.value
     c.loop-from-test.false c.loop-from.auto.from-end c.loop-from.invariant).2

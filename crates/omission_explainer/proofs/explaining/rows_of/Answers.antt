@@ -21,7 +21,7 @@ loop-node-preserved g c =
     elim c.if-round-round_of.branch [
       | then-round-round_of+in_ok-row_of+in_ok-push w ↦
           let here : i < v.setup.nodes =
-          subst (λ u. i < u.nodes) c.setup-in-loop-round.ensures c.loop-node-test.true in
+          subst (λ u. i < u.nodes) c.setup-in-loop-round.ensures.value c.loop-node-test.true in
           let closed : r < round_of v i =
           subst (λ k. r < k) c.round_of.ensures.value w.if-round-round_of.true in
           let row = w.in_ok-row_of.field-0 in
@@ -57,14 +57,14 @@ pub loop-round-preserved : goal.loop-round-preserved
 loop-round-preserved g c = record {
   reported = c.loop-node.invariant.reported;
   listed =
-      let all = ap (λ u. u.nodes) c.setup-in-loop-round.ensures in
+      let all = ap (λ u. u.nodes) c.setup-in-loop-round.ensures.value in
       listed_round c.args.book.now.log c.loop-round.round c.loop-node.node c.loop-node.rows.items
       (omega arith) (omega (arith, all)) c.loop-node.invariant.listed;
 }
 
 pub returns-clause-listed : goal.returns-clause-listed
 returns-clause-listed g c =
-    let rounds = ap (λ u. u.rounds) c.setup.ensures in
+    let rounds = ap (λ u. u.rounds) c.setup.ensures.value in
     let few = c.agrees.ensures.lawful.sized.few_rounds in
     listed_all c.args.book.now.log c.loop-round.round
     (c.setup.result.now.rounds + 1) c.loop-round.rows.items (omega arith)
@@ -77,7 +77,7 @@ returns-clause-in_rounds g c =
     let start = g.P.Plan.start p in
     let plan = plan_is start (g.P.Plan.receives p) (g.P.Plan.nodes p) v
     (g.met.P.Plan.laws p) c.agrees.ensures.sized in
-    let rounds = ap (λ u. u.rounds) c.setup.ensures in
+    let rounds = ap (λ u. u.rounds) c.setup.ensures.value in
     let few = c.agrees.ensures.lawful.sized.few_nodes in
     let listed = listed_all v c.loop-round.round (c.setup.result.now.rounds + 1)
     c.loop-round.rows.items (omega arith) (omega arith) c.loop-round.invariant.listed in

@@ -4,7 +4,7 @@ use Rattle.std.proofs.lemmas.List.{take_all}
 use Rattle.std.specs.Prelude.{IfSome}
 use Rattle.round_lang.specs.Sets.{is_in}
 use Rattle.slot_plans.specs.Plan.{IsClearRound}
-use Rattle.step_machine.specs.declared.event.Event.TheVariants.{Step, Release, Drop, Copy}
+use Rattle.run_events.specs.declared.event.Event.TheVariants.{Step, Release, Drop, Copy}
 use Rattle.step_book.specs.Log.{history, world_of}
 use Rattle.step_book.specs.World.{IsPlan, nodes_of}
 use Rattle.step_book.proofs.Moments.{At}
@@ -73,7 +73,7 @@ loop-event-preserved g c =
           λ j h. (let l = c.requires j h in omega arith) in
           let few = c.agrees.ensures.lawful.sized.few_nodes in
           let stands : At at (Step k) t =
-          subst (λ z. At at (Step k) (reverse z)) c.trace-event-items.ensures
+          subst (λ z. At at (Step k) (reverse z)) c.trace-event-items.ensures.value
           (at_moment xs i _ (Step k) low (sym c.event-item.is ∙ sym c.event.ensures
           ∙ w'.in-Step.is)) in
           let paced : (w'.if-lockstep.lockstep ≡ true)
@@ -163,7 +163,7 @@ returns-clause-lockstep g c =
     let xs = c.trace-event-items.result.now in
     let whole : moment_at c.loop-event.event-index xs ≡ history v =
     ap reverse (take_all c.loop-event.event-index xs c.loop-event-test.false
-    ∙ c.trace-event-items.ensures) in
+    ∙ c.trace-event-items.ensures.value) in
     let paced : (c.loop-event.lockstep ≡ true) ↔ IsPacedTo c.args.correct.bits (history v) =
     subst (λ z. (c.loop-event.lockstep ≡ true) ↔ IsPacedTo c.args.correct.bits z) whole
     c.loop-event.invariant.paced in
@@ -178,7 +178,7 @@ returns-clause-bound g c =
     let xs = c.trace-event-items.result.now in
     let whole : moment_at c.loop-event.event-index xs ≡ history v =
     ap reverse (take_all c.loop-event.event-index xs c.loop-event-test.false
-    ∙ c.trace-event-items.ensures) in
+    ∙ c.trace-event-items.ensures.value) in
     let same : v.setup.nodes ≡ c.args.journal.now.log.setup.nodes =
     ap (λ z. z.log.setup.nodes) c.book-book.ensures in
     let within : AreNodes v.setup.nodes c.args.correct.bits =
@@ -202,7 +202,7 @@ returns-clause-hears g c = λ on kept.
     let xs = c.trace-event-items.result.now in
     let whole : moment_at c.loop-event.event-index xs ≡ history v =
     ap reverse (take_all c.loop-event.event-index xs c.loop-event-test.false
-    ∙ c.trace-event-items.ensures) in
+    ∙ c.trace-event-items.ensures.value) in
     let same : v.setup.nodes ≡ c.args.journal.now.log.setup.nodes =
     ap (λ z. z.log.setup.nodes) c.book-book.ensures in
     let within : AreNodes v.setup.nodes c.args.correct.bits =
@@ -217,7 +217,7 @@ returns-clause-hears g c = λ on kept.
     let clear : IsClearRound (g.P.Plan.receives p)
     (g.P.Plan.start p) c.args.delta c.args.gst c.clear_round.result =
     subst (λ z. IsClearRound (g.P.Plan.receives z)
-    (g.P.Plan.start z) c.args.delta c.args.gst c.clear_round.result) c.plan.ensures
+    (g.P.Plan.start z) c.args.delta c.args.gst c.clear_round.result) c.plan.ensures.value
     c.clear_round.ensures in
     subst (λ z. IfSome c.clear_round.result
     (HearsFrom (g.P.Plan.start z.plan) z.log c.args.correct.bits)) c.book-book.ensures

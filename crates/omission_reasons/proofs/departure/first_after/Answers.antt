@@ -21,10 +21,10 @@ returns-then-is_sought_at g c =
     let listed : items ≡ places_where q (history v) = c.of_message-place-items.ensures
     ∙ c.requires.index.events (number_of c.setup.result.now.nodes n)
     ∙ ap (λ (u : Setup). places_where (has_number v.setup.nodes (number_of u.nodes n)) (history v))
-    c.setup.ensures in
+    c.setup.ensures.value in
     let sought : IsSoughtAt c.args.sought v.trace n (get_or items c.loop-place.place-index 0) =
     subst (λ z. IsSoughtAt c.args.sought z n (get_or items c.loop-place.place-index 0))
-    c.trace-trace.ensures (c.is_sought_at.ensures.0 c.if-is_sought_at.true) in
+    c.trace-trace.ensures.value (c.is_sought_at.ensures.0 c.if-is_sought_at.true) in
     first_found q (history v) (IsSoughtAt c.args.sought v.trace n)
     (sought_passes c.args.sought v.trace v.setup.nodes n) items listed c.args.after
     c.loop-place.place-index c.loop-place.invariant 0 c.loop-place-test.true c.if-after-place.true
@@ -42,7 +42,7 @@ loop-place-preserved g c =
           both_ways w.is_sought_at.result w.if-is_sought_at.false
           (w.is_sought_at.ensures.1
           (subst (λ z. IsSoughtAt c.args.sought z n (get_or items c.loop-place.place-index 0))
-          (sym c.trace-trace.ensures) is))
+          (sym c.trace-trace.ensures.value) is))
       | else-after-place-via-else-after-place w ↦
           absurd (let low = w.if-after-place.false in omega arith)
     ])
@@ -56,7 +56,7 @@ returns g c =
     let listed : items ≡ places_where q (history v) = c.of_message-place-items.ensures
     ∙ c.requires.index.events (number_of c.setup.result.now.nodes n)
     ∙ ap (λ (u : Setup). places_where (has_number v.setup.nodes (number_of u.nodes n)) (history v))
-    c.setup.ensures in
+    c.setup.ensures.value in
     none_found q (history v) (IsSoughtAt c.args.sought v.trace n)
     (sought_passes c.args.sought v.trace v.setup.nodes n) items listed c.args.after
     c.loop-place.place-index c.loop-place.invariant c.loop-place-test.false

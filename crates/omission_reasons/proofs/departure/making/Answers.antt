@@ -20,7 +20,7 @@ overflow_add-step g c =
     (g.met.P.Plan.laws p) c.agrees.ensures.sized few n.round c.requires.name.first
     (let last = c.requires.name.last in omega arith) in
     let start : c.start.result ≡ g.P.Plan.start p n.round = c.start.ensures
-    ∙ ap (λ x. g.P.Plan.start x n.round) c.plan.ensures in
+    ∙ ap (λ x. g.P.Plan.start x n.round) c.plan.ensures.value in
     omega (arith, small, start, c.requires.name.to, c.agrees.ensures.sized)
 
 pub returns-in_err-slot : goal.returns-in_err-slot
@@ -30,7 +30,7 @@ returns-in_err-slot g c =
     let n = c.args.name in
     let w = world_of (g.P.Plan.start p) v in
     let at : c.from.result ≡ g.P.Plan.start p n.round + n.to = c.from.ensures
-    ∙ ap (λ x. x + n.to) (c.start.ensures ∙ ap (λ x. g.P.Plan.start x n.round) c.plan.ensures) in
+    ∙ ap (λ x. x + n.to) (c.start.ensures ∙ ap (λ x. g.P.Plan.start x n.round) c.plan.ensures.value) in
     let found : c.step_place.result
     ≡ slice_get (places_where (is_step n.from) (history v)) (g.P.Plan.start p n.round + n.to) =
     c.step_place.ensures ∙ ap (λ xs. slice_get xs c.from.result) (c.requires.index.steps n.from)
@@ -46,7 +46,7 @@ returns-then-name-eq0 g c =
     let p = c.args.book.now.plan in
     let n = c.args.name in
     let at : c.from.result ≡ g.P.Plan.start p n.round + n.to = c.from.ensures
-    ∙ ap (λ x. x + n.to) (c.start.ensures ∙ ap (λ x. g.P.Plan.start x n.round) c.plan.ensures) in
+    ∙ ap (λ x. x + n.to) (c.start.ensures ∙ ap (λ x. g.P.Plan.start x n.round) c.plan.ensures.value) in
     let found : c.step_place.result
     ≡ slice_get (places_where (is_step n.from) (history v)) (g.P.Plan.start p n.round + n.to) =
     c.step_place.ensures ∙ ap (λ xs. slice_get xs c.from.result) (c.requires.index.steps n.from)
@@ -61,7 +61,7 @@ returns g c =
     let n = c.args.name in
     let w = world_of (g.P.Plan.start p) v in
     let at : c.from.result ≡ g.P.Plan.start p n.round + n.to = c.from.ensures
-    ∙ ap (λ x. x + n.to) (c.start.ensures ∙ ap (λ x. g.P.Plan.start x n.round) c.plan.ensures) in
+    ∙ ap (λ x. x + n.to) (c.start.ensures ∙ ap (λ x. g.P.Plan.start x n.round) c.plan.ensures.value) in
     let found : c.step_place.result
     ≡ slice_get (places_where (is_step n.from) (history v)) (g.P.Plan.start p n.round + n.to) =
     c.step_place.ensures ∙ ap (λ xs. slice_get xs c.from.result) (c.requires.index.steps n.from)

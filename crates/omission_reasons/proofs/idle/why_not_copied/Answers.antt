@@ -1,6 +1,6 @@
 use Rattle.std.proofs.Common.{subst}
 use Rattle.std.proofs.lemmas.Bool.{both_ways}
-use Rattle.step_machine.specs.Sealed.{original}
+use Rattle.run_events.specs.Names.{original}
 use Rattle.step_book.specs.Log.{world_of}
 use Rattle.step_book.specs.Places.{IsMadeAt}
 use Rattle.omission_reasons.proofs.Idling.{absent_by, copying_blocks, late_same, loud_spoken}

@@ -30,10 +30,10 @@ returns g c =
     let plan = plan_is start (g.P.Plan.receives p) (g.P.Plan.nodes p) v (g.met.P.Plan.laws p)
     c.agrees.ensures.sized in
     let first : c.from-first.result ≡ start (earliest n.round) = c.from-first.ensures
-    ∙ c.start.ensures ∙ ap (λ x. g.P.Plan.start x c.earliest.result) c.plan.ensures
+    ∙ c.start.ensures ∙ ap (λ x. g.P.Plan.start x c.earliest.result) c.plan.ensures.value
     ∙ ap start c.earliest.ensures in
     let end : c.from-end.result ≡ start (n.round + 1) = c.from-end.ensures ∙ c.start-2.ensures
-    ∙ ap (λ x. g.P.Plan.start x (n.round + 1)) c.plan-2.ensures in
+    ∙ ap (λ x. g.P.Plan.start x (n.round + 1)) c.plan-2.ensures.value in
     let marks = marks_of (world_of start v) (history v) n in
     let within : c.was_released.result
     ≡ any_within marks (start (earliest n.round)) (start (n.round + 1)) =

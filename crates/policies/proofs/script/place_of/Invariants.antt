@@ -1,5 +1,5 @@
 use Rattle.std.proofs.Common.{◌≡◌, ℕ, ◌<◌, get_or}
-use Rattle.step_machine.specs.declared.event.InFlight.{InFlight}
+use Rattle.run_events.specs.declared.in_flight.InFlight.{InFlight}
 use Rattle.policies.proofs.script.place_of.Given as goal
 
 abbrev pub invariant-loop-place : goal.invariant-loop-place

@@ -1,5 +1,5 @@
 use Rattle.std.proofs.Common.{◌+◌, ◌-◌, ◌<◌, ◌≤◌}
-use Rattle.slot_plans.specs.Limits.{max_rounds}
+use Rattle.run_events.specs.Limits.{max_rounds}
 use Rattle.slot_plans.proofs.plan.round_of.Given as goal
 
 -- the step is in the rounds from `low` up to, but not, `high`

@@ -1,9 +1,10 @@
 use Rattle.std.proofs.Common.{◌≡◌, ◌∙◌, ◌≤◌, ◌++◌, ap, subst, sym, rules, map, max}
 use Rattle.round_lang.specs.Syntax.{ProgramTree}
 use Rattle.step_code.specs.Assignments.{starts_top}
-use Rattle.step_code.specs.Compiled.{BlocksNumbers, IsCompiled, IsSafe, block_view}
+use Rattle.step_code.specs.Compiled.{BlocksNumbers, IsCompiled, IsSafe, SendsFields, block_view}
 use Rattle.step_code.specs.Layout.{block_code, blocks_top, message_place, room_of, start_names}
 use Rattle.step_code.proofs.Safe.{kept}
+use Rattle.step_code.proofs.TypedParts.{counted_blocks}
 use Rattle.step_code.proofs.program.compile.Goals as goal
 
 pub invariant_of-result : goal.invariant_of-result
@@ -38,3 +39,10 @@ invariant_of-result c =
       safe = subst (λ (p : ProgramTree). IsSafe p.values c.max.result c.in_ok-start.start.code.items
           (map block_view c.compile_blocks.new.codes.items)) same k.1;
     }
+
+pub compile_blocks-requires-clause-counted : goal.compile_blocks-requires-clause-counted
+compile_blocks-requires-clause-counted c =
+    let q : ProgramTree = c.args.program.now in
+    let tree : c.program-tree.result.now ≡ q = c.program-tree.ensures in
+    subst SendsFields (sym (c.blocks-2.ensures ∙ ap (λ (t : ProgramTree). t.blocks) tree))
+    (counted_blocks q c.typed.ensures)

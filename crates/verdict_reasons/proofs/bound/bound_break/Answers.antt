@@ -1,7 +1,7 @@
 use Rattle.std.proofs.Common.{◌≡◌, ◌∙◌, length, refl, reverse, sym, ap, subst, arith}
 use Rattle.std.specs.Prelude.{MatchOption}
 use Rattle.std.proofs.lemmas.List.{take_all}
-use Rattle.step_machine.specs.declared.event.Event.TheVariants.{Step}
+use Rattle.run_events.specs.declared.event.Event.TheVariants.{Step}
 use Rattle.step_book.specs.Log.{history, world_of}
 use Rattle.step_book.specs.World.{nodes_of}
 use Rattle.step_book.proofs.Moments.{At}
@@ -37,7 +37,7 @@ break_by-next-requires-clause-counts g c =
     let low = c.loop-place-test.true in
     let p = moment_at i xs in
     let stands : At p (Step k) (history v) =
-    subst (λ z. At p (Step k) (reverse z)) c.trace-event-items.ensures
+    subst (λ z. At p (Step k) (reverse z)) c.trace-event-items.ensures.value
     (at_moment xs i _ (Step k) low (sym c.event-item.is ∙ sym c.event.ensures ∙ step.step)) in
     subst (AreCounts v.trace correct c.loop-place.counts) (moment_short xs i (omega arith))
     (counts_there start v correct c.args.delta c.args.gst k p stands c.loop-place.counts
@@ -52,7 +52,7 @@ break_by-next-requires-clause-there g c =
     let low = c.loop-place-test.true in
     let p = moment_at i xs in
     let stands : At p (Step k) (history v) =
-    subst (λ z. At p (Step k) (reverse z)) c.trace-event-items.ensures
+    subst (λ z. At p (Step k) (reverse z)) c.trace-event-items.ensures.value
     (at_moment xs i _ (Step k) low (sym c.event-item.is ∙ sym c.event.ensures
     ∙ c.in-Some.ensures.step)) in
     there_at v.trace (Step k) i p stands (moment_short xs i (omega arith))
@@ -92,7 +92,7 @@ loop-place-preserved g c =
           let nodes : AreNodes (nodes_of w) correct =
           λ j h. (let l = c.requires.within j h in omega arith) in
           let stands : At p (Step k) (history v) =
-          subst (λ z. At p (Step k) (reverse z)) c.trace-event-items.ensures
+          subst (λ z. At p (Step k) (reverse z)) c.trace-event-items.ensures.value
           (at_moment xs i _ (Step k) low (sym c.event-item.is ∙ sym c.event.ensures ∙ step.step)) in
           let long : length p ≡ i = moment_short xs i (omega arith) in
           let next = u.break_by-next.result in
@@ -112,7 +112,7 @@ loop-place-preserved g c =
       | in-None u ↦
           let e = c.event.result in
           let stands : At p e (history v) =
-          subst (λ z. At p e (reverse z)) c.trace-event-items.ensures
+          subst (λ z. At p e (reverse z)) c.trace-event-items.ensures.value
           (at_moment xs i _ e low (sym c.event-item.is ∙ sym c.event.ensures)) in
           rw (
             next_moment xs i _ e low (sym c.event-item.is ∙ sym c.event.ensures),
@@ -130,4 +130,4 @@ returns g c =
     sought_all (g.P.Plan.start c.args.book.now.plan) v c.args.correct.bits c.args.delta c.args.gst
     c.requires.within (moment_at c.loop-place.place xs) c.loop-place.counts c.loop-place.found
     (ap reverse (take_all c.loop-place.place xs c.loop-place-test.false
-    ∙ c.trace-event-items.ensures)) c.loop-place.invariant
+    ∙ c.trace-event-items.ensures.value)) c.loop-place.invariant

@@ -1,6 +1,6 @@
 use Rattle.std.proofs.Common.{◌∙◌, refl, reverse, sym, ap, subst, arith}
 use Rattle.std.proofs.lemmas.List.{take_all}
-use Rattle.step_machine.specs.declared.event.Event.TheVariants.{Step}
+use Rattle.run_events.specs.declared.event.Event.TheVariants.{Step}
 use Rattle.step_book.specs.Log.{history, world_of}
 use Rattle.step_book.proofs.Moments.{At}
 use Rattle.omission_explainer.proofs.Moments.{at_moment, moment_at, moment_short, next_moment}
@@ -27,7 +27,7 @@ returns-in-Some-node_behind g c =
     let low = c.loop-place-test.true in
     let p = moment_at i xs in
     let stands : At p (Step k) (history v) =
-    subst (λ z. At p (Step k) (reverse z)) c.trace-event-items.ensures
+    subst (λ z. At p (Step k) (reverse z)) c.trace-event-items.ensures.value
     (at_moment xs i _ (Step k) low (sym c.event-item.is ∙ sym c.event.ensures ∙ step.step)) in
     break_found v.trace c.args.correct.bits k i p c.loop-place.counts stands
     (moment_short xs i (omega arith)) step.correct_node c.loop-place.invariant.tallied
@@ -77,4 +77,4 @@ returns g c =
     (lockstep_placed v.trace c.args.correct.bits).0
     (subst (IsPacedTo c.args.correct.bits)
     (ap reverse (take_all c.loop-place.place xs c.loop-place-test.false
-    ∙ c.trace-event-items.ensures)) c.loop-place.invariant.paced)
+    ∙ c.trace-event-items.ensures.value)) c.loop-place.invariant.paced)

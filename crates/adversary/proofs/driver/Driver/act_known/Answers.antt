@@ -10,7 +10,7 @@ loop-stored-preserved g c =
     let e = c.stored-item.result in
     let known : IsKnown c.setup.result.now c.event-event.result =
     c.is_known.ensures.0 c.if-not-is_known.false in
-    let setup : c.setup.result.now ≡ j.log.setup = c.setup.ensures
+    let setup : c.setup.result.now ≡ j.log.setup = c.setup.ensures.value
     ∙ ap (λ b. b.log.setup) c.book.ensures ∙ c.loop-stored.invariant.run.setup in
     record {
       run = run_next j.log.program j.log.setup j.plan c.loop-stored.journal c.act.new.journal
@@ -42,7 +42,7 @@ returns-then-not-is_known-clause-cause g c =
     let f = c.unknown_at.result in
     let events = c.args.events.now in
     let n = length c.trace.result.now in
-    let setup : c.setup.result.now ≡ j.log.setup = c.setup.ensures
+    let setup : c.setup.result.now ≡ j.log.setup = c.setup.ensures.value
     ∙ ap (λ b. b.log.setup) c.book.ensures ∙ c.loop-stored.invariant.run.setup in
     let strange : ¬ IsKnown j.log.setup e = λ known.
     let bad : false ≡ true = sym c.if-not-is_known.true
@@ -50,7 +50,7 @@ returns-then-not-is_known-clause-cause g c =
     (subst (IsKnown j.log.setup) (sym c.event-event.ensures) known)) in
     absurd (cc bad) in
     let counted : n ≡ length (j.log.trace ++ take i events) =
-    ap length (c.trace.ensures ∙ ap (λ b. b.log.trace) c.book-then-not-is_known.ensures
+    ap length (c.trace.ensures.value ∙ ap (λ b. b.log.trace) c.book-then-not-is_known.ensures
     ∙ c.loop-stored.invariant.run.trace) in
     inr (subst (λ v. IsUnknownPast v.log.setup (length v.log.trace) events f) c.self.view_is
     (unknown_next j.log.setup j.log.trace events i e f n c.loop-stored-test.true c.stored-item.is

@@ -1,6 +1,6 @@
 use Rattle.std.proofs.Common.{List, Option, Some, subst}
-use Rattle.step_machine.specs.declared.event.Event.{Event}
-use Rattle.step_machine.specs.declared.event.InFlight.{InFlight}
+use Rattle.run_events.specs.declared.event.Event.{Event}
+use Rattle.run_events.specs.declared.in_flight.InFlight.{InFlight}
 use Rattle.node_threads.specs.Choices.{ComesToInOne}
 use Rattle.node_threads.proofs.network.Network.ask.Goals as goal
 

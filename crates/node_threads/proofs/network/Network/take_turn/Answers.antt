@@ -1,6 +1,6 @@
 use Rattle.std.proofs.Common.{◌≡◌, ◌∙◌, ℕ, None, Option, Some, refl, subst}
 use Rattle.policies.specs.declared.policy.Choice.{Choice}
-use Rattle.step_machine.specs.declared.event.Event.{Event}
+use Rattle.run_events.specs.declared.event.Event.{Event}
 use Rattle.node_threads.specs.Turns.{HasLearnt, IsAskedFor, IsAskedOnce, Known}
 use Rattle.node_threads.proofs.Turns.{turn_ends, turn_first, turn_next}
 use Rattle.node_threads.proofs.network.Network.take_turn.Goals as goal

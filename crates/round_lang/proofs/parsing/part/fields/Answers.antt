@@ -11,31 +11,45 @@ returns-then-begins_with-clause-gives c =
 pub returns-in_err-first-clause-gives : goal.returns-in_err-first-clause-gives
 returns-in_err-first-clause-gives c =
     let p = err_from_is_err_and c.from_residual.result c.from_residual.ensures.1 in
-    rw (p.1, p.2) (fields_first_fails _ (sym c.if-begins_with.ensures) _ c.in_err-first.ensures)
+    rw (p.1, p.2) (fields_first_fails _ (sym c.if-begins_with.ensures) _
+    c.in_err-first.ensures.gives)
 
 pub loop-next-init : goal.loop-next-init
-loop-next-init c = rw (c.in_ok-push.ensures.items, c.new-fields.ensures.items)
-    (fields_first _ _ _ (sym c.if-begins_with.ensures) c.in_ok-first.ensures)
+loop-next-init c = record {
+  reads = rw (c.in_ok-push.ensures.items, c.new-fields.ensures.items)
+      (fields_first _ _ _ (sym c.if-begins_with.ensures) c.in_ok-first.ensures.gives);
+  fewer = c.in_ok-first.ensures.fewer;
+}
 
 pub returns-in_err-next-clause-gives : goal.returns-in_err-next-clause-gives
 returns-in_err-next-clause-gives c =
     let p = err_from_is_err_and c.from_residual-in_err-next.result
     c.from_residual-in_err-next.ensures.1 in
     rw (p.1, p.2)
-    (fields_fails _ _ _ c.loop-next.invariant _
-    (omega (arith, c.len.ensures, c.loop-next.fields.ok.0)) _ (sym c.in-Some.ensures) _
-    c.in_err-next.ensures)
+    (fields_fails _ _ _ c.loop-next.invariant.reads _
+    (omega (arith, c.len.ensures, c.loop-next.fields.ok.0)) _ (sym c.in-Some.ensures.after) _
+    c.in_err-next.ensures.gives)
 
 pub loop-next-smaller : goal.loop-next-smaller
 loop-next-smaller c =
-    fields_shorter _ _ _ c.loop-next.invariant _ _ _ _ (sym c.in-Some.ensures) c.in_ok-next.ensures
+    fields_shorter _ _ _ c.loop-next.invariant.reads _ _ _ _ (sym c.in-Some.ensures.after)
+    c.in_ok-next.ensures.gives
 
 pub loop-next-preserved : goal.loop-next-preserved
-loop-next-preserved c =
-    rw c.in_ok-push-2.ensures.items
-    (fields_next _ _ _ c.loop-next.invariant _
-    (omega (arith, c.len.ensures, c.loop-next.fields.ok.0)) _ _ _ (sym c.in-Some.ensures)
-    c.in_ok-next.ensures)
+loop-next-preserved c = record {
+  reads =
+      rw c.in_ok-push-2.ensures.items
+      (fields_next _ _ _ c.loop-next.invariant.reads _
+      (omega (arith, c.len.ensures, c.loop-next.fields.ok.0)) _ _ _ (sym c.in-Some.ensures.after)
+      c.in_ok-next.ensures.gives);
+  fewer = omega (
+    arith,
+    c.loop-next.invariant.fewer,
+    c.in_ok-next.ensures.fewer,
+    c.in-Some.ensures.fewer,
+  );
+}
 
 pub returns-clause-gives : goal.returns-clause-gives
-returns-clause-gives c = fields_end _ _ _ c.loop-next.invariant (sym c.in_default.ensures)
+returns-clause-gives c =
+    fields_end _ _ _ c.loop-next.invariant.reads (sym c.in_default.ensures.after)

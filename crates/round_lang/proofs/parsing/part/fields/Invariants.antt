@@ -1,10 +1,14 @@
-use Rattle.std.proofs.Common.{length}
+use Rattle.std.proofs.Common.{length, ◌≤◌}
 use Rattle.round_lang.specs.CodeTokens.{lexemes}
 use Rattle.round_lang.proofs.Loops.{FieldsOn}
 use Rattle.round_lang.proofs.parsing.part.fields.Given as goal
 
 abbrev pub invariant-loop-next : goal.invariant-loop-next
-invariant-loop-next l = FieldsOn (lexemes l.tokens) l.fields.items (lexemes l.rest)
+invariant-loop-next l =
+    record {
+      reads : FieldsOn (lexemes l.tokens) l.fields.items (lexemes l.rest);
+      fewer : length l.rest ≤ length l.tokens;
+    }
 
 abbrev pub decreases-loop-next : goal.decreases-loop-next
 decreases-loop-next l = length (lexemes l.rest)

@@ -1,7 +1,7 @@
 use Rattle.std.proofs.Common.{List, ap}
 use Rattle.std.proofs.lemmas.Result.{err_from_is_err_and}
-use Rattle.step_machine.specs.declared.event.Event.{Event}
-use Rattle.step_machine.specs.declared.event.Event.TheVariants.{Release, Step}
+use Rattle.run_events.specs.declared.event.Event.{Event}
+use Rattle.run_events.specs.declared.event.Event.TheVariants.{Release, Step}
 use Rattle.schedule_text.specs.Outcome.{state_of}
 use Rattle.schedule_text.proofs.Lines.{event_front, front_refused, line_taken}
 use Rattle.schedule_text.proofs.draft.Draft.read_front.Goals as goal

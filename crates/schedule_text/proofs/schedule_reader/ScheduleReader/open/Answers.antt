@@ -4,7 +4,7 @@ use Rattle.schedule_text.specs.Intakes.{header_in}
 use Rattle.schedule_text.specs.Readers.{Reading}
 use Rattle.schedule_text.proofs.Readers.{all_opened}
 use Rattle.schedule_text.proofs.schedule_reader.ScheduleReader.open.Goals as goal
-use Rattle.slot_plans.specs.declared.kind.PlanKind.{PlanKind}
+use Rattle.run_events.specs.declared.plan_kind.PlanKind.{PlanKind}
 
 pub returns-in-Some-clause-opened : goal.returns-in-Some-clause-opened
 returns-in-Some-clause-opened g c =

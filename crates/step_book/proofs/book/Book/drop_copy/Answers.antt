@@ -1,4 +1,4 @@
-use Rattle.step_machine.specs.declared.event.Event.TheVariants.{Drop}
+use Rattle.run_events.specs.declared.event.Event.TheVariants.{Drop}
 use Rattle.step_book.proofs.Effects.{drops}
 use Rattle.step_book.proofs.Events.{lost, not_lost, to_fields}
 use Rattle.step_book.proofs.Names.{storable_name}

@@ -1,6 +1,6 @@
 use Rattle.std.proofs.Common.{List, Some, ◌∙◌, ap, arith, get_or, length, sym}
 use Rattle.std.proofs.lemmas.Option.{slice_get-get_or}
-use Rattle.step_machine.specs.declared.event.Name.{Name}
+use Rattle.run_events.specs.declared.name.Name.{Name}
 use Rattle.step_book.proofs.Flight.{flight_whole}
 use Rattle.step_book.proofs.Reading.{of_view}
 use Rattle.step_book.proofs.book.Book.flight.Goals as goal

@@ -1,5 +1,5 @@
 use Rattle.std.proofs.Common.{◌≡◌, List, ◌∙◌, arith, subst, sym}
-use Rattle.step_machine.specs.declared.event.Name.{Name}
+use Rattle.run_events.specs.declared.name.Name.{Name}
 use Rattle.step_book.specs.Agreement.{IsBuffer}
 use Rattle.step_book.specs.Log.{history, waiting_in, world_of}
 use Rattle.step_book.proofs.Reading.{of_view, buffer_once, handed_len, handed_read, lists_len}

@@ -1,5 +1,5 @@
 use Rattle.std.proofs.Common.{refl}
-use Rattle.step_machine.specs.declared.event.Event.TheVariants.{Copy}
+use Rattle.run_events.specs.declared.event.Event.TheVariants.{Copy}
 use Rattle.step_book.specs.declared.mark.Mark.TheVariants.{Flying, Unsent}
 use Rattle.step_book.proofs.Effects.{makes_copy}
 use Rattle.step_book.proofs.Events.{kept, made, not_made, to_fields}

@@ -1,5 +1,5 @@
 use Rattle.std.proofs.Common.{arith}
-use Rattle.step_machine.specs.declared.event.Event.TheVariants.{Step}
+use Rattle.run_events.specs.declared.event.Event.TheVariants.{Step}
 use Rattle.step_book.proofs.Effects.{idles}
 use Rattle.step_book.proofs.Events.{count_le, idle, to_fields}
 use Rattle.step_book.proofs.Reading.{storable_node, nodes_view, of_view, trace_view}

@@ -1,5 +1,5 @@
 use Rattle.std.proofs.Common.{arith, sym, ap, refl}
-use Rattle.step_machine.specs.declared.event.Event.TheVariants.{Step}
+use Rattle.run_events.specs.declared.event.Event.TheVariants.{Step}
 use Rattle.step_book.specs.Mailing.{Mailed}
 use Rattle.step_book.proofs.Effects.{receives}
 use Rattle.step_book.proofs.Events.{count_le, kept, received, to_fields}

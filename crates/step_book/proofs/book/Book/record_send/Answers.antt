@@ -1,9 +1,9 @@
 use Rattle.std.proofs.Common.{◌≡◌, ◌+◌, ◌-◌, ◌*◌, [], ◌∷◌, ◌++◌, get_or, set, arith, sym}
 use Rattle.std.proofs.Common.{subst, ap, ◌∙◌, refl}
-use Rattle.step_machine.specs.declared.event.Event.TheVariants.{Step}
-use Rattle.step_machine.specs.declared.event.Name.{Name}
+use Rattle.run_events.specs.declared.event.Event.TheVariants.{Step}
+use Rattle.run_events.specs.declared.name.Name.{Name}
 use Rattle.step_book.specs.History.{arrival}
-use Rattle.stored_events.specs.Stored.{IsStorableName}
+use Rattle.run_events.specs.Stored.{IsStorableName}
 use Rattle.step_book.proofs.Effects.{sends}
 use Rattle.step_book.proofs.Events.{count_le, kept, sent, to_fields}
 use Rattle.step_book.proofs.Names.{storable_name}

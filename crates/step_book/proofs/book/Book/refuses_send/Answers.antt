@@ -1,5 +1,5 @@
 use Rattle.std.proofs.Common.{◌≡◌, ◌-◌, arith, sym, ap, ◌∙◌}
-use Rattle.step_machine.specs.declared.event.Name.{Name}
+use Rattle.run_events.specs.declared.name.Name.{Name}
 use Rattle.step_book.specs.Log.{round_of, state_before}
 use Rattle.step_book.proofs.Events.{send_facts}
 use Rattle.step_book.proofs.Reading.{of_view, rows_len, rows_view, row_size}

@@ -1,5 +1,5 @@
 use Rattle.std.proofs.Common.{arith, subst, ap, refl}
-use Rattle.step_machine.specs.declared.event.Event.TheVariants.{Release}
+use Rattle.run_events.specs.declared.event.Event.TheVariants.{Release}
 use Rattle.step_book.specs.declared.mark.Mark.TheVariants.{Released, Unsent}
 use Rattle.step_book.specs.Tables.{Puts}
 use Rattle.step_book.specs.Mailing.{Mailed}

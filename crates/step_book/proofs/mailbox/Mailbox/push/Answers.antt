@@ -1,5 +1,5 @@
 use Rattle.std.proofs.Common.{[], ◌∷◌, ◌++◌, ◌∙◌, List, ap}
-use Rattle.step_machine.specs.declared.event.Name.{Name}
+use Rattle.run_events.specs.declared.name.Name.{Name}
 use Rattle.step_book.specs.Mailing.{Mailed}
 use Rattle.step_book.proofs.Mails.{handed_grown}
 use Rattle.step_book.proofs.mailbox.Mailbox.push.Goals as goal

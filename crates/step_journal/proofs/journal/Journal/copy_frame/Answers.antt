@@ -1,7 +1,8 @@
 use Rattle.std.proofs.Common.{◌≡◌, Option, subst, sym}
 use Rattle.std.specs.Prelude.{IfSome, IsSome}
 use Rattle.round_meaning.specs.Rounds.{algorithm_of}
-use Rattle.step_machine.specs.Sealed.{Frame, IsHonest, original}
+use Rattle.run_events.specs.Names.{original}
+use Rattle.step_machine.specs.Sealed.{Frame, IsHonest}
 use Rattle.step_book.specs.Effects.{MakesCopy}
 use Rattle.step_book.specs.Log.{IsFlying, Recorded}
 use Rattle.step_book.specs.Buffers.{IsGenuine}

@@ -1,6 +1,6 @@
 use Rattle.std.proofs.Common.{ap, refl, subst, sym, ◌∙◌}
 use Rattle.round_meaning.specs.Rounds.{algorithm_of}
-use Rattle.step_machine.specs.Sealed.{original}
+use Rattle.run_events.specs.Names.{original}
 use Rattle.step_book.specs.Log.{IsFlying, Recorded}
 use Rattle.step_book.specs.Buffers.{IsGenuine}
 use Rattle.step_journal.specs.Fits.{place_among}

@@ -1,6 +1,6 @@
 use Rattle.std.proofs.Common.{◌<◌, sym, subst}
 use Rattle.round_meaning.specs.Rounds.{algorithm_of}
-use Rattle.step_machine.specs.declared.event.Name.{Name}
+use Rattle.run_events.specs.declared.name.Name.{Name}
 use Rattle.step_book.specs.Effects.{Sends}
 use Rattle.step_book.specs.Log.{Recorded}
 use Rattle.step_journal.proofs.BufferViews.{fit_view, fits_hushed, fits_kept, fits_sent, fits_view}

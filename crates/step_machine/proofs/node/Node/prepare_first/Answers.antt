@@ -1,5 +1,5 @@
 use Rattle.std.proofs.Common.{◌≡◌, ap, sym, subst, ◌∙◌}
-use Rattle.step_machine.specs.declared.event.Name.{Name}
+use Rattle.run_events.specs.declared.name.Name.{Name}
 use Rattle.step_machine.specs.declared.origin.Origin.{Origin}
 use Rattle.step_machine.specs.Nodes.{NodeView}
 use Rattle.step_machine.specs.NodeInside.{node_seen}

@@ -1,7 +1,7 @@
 use Rattle.std.proofs.Common.{◌≡◌, ◌+◌, ◌-◌, ◌<◌, ◌≤◌, Some, [], get_or, set, ap, refl, ◌∙◌, arith}
 use Rattle.std.proofs.Common.{length, sym, subst}
 use Rattle.std.proofs.lemmas.List.{get_or_read_under}
-use Rattle.step_machine.specs.declared.event.Name.{Name}
+use Rattle.run_events.specs.declared.name.Name.{Name}
 use Rattle.step_machine.specs.Sealed.{HeldRow, IsHonest}
 use Rattle.step_machine.specs.Nodes.{AreHeld, IsFrom, NodeView, ahead, algorithm_in}
 use Rattle.step_machine.specs.NodeInside.{node_seen}
