@@ -12,7 +12,7 @@ use Rattle.command_runs.specs.Refused.{IsUnanswered, IsUnrealised}
 use Rattle.command_runs.specs.Refused.{Fault, HasNoText, Later, fault_in}
 use Rattle.command_runs.specs.Served.{AnswersRun, IsCheckedSource, JudgesRun, NamesColumns, Opens}
 use Rattle.command_runs.specs.Served.{IsFormed, IsReportText, ReportsRounds, Serves, data_text}
-use Rattle.command_runs.specs.Served.{file_name, told_text, verdict_as}
+use Rattle.command_runs.specs.Served.{file_name, omitted_text, told_text, verdict_as}
 use Rattle.command_runs.specs.Stages.{IsHeldBack, IsRefusedAnswer, IsUntold, IsUntoldReport}
 use Rattle.command_runs.specs.Stages.{TellsAnswer}
 use Rattle.command_runs.specs.Texts.{Files}
@@ -180,6 +180,7 @@ formed format.Text report told = (told_text report told, refl)
 formed format.Json report told = (data_text report told, refl)
 formed format.Table report told = ([], tt)
 formed format.Summary report told = ([], tt)
+formed format.Omissions report told = (omitted_text report told, refl)
 
 -- if there is no memory for an answer, there may be none for what comes before it
 pub unanswered_memory : (source : Source) (files : Files) (file : Option (List ℕ))

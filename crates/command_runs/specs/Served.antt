@@ -66,6 +66,7 @@ use Rattle.omission_explainer.specs.Verdict.{verdict_text}
 use Rattle.omission_explainer.specs.declared.judging.Verdict.{Verdict}
 use Rattle.omission_explainer.specs.declared.report.Report.{Report}
 use Rattle.round_check.specs.Causes.{is_typed}
+use Rattle.run_data.specs.Omitted.{omissions_text}
 use Rattle.run_data.specs.ReportData.{report_data}
 use Rattle.round_lang.specs.Limits.{max_text}
 use Rattle.round_lang.specs.Source.{IsSource}
@@ -304,6 +305,12 @@ decided_data told all =
 abbrev pub data_text : Report → Bool → List ℕ
 data_text report told = report_data report ++ decided_data told (summary_of report.rows)
 
+-- the messages that it omits as an omission file, with a comment on the decisions if asked for
+abbrev pub omitted_text : Report → Bool → List ℕ
+omitted_text report told =
+    omissions_text report ++ (if told then codes "# " else [])
+    ++ decided_line told (summary_of report.rows)
+
 -- a table of named variables is asked for
 abbrev pub NamesColumns : Form → Type 0
 NamesColumns form = (form.format ≡ format.Table) × IsSome form.variables
@@ -314,6 +321,7 @@ IsFormed format.Text report told text = text ≡ told_text report told
 IsFormed format.Json report told text = text ≡ data_text report told
 IsFormed format.Table report told text = ⊤
 IsFormed format.Summary report told text = ⊤
+IsFormed format.Omissions report told text = text ≡ omitted_text report told
 
 -- the text is the report in this form
 abbrev pub IsReportText : Form → Report → List ℕ → Type 0

@@ -2,7 +2,7 @@
 ghost use Rattle.std.specs.Prelude.{◌≡◌, ◌⊎◌, IfErr, IfOk, IsSome, OnOk, true};
 ghost use Rattle.std.specs.Io.KnownBytes.{Appends};
 ghost use Rattle.command_runs.specs.Refused.{IsSilent};
-ghost use Rattle.command_runs.specs.Served.{SaysReport, data_text, decided_data};
+ghost use Rattle.command_runs.specs.Served.{SaysReport, data_text, decided_data, omitted_text};
 ghost use Rattle.command_runs.specs.Served.{summary_as, summary_data, summary_text, told_text};
 ghost use Rattle.command_runs.specs.Served.{truth_text, verdict_as, verdict_data};
 ghost use Rattle.command_runs.specs.Stages.{IsUntoldReport};
@@ -14,7 +14,9 @@ use command_words::{AnswerFormat, Blocks, Form, Format};
 use omission_explainer::{Decided, Report, Verdict, decided, write_report};
 use round_check::Checked;
 use round_lang::Identifier;
-use run_data::{Grouping, TableOptions, write_report_data, write_summary, write_table};
+use run_data::{
+    Grouping, TableOptions, write_omissions, write_report_data, write_summary, write_table,
+};
 use std::alloc::Global;
 use std::io;
 use std::io::Write;
@@ -205,6 +207,22 @@ fn summary_of(alloc: Global, report: &Report, form: Form<'_>) -> Result<Vec<u8>,
     with_decided(report, form.decided, text)
 }
 
+/// The messages that a report omits as an omission file, and behind them a comment on the decisions
+/// if `told` says so.
+fn omissions_of(alloc: Global, report: &Report, told: bool) -> Result<Vec<u8>, Refusal>
+    ensures ok { IfOk result (λ text. text.items ≡ omitted_text report.now told) }
+    ensures err { IfErr result (λ r. r ≡ Refusal.NoMemory) }
+{
+    let mut text = Vec::new(alloc);
+    if write_omissions(alloc, report, &mut text).is_err() {
+        return Err(Refusal::NoMemory);
+    }
+    if told && writeln!(text, "# decided {}", decided(report)).is_err() {
+        return Err(Refusal::NoMemory);
+    }
+    Ok(text)
+}
+
 /// The text with a last line on the decisions, if `told` says so.
 fn with_decided(report: &Report, told: bool, text: Vec<u8>) -> Result<Vec<u8>, Refusal>
     ensures err { IfErr result (λ r. r ≡ Refusal.NoMemory) }
@@ -247,5 +265,6 @@ pub(crate) fn tell_report<O: Write>(
         Format::Json => print(&data_of(alloc, report, form.decided)?, out),
         Format::Table => print(&table_of(alloc, report, form)?, out),
         Format::Summary => print(&summary_of(alloc, report, form)?, out),
+        Format::Omissions => print(&omissions_of(alloc, report, form.decided)?, out),
     }
 }

@@ -36,7 +36,8 @@ words_line Seed = Some (codes
     "error: `--seed` is a number of 0 to 4294967295, and goes with `--sample`\n")
 words_line Range = Some (codes
     "error: `--rounds` is A-B, two numbers of 1 to 4294967295 with A <= B\n")
-words_line Format = Some (codes "error: `--format` is `text`, `json`, `table` or `summary`\n")
+words_line Format =
+    Some (codes "error: `--format` is `text`, `json`, `table`, `summary` or `omissions`\n")
 words_line AnswerFormat = Some (codes "error: `--format` is `text` or `json`\n")
 words_line Blocks = Some (codes "error: `--by` is `round` or `node`\n")
 words_line NoMemory = Some (codes "no memory\n")

@@ -73,6 +73,7 @@ FormatText text format.Text = text ≡ codes "text"
 FormatText text format.Json = text ≡ codes "json"
 FormatText text format.Table = text ≡ codes "table"
 FormatText text format.Summary = text ≡ codes "summary"
+FormatText text format.Omissions = text ≡ codes "omissions"
 
 -- the format of an answer that is no report
 abbrev pub AnswerFormatText : Text → AnswerFormat → Type 0

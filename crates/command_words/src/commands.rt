@@ -244,7 +244,10 @@ fn with_form<'a>(alloc: Global, command: Command<'a>) -> Result<Command<'a>, All
 {
     command
         .arg(decided_arg(alloc))?
-        .arg(format_arg(alloc, "text (by default), json, table or summary"))?
+        .arg(format_arg(
+            alloc,
+            "text (by default), json, table, summary or omissions",
+        ))?
         .arg(optional_arg(
             alloc,
             "by",

@@ -21,6 +21,8 @@ pub enum Format {
     Table,
     /// A line for each node, and what each round lost.
     Summary,
+    /// The omitted messages, as the lines of an omission file.
+    Omissions,
 }
 
 /// What an answer that is no report is printed as.
@@ -80,6 +82,7 @@ fn format_of(matches: &ArgMatches<'_>) -> Result<Format, WordsFault>
         Some("json") => Ok(Format::Json),
         Some("table") => Ok(Format::Table),
         Some("summary") => Ok(Format::Summary),
+        Some("omissions") => Ok(Format::Omissions),
         Some(_) => Err(WordsFault::Format),
     }
 }

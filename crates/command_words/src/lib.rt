@@ -28,8 +28,8 @@
 //! 1,024, J one of 1 to 256, and all others are numbers of 32 bits, C of `--clear` and COUNT of 1
 //! on. RANGE is `A-B`, two such numbers of 1 on with A no larger than B, and I is one of 1 to N,
 //! which is 65,536 at most. EXPR is any text. FORMAT is `text` or `json`, or for `run` and `rounds`
-//! also `table` or `summary`, and BY is `round` or `node`. What two dots follow may be there
-//! several times.
+//! also `table`, `summary` or `omissions`, and BY is `round` or `node`. What two dots follow may be
+//! there several times.
 #![tactic(auto)]
 
 mod changes;

@@ -162,7 +162,7 @@ pub enum WordsFault {
     /// A RANGE that isn't two numbers of 1 to the largest of 32 bits with `-` between them, or
     /// whose first is larger than its last; also one that begins with a number below 0.
     Range,
-    /// A report's FORMAT that isn't `text`, `json`, `table` or `summary`.
+    /// A report's FORMAT that isn't `text`, `json`, `table`, `summary` or `omissions`.
     Format,
     /// An answer's FORMAT that isn't `text` or `json`.
     AnswerFormat,
@@ -242,7 +242,7 @@ impl fmt::Display for WordsFault {
             WordsFault::Format => {
                 writeln!(
                     f,
-                    "error: `--format` is `text`, `json`, `table` or `summary`"
+                    "error: `--format` is `text`, `json`, `table`, `summary` or `omissions`"
                 )
             }
             WordsFault::AnswerFormat => writeln!(f, "error: `--format` is `text` or `json`"),

@@ -3,3 +3,4 @@ pub mod Left
 pub mod Lines
 pub mod Plain
 pub mod Written
+pub mod Omitted
