@@ -556,7 +556,7 @@ class Generator:
         """Writes the options of a report."""
         options = [("--decided",)] * self.often(0.3) + [("--changed",)] * self.often(0.2)
         if self.often(0.4):
-            forms = ["text", "json", "json", "table", "table", "table", "summary"]
+            forms = ["text", "json", "json", "table", "table", "table", "summary", "omissions"]
             options.append(("--format", self.number(forms, ["", "JSON", "csv", "tables"])))
         if self.often(0.2):
             options.append(("--by", self.number(["round", "node", "node"], ["", "rounds", "0"])))

@@ -544,9 +544,9 @@ def check_forms(command, source, options):
     if source.startswith("@") and not re.fullmatch(r"@[A-Za-z_][A-Za-z0-9_]*:[0-9]+", source):
         raise BadWords("error: SOURCE is a file, or `@`, a name, `:` and digits")
     has_report = command in ("run", "rounds")
-    formats = ["text", "json"] + ["table", "summary"] * has_report
+    formats = ["text", "json"] + ["table", "summary", "omissions"] * has_report
     if has_report and options.get("format", "text") not in formats:
-        raise BadWords("error: `--format` is `text`, `json`, `table` or `summary`")
+        raise BadWords("error: `--format` is `text`, `json`, `table`, `summary` or `omissions`")
     if options.get("by", "round") not in ("round", "node"):
         raise BadWords("error: `--by` is `round` or `node`")
     if not is_list(options.get("correct", "0")):
@@ -726,6 +726,9 @@ def formed(run, checked, options):
         return reading_data.json_text(report) + last
     if form == "summary":
         return reading_data.summary_text(report) + run.told(options)
+    if form == "omissions":
+        comment = "# " if "decided" in options else ""
+        return reading_data.omissions_text(report) + comment + run.told(options)
     places = places_of([it.name for it in checked.variables], options)
     by, changed = options.get("by", "round"), "changed" in options
     return reading_data.table_text(report, by, places, changed) + run.told(options)

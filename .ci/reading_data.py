@@ -139,6 +139,12 @@ def summary_text(report):
     return text + "\n" + aligned([totals])
 
 
+def omissions_text(report):
+    """Returns a line for each message that a row omits, as an omission file has it."""
+    omitted = [(it, sender) for it in report.rows for sender in nodes(it.omitted)]
+    return "".join(f"omit {it.node} {it.round} {sender}\n" for it, sender in omitted)
+
+
 # Back from JSON
 
 

@@ -1,7 +1,8 @@
 //! Reports as data and as tables.
 use crate::short_writer::ShortWriter;
 use omission_explainer::{Report, explain, write_report};
-use run_data::{DataFault, Grouping, TableOptions, write_report_data, write_summary, write_table};
+use run_data::{DataFault, Grouping, TableOptions};
+use run_data::{write_omissions, write_report_data, write_summary, write_table};
 use slot_plans::Plan;
 use std::alloc::Global;
 use std::io::{ErrorKind, Write};
@@ -15,6 +16,7 @@ enum Form {
     Json,
     Table,
     Summary,
+    Omissions,
 }
 
 /// The form of a report, and what a table shows of it.
@@ -74,6 +76,7 @@ impl Data {
             Form::Text => Ok(write_report(report, out)?),
             Form::Json => write_report_data(alloc, report, out),
             Form::Summary => write_summary(alloc, report, out),
+            Form::Omissions => write_omissions(alloc, report, out),
             Form::Table => {
                 let options = TableOptions {
                     by: self.by,
@@ -103,6 +106,7 @@ fn form_of(word: &str) -> Result<Form, Fault> {
         "json" => Ok(Form::Json),
         "table" => Ok(Form::Table),
         "summary" => Ok(Form::Summary),
+        "omissions" => Ok(Form::Omissions),
         _ => Err(Fault::Unreadable),
     }
 }

@@ -12,8 +12,8 @@
 //!
 //! - the picture of the run, or `refused` and why there is none; the title is SOURCE if none is
 //!   given;
-//! - the report in FORM: `json`, `table`, `summary` or `text`, which is the report's own. With
-//!   `narrow` the writer fails behind N bytes, and what it took comes before the fault;
+//! - the report in FORM: `json`, `table`, `summary`, `omissions` or `text`, which is the report's
+//!   own. With `narrow` the writer fails behind N bytes, and what it took comes before the fault;
 //! - with `reasons` a line for each copy that a report of the run doesn't show as heard, message by
 //!   message, with what became of it; with `idle` one for each event of the network that did
 //!   nothing, with its place and why.
