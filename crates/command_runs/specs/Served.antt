@@ -305,7 +305,7 @@ decided_data told all =
 abbrev pub data_text : Report → Bool → List ℕ
 data_text report told = report_data report ++ decided_data told (summary_of report.rows)
 
--- the messages that it omits as an omission file, with a comment on the decisions if asked for
+-- the messages that it omits as an omission file, and if asked for, a comment on its decisions
 abbrev pub omitted_text : Report → Bool → List ℕ
 omitted_text report told =
     omissions_text report ++ (if told then codes "# " else [])

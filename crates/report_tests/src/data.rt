@@ -1,8 +1,10 @@
 //! Reports as data and as tables.
 use crate::short_writer::ShortWriter;
 use omission_explainer::{Report, explain, write_report};
-use run_data::{DataFault, Grouping, TableOptions};
-use run_data::{write_omissions, write_report_data, write_summary, write_table};
+use run_data::{
+    DataFault, Grouping, TableOptions, write_omissions, write_report_data, write_summary,
+    write_table,
+};
 use slot_plans::Plan;
 use std::alloc::Global;
 use std::io::{ErrorKind, Write};
