@@ -3,7 +3,7 @@ use Rattle.std.specs.Prelude.{◌≡◌, ◌+◌}
 use Rattle.lockstep_runs.specs.Lockstep as tables
 use Rattle.lockstep_runs.specs.declared.lockstep.TheConstants as table_code
 use Rattle.round_lang.specs.Limits as language
-use Rattle.round_lang.specs.declared.parsing.TheConstants as language_code
+use Rattle.round_lang.specs.declared.limits.TheConstants as language_code
 use Rattle.round_meaning.specs.Setups as setups
 use Rattle.round_meaning.specs.declared.setup.TheConstants as setup_code
 use Rattle.run_events.specs.Laws as runs
