@@ -225,6 +225,7 @@ fn step<P: Plan>(journal: &mut Journal<P>, node: &mut Node, me: u32) -> Result<(
     ensures settled { OnOk result (IsSettled (P.start journal.new.plan) journal.new.log me) }
 {
     let book = journal.book();
+    book.agrees();
     let round = book.round_of(me);
     if round > book.setup().rounds {
         return idle(journal, me);
