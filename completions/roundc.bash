@@ -61,7 +61,7 @@ _roundc_choices() {
         'run --format' | \
         'rounds --format' | \
         'why run --format' | \
-        'why rounds --format') choices='text json table summary' ;;
+        'why rounds --format') choices='text json table summary omissions' ;;
         'run --by' | \
         'rounds --by' | \
         'why run --by' | \
