@@ -16,6 +16,7 @@ mod escaped;
 mod fault;
 mod flag;
 mod grid;
+mod heading;
 mod history;
 mod lane;
 mod legend;

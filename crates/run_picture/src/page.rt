@@ -3,8 +3,8 @@ ghost use Rattle.std.specs.Prelude.{◌≡◌, ◌≢◌, ◌<◌, ◌↔◌, Er
 ghost use Rattle.run_picture.specs.declared.fault.PictureFault.TheVariants as fault;
 
 use crate::drawing::Drawing;
-use crate::escaped::Escaped;
 use crate::fault::PictureFault;
+use crate::heading::Heading;
 use crate::rows::{ReportText, Rows};
 use crate::svg::write_svg;
 use crate::svg_lanes::Words;
@@ -118,7 +118,12 @@ impl Asked<'_> {
             lines: &lines,
             rows,
         };
-        write_drawing(&drawing, &words, self.title, self.view.html, out)?;
+        let view = self.view.within(book.setup().rounds);
+        let heading = Heading {
+            title: self.title,
+            view: &view,
+        };
+        write_drawing(&drawing, &words, heading, out)?;
         Ok(())
     }
 }
@@ -126,30 +131,28 @@ impl Asked<'_> {
 fn write_drawing<O: Write>(
     drawing: &Drawing,
     words: &Words<'_>,
-    title: &str,
-    is_page: bool,
+    heading: Heading<'_>,
     out: &mut O,
 ) -> io::Result<()> {
-    if is_page {
-        return write_page(drawing, words, title, out);
+    if heading.view.html {
+        return write_page(drawing, words, heading, out);
     }
     writeln!(out, "<?xml version=\"1.0\" encoding=\"UTF-8\"?>")?;
-    write_svg(drawing, words, title, out)
+    write_svg(drawing, words, heading, out)
 }
 
 /// Writes an HTML page, in which a wide picture is scrolled.
 fn write_page<O: Write>(
     drawing: &Drawing,
     words: &Words<'_>,
-    title: &str,
+    heading: Heading<'_>,
     out: &mut O,
 ) -> io::Result<()> {
-    let shown = Escaped(title);
     writeln!(out, "<!DOCTYPE html>\n<html lang=\"en\">\n<head>")?;
-    writeln!(out, "<meta charset=\"utf-8\"/>\n<title>{shown}</title>")?;
+    writeln!(out, "<meta charset=\"utf-8\"/>\n<title>{heading}</title>")?;
     out.write_all(PAGE_STYLE.as_bytes())?;
     writeln!(out, "</head>\n<body>")?;
-    write_svg(drawing, words, title, out)?;
+    write_svg(drawing, words, heading, out)?;
     writeln!(out, "</body>\n</html>")
 }
 

@@ -1,7 +1,7 @@
 //! A drawing as an SVG element.
 use crate::described::write_description;
 use crate::drawing::Drawing;
-use crate::escaped::Escaped;
+use crate::heading::Heading;
 use crate::legend::{legend_height, write_legend};
 use crate::style::{MARKERS, STYLE};
 use crate::svg_arrows::{write_arrows, write_flags};
@@ -9,18 +9,15 @@ use crate::svg_lanes::{Words, write_lanes, write_steps};
 use std::io;
 use std::io::Write;
 
-/// The most characters of a title for which a picture is made wider.
-const MAX_HEADING: usize = 400;
-
 /// Writes the element. What stands later lies above what stands before it: rounds, arrows, steps,
 /// flags.
 pub(crate) fn write_svg<O: Write>(
     drawing: &Drawing,
     words: &Words<'_>,
-    title: &str,
+    heading: Heading<'_>,
     out: &mut O,
 ) -> io::Result<()> {
-    let width = drawing.grid.width().max(heading_width(title));
+    let width = drawing.grid.width().max(heading.width());
     let legend = legend_height(drawing);
     let height = drawing.grid.bottom().saturating_add(legend);
     write!(
@@ -32,15 +29,14 @@ pub(crate) fn write_svg<O: Write>(
         "height=\"{height}\" viewBox=\"0 0 {width} {height}\" role=\"img\" \
          aria-labelledby=\"title description\">"
     )?;
-    write_head(drawing, title, out)?;
+    write_head(drawing, heading, out)?;
     writeln!(
         out,
         "<rect class=\"page\" width=\"{width}\" height=\"{height}\"/>"
     )?;
-    let shown = Escaped(title);
     writeln!(
         out,
-        "<text class=\"heading\" x=\"16\" y=\"28\">{shown}</text>"
+        "<text class=\"heading\" x=\"16\" y=\"28\">{heading}</text>"
     )?;
     write_lanes(drawing, words, out)?;
     write_arrows(drawing, words.lines, out)?;
@@ -50,16 +46,9 @@ pub(crate) fn write_svg<O: Write>(
     writeln!(out, "</svg>")
 }
 
-/// The width of a title as a heading, if its characters are as wide as most.
-fn heading_width(title: &str) -> u32 {
-    let count = title.chars().count().min(MAX_HEADING);
-    10 * count as u32 + 32
-}
-
 /// Writes the title, the description, the style sheet and the ends of arrows.
-fn write_head<O: Write>(drawing: &Drawing, title: &str, out: &mut O) -> io::Result<()> {
-    let shown = Escaped(title);
-    writeln!(out, "<title id=\"title\">{shown}</title>")?;
+fn write_head<O: Write>(drawing: &Drawing, heading: Heading<'_>, out: &mut O) -> io::Result<()> {
+    writeln!(out, "<title id=\"title\">{heading}</title>")?;
     write!(out, "<desc id=\"description\">")?;
     write_description(drawing, out)?;
     writeln!(out, "</desc>")?;

@@ -24,6 +24,18 @@ pub struct View {
 }
 
 impl View {
+    /// The same of a run with so many rounds: its range ends with the last one at the latest.
+    pub(crate) fn within(&self, last_round: u32) -> View {
+        let rounds = match self.rounds {
+            Some(RoundRange { first, last }) => Some(RoundRange {
+                first,
+                last: last.min(last_round),
+            }),
+            None => None,
+        };
+        View { rounds, ..*self }
+    }
+
     pub(crate) fn shows_round(&self, round: u32) -> bool {
         self.shows_number(u64::from(round))
     }

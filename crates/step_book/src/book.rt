@@ -207,7 +207,7 @@ impl<P: Plan> Book<P> {
         ensures value { result ≡ round_of self.now.log node }
         ensures low { 0 < result }
         ensures high { result ≤ self.now.log.setup.rounds + 1 }
-        ensures small { result ≤ 4097 }
+        ensures small { result ≤ max_rounds + 1 }
     {
         self.states[node as usize].len() as u32
     }

@@ -44,4 +44,4 @@ pub record FitsNode (start : ℕ → ℕ) (v : Log) (i : ℕ) (b : BufferView) :
   pub program : b.program ≡ v.program
   pub setup : b.setup ≡ v.setup
   pub waiting : AreNamed v.rows b.waiting (waiting_in start v i)
-  pub flying : (k : ℕ) → k ≤ 3 → FliesAs start v b i k v.setup.rounds
+  pub flying : (k : ℕ) → k ≤ max_copy → FliesAs start v b i k v.setup.rounds

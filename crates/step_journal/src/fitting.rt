@@ -84,7 +84,7 @@ fn is_recorded<P: Plan>(book: &Book<P>, frame: &SealedView<'_>) -> bool
 /// Whether the frames in flight to a node are those that the book names.
 fn fly<P: Plan>(book: &Book<P>, buffer: &Buffer, node: u32) -> bool
     requires { node < book.now.log.setup.nodes }
-    ensures { IsTrue result ↔ ((k : ℕ) → k ≤ 3
+    ensures { IsTrue result ↔ ((k : ℕ) → k ≤ max_copy
         → FliesAs
         (P.start book.now.plan) book.now.log buffer.now node k book.now.log.setup.rounds) }
 {

@@ -1,0 +1,59 @@
+//! What stands over a picture.
+use crate::escaped::Escaped;
+use crate::view::{RoundRange, View};
+use round_meaning::NodeSet;
+use run_events::MAX_NODES;
+use std::fmt;
+
+/// The most characters of a title for which a picture is made wider.
+const MAX_TITLE: usize = 400;
+
+/// The title of a picture, and behind it which rounds and nodes are shown if these aren't all.
+#[derive(Clone, Copy)]
+pub(crate) struct Heading<'a> {
+    pub title: &'a str,
+    pub view: &'a View,
+}
+
+impl Heading<'_> {
+    /// The width, if the characters are as wide as most.
+    pub(crate) fn width(&self) -> u32 {
+        let title = self.title.chars().count().min(MAX_TITLE);
+        let rounds = if self.view.rounds.is_some() { 22 } else { 0 };
+        let nodes = if self.view.nodes.is_some() { 46 } else { 0 };
+        10 * (title as u32 + rounds + nodes) + 32
+    }
+}
+
+impl fmt::Display for Heading<'_> {
+    fn fmt<W: fmt::Write>(&self, f: &mut fmt::Formatter<W>) -> fmt::Result {
+        let title = Escaped(self.title);
+        write!(f, "{title}")?;
+        if let Some(rounds) = self.view.rounds {
+            write_rounds(rounds, f)?;
+        }
+        if let Some(nodes) = self.view.nodes {
+            write_nodes(nodes, f)?;
+        }
+        Ok(())
+    }
+}
+
+fn write_rounds<W: fmt::Write>(rounds: RoundRange, f: &mut fmt::Formatter<W>) -> fmt::Result {
+    let RoundRange { first, last } = rounds;
+    if first == last {
+        return write!(f, ", round {first}");
+    }
+    write!(f, ", rounds {first} to {last}")
+}
+
+fn write_nodes<W: fmt::Write>(nodes: NodeSet, f: &mut fmt::Formatter<W>) -> fmt::Result {
+    let mut before = ", nodes ";
+    for node in 0..MAX_NODES {
+        if nodes.contains(node) {
+            write!(f, "{before}{node}")?;
+            before = ",";
+        }
+    }
+    Ok(())
+}
