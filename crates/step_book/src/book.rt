@@ -1,6 +1,7 @@
 //! What a run has recorded, by the names of its messages.
 ghost use Rattle.std.specs.Prelude.{◌≡◌, ◌+◌, ◌-◌, ◌*◌, ◌^◌, ◌<◌, ◌≤◌, ◌↔◌, IfErr, IfOk};
 ghost use Rattle.std.specs.Prelude.{IfSome, IsTrue, MatchOption, None, OnErr, OnOk};
+ghost use Rattle.run_events.specs.Limits.{max_rounds};
 ghost use Rattle.round_meaning.specs.Rounds.{algorithm_of};
 ghost use Rattle.round_meaning.specs.Setups.{IsLawful};
 ghost use Rattle.step_machine.specs.Sealed.{IsPrepared};
