@@ -1,4 +1,7 @@
 //! What stands over a picture.
+ghost use Rattle.std.specs.Prelude.{◌≤◌};
+ghost use Rattle.run_events.specs.Limits.{max_nodes};
+
 use crate::escaped::Escaped;
 use crate::view::{RoundRange, View};
 use round_meaning::NodeSet;
@@ -20,7 +23,10 @@ impl Heading<'_> {
     pub(crate) fn width(&self) -> u32 {
         let title = self.title.chars().count().min(MAX_TITLE);
         let rounds = if self.view.rounds.is_some() { 22 } else { 0 };
-        let nodes = if self.view.nodes.is_some() { 46 } else { 0 };
+        let nodes = match self.view.nodes {
+            Some(nodes) => 8 + 3 * count(nodes),
+            None => 0,
+        };
         10 * (title as u32 + rounds + nodes) + 32
     }
 }
@@ -37,6 +43,19 @@ impl fmt::Display for Heading<'_> {
         }
         Ok(())
     }
+}
+
+/// How many nodes there are, 16 at the most.
+fn count(nodes: NodeSet) -> u32
+    ensures { result ≤ max_nodes }
+{
+    let mut count = 0_u32;
+    for node in 0..MAX_NODES {
+        if nodes.contains(node) {
+            count = count.saturating_add(1);
+        }
+    }
+    count.min(MAX_NODES)
 }
 
 fn write_rounds<W: fmt::Write>(rounds: RoundRange, f: &mut fmt::Formatter<W>) -> fmt::Result {
