@@ -138,6 +138,8 @@ class Mistake:
             return "an assignment is written with :=, as in a := m;"
         if self.sees("=|<>|<|<=|>|>=") and self.can("+"):
             return "a comparison has two sides: for a < b < c write a < b and b < c"
+        if self.sees(r"\+|-|union|minus") and self.can(":="):
+            return "the new value is written as a whole: a := a + 1;"
         if self.sees("-") and self.can("a word for a value"):
             return "there are no numbers below 0; a - b stops at 0"
         if self.sees(r"\(") and self.can("+") and self.is_behind(r"'\w+"):
@@ -176,6 +178,10 @@ class Mistake:
             return "a field has a type: message (s: set)"
         if self.must("(") and self.is_behind(":"):
             return "the values that are sent stand in ( and ): send when c: (a)"
+        if self.sees(":") and self.can(":="):
+            return "an assignment is written with :=, and the last part end:"
+        if self.sees("round") and self.can("at"):
+            return 'a block begins with "at", as in at 1:'
         if self.sees(";") and (self.can("state", "send", "on") or self.in_list()):
             return "only assignments end with a semicolon"
         if self.in_list() and self.can("end") and (self.sees("at") or not self.rest):

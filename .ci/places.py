@@ -32,7 +32,7 @@ TOP = os.path.dirname(os.path.dirname(os.path.realpath(__file__)))
 
 # What is often written at first.
 MISTAKEN = """! != || // -- in elif to states unoin True EMPTY {} {1,2} [0,0] -1 ; := int size
-decide end at message(s) {v|true} if""".split()
+decide end at message(s) {v|true} if += round :""".split()
 
 
 def changed(choose, text):

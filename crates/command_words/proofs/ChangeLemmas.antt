@@ -39,6 +39,7 @@ fails_weaker A B fault.Range so h = h
 fails_weaker A B fault.Format so h = h
 fails_weaker A B fault.AnswerFormat so h = h
 fails_weaker A B fault.Blocks so h = h
+fails_weaker A B fault.InputTwice so h = h
 fails_weaker A B fault.NoMemory so h = h
 
 -- a member of the texts behind references

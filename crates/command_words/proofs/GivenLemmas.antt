@@ -106,7 +106,10 @@ by_no_terms rows e h =
 by_no_omissions : (rows : List Row) (e : Error) → ¬ (FailsByOmissions rows (fault.Refused e))
 by_no_omissions rows e h = elim h [
   | inl source ↦ source
-  | inr file ↦ elim file [ inl header ↦ header | inr omissions ↦ omissions ]
+  | inr file ↦ elim file [
+    | inl header ↦ header
+    | inr more ↦ elim more [ inl omissions ↦ omissions | inr inputs ↦ inputs ]
+  ]
 ]
 
 by_no_rounds : (rows : List Row) (e : Error) → ¬ (FailsByRounds rows (fault.Refused e))
@@ -125,7 +128,10 @@ by_no_lockstep rows e h = elim h [
           | inl orders ↦ orders
           | inr more ↦ elim more [
             | inl ticks ↦ ticks
-            | inr changes ↦ elim changes [ inl stops ↦ stops | inr delays ↦ delays ]
+            | inr more ↦ elim more [
+              | inl changes ↦ elim changes [ inl stops ↦ stops | inr delays ↦ delays ]
+              | inr inputs ↦ inputs
+            ]
           ]
         ]
       ]
@@ -200,6 +206,7 @@ lack_explained words name rows fault.Format none is lack = (none, (name, rows, i
 lack_explained words name rows fault.AnswerFormat none is lack =
     (none, (name, rows, is, lack))
 lack_explained words name rows fault.Blocks none is lack = (none, (name, rows, is, lack))
+lack_explained words name rows fault.InputTwice none is lack = (none, (name, rows, is, lack))
 lack_explained words name rows fault.NoMemory none is lack = tt
 
 -- what the code makes of an error explains the refusal
@@ -229,6 +236,7 @@ mistake_explained words error fault.Range kinds is = inr is
 mistake_explained words error fault.Format kinds is = absurd is
 mistake_explained words error fault.AnswerFormat kinds is = absurd is
 mistake_explained words error fault.Blocks kinds is = absurd is
+mistake_explained words error fault.InputTwice kinds is = absurd is
 mistake_explained words error fault.NoMemory kinds is = tt
 
 or_else_right : (a b : Kinds) → or_else a b ≡ [] → b ≡ []

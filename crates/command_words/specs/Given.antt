@@ -12,6 +12,7 @@ use Rattle.run_events.specs.Limits.{max_delta}
 use Rattle.command_words.specs.Changes.{FailsByChanges, GivesChanges}
 use Rattle.command_words.specs.Commands.{roundc_app}
 use Rattle.command_words.specs.Exploring.{FailsByExploring, GivesExploring, GivesOr, HasNoValue}
+use Rattle.command_words.specs.Inputs.{FailsByInputs, ReadsInputTwice}
 use Rattle.command_words.specs.Values.{AnswerFormatText, BlocksText, FormatText, IsNoList}
 use Rattle.command_words.specs.Values.{ListText, NumberText, RangeText, SourceText, is_negative}
 use Rattle.command_words.specs.declared.drawing.Drawing.{Drawing}
@@ -123,13 +124,14 @@ Gives name rows (Lockstep source header correct delta gst delays orders ticks ch
     × GivesSource rows source × (first_of (codes "header") rows ≡ Some header.now)
     × GivesTerms rows correct.items delta gst × GivesTable (codes "delays") rows delays.items
     × GivesTable (codes "orders") rows orders.items × GivesTicks rows ticks
-    × GivesChanges rows changes
+    × GivesChanges rows changes × ¬ (ReadsInputTwice rows)
 Gives name rows (Realise source header omissions) = (name ≡ codes "realise")
     × GivesSource rows source × (first_of (codes "header") rows ≡ Some header.now)
-    × (first_of (codes "omissions") rows ≡ Some omissions.now)
+    × (first_of (codes "omissions") rows ≡ Some omissions.now) × ¬ (ReadsInputTwice rows)
 Gives name rows (Rounds source header omissions form) = (name ≡ codes "rounds")
     × GivesSource rows source × (first_of (codes "header") rows ≡ Some header.now)
     × (first_of (codes "omissions") rows ≡ Some omissions.now) × GivesForm rows form
+    × ¬ (ReadsInputTwice rows)
 Gives name rows (Explore source header exploring f) = (name ≡ codes "explore")
     × GivesSource rows source × (first_of (codes "header") rows ≡ Some header.now)
     × GivesExploring rows exploring × GivesFormat rows f
@@ -248,12 +250,14 @@ FailsByLockstep rows fault =
     ⊎ (FailsByTerms rows fault
     ⊎ (FailsByTable (codes "delays") rows fault
     ⊎ (FailsByTable (codes "orders") rows fault
-    ⊎ (FailsByTicks rows fault ⊎ FailsByChanges rows fault)))))
+    ⊎ (FailsByTicks rows fault
+    ⊎ (FailsByChanges rows fault ⊎ FailsByInputs rows fault))))))
 
 -- the fault of a value of `realise`
 abbrev pub FailsByOmissions : List Row → WordsFault → Type 0
 FailsByOmissions rows fault = FailsBySource rows fault
-    ⊎ (FailsByFile (codes "header") rows fault ⊎ FailsByFile (codes "omissions") rows fault)
+    ⊎ (FailsByFile (codes "header") rows fault
+    ⊎ (FailsByFile (codes "omissions") rows fault ⊎ FailsByInputs rows fault))
 
 -- the fault of a value of `rounds`
 abbrev pub FailsByRounds : List Row → WordsFault → Type 0

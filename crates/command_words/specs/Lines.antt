@@ -4,6 +4,7 @@ use Rattle.command_words.specs.declared.words.WordsFault.{WordsFault}
 use Rattle.command_words.specs.declared.words.WordsFault.TheVariants.{Refused, Missing, Source}
 use Rattle.command_words.specs.declared.words.WordsFault.TheVariants.{List as BadList, Delta, Gst}
 use Rattle.command_words.specs.declared.words.WordsFault.TheVariants.{Ticks, Change, Inputs}
+use Rattle.command_words.specs.declared.words.WordsFault.TheVariants.{InputTwice}
 use Rattle.command_words.specs.declared.words.WordsFault.TheVariants.{AnswerFormat, Blocks, Format}
 use Rattle.command_words.specs.declared.words.WordsFault.TheVariants.{Faults, Clear, Range}
 use Rattle.command_words.specs.declared.words.WordsFault.TheVariants.{Hears, Checks, NoMemory}
@@ -40,4 +41,6 @@ words_line Format =
     Some (codes "error: `--format` is `text`, `json`, `table`, `summary` or `omissions`\n")
 words_line AnswerFormat = Some (codes "error: `--format` is `text` or `json`\n")
 words_line Blocks = Some (codes "error: `--by` is `round` or `node`\n")
+words_line InputTwice = Some (codes
+    "error: only one of `--header` and `--omissions` can be `-`, standard input\n")
 words_line NoMemory = Some (codes "no memory\n")

@@ -161,17 +161,16 @@ fn judge_command<'a>(alloc: Global) -> Result<Command<'a>, AllocError>
         .arg(format_arg(alloc, "text (by default) or json"))
 }
 
+/// What FILE of `--header` is for a command that runs one run.
+const HEADER_OF_A_RUN: &'static str = "The file of the five header lines, - for standard input, \
+                                       or @NODES:FAULTS:ROUNDS for inputs 0";
+
 /// `--header FILE`.
-fn header_arg<'a>(alloc: Global) -> Arg<'a>
+fn header_arg<'a>(alloc: Global, help: &'a str) -> Arg<'a>
     ensures rule { rule_of result ≡ text_rule (codes "header") }
     ensures local { result.global ≡ false }
 {
-    value_arg(
-        alloc,
-        "header",
-        "FILE",
-        "The file of the five header lines, - for standard input, or @NODES:FAULTS:ROUNDS",
-    )
+    value_arg(alloc, "header", "FILE", help)
 }
 
 /// `lockstep SOURCE --header FILE --correct LIST --delta D --gst G`.
@@ -181,7 +180,7 @@ fn required_lockstep<'a>(alloc: Global) -> Result<Command<'a>, AllocError>
     Command::new(alloc, "lockstep")
         .about("Writes the schedule of a run in lockstep")
         .arg(source_arg(alloc))?
-        .arg(header_arg(alloc))?
+        .arg(header_arg(alloc, HEADER_OF_A_RUN))?
         .arg(correct_arg(alloc))?
         .arg(delta_arg(alloc))?
         .arg(gst_arg(alloc, "The step from which the bound holds"))
@@ -359,7 +358,7 @@ fn realise_command<'a>(alloc: Global) -> Result<Command<'a>, AllocError>
     Command::new(alloc, "realise")
         .about("Writes a schedule that omits just the messages of a file")
         .arg(source_arg(alloc))?
-        .arg(header_arg(alloc))?
+        .arg(header_arg(alloc, HEADER_OF_A_RUN))?
         .arg(omissions_arg(alloc))
 }
 
@@ -370,7 +369,7 @@ fn rounds_command<'a>(alloc: Global) -> Result<Command<'a>, AllocError>
     let command = Command::new(alloc, "rounds")
         .about("Runs a program in rounds that omit the messages of a file")
         .arg(source_arg(alloc))?
-        .arg(header_arg(alloc))?
+        .arg(header_arg(alloc, HEADER_OF_A_RUN))?
         .arg(omissions_arg(alloc))?;
     with_form(alloc, command)
 }
@@ -382,7 +381,10 @@ fn explore_by_header<'a>(alloc: Global) -> Result<Command<'a>, AllocError>
     Command::new(alloc, "explore")
         .about("Says whether properties hold of all runs in rounds")
         .arg(source_arg(alloc))?
-        .arg(header_arg(alloc))
+        .arg(header_arg(
+            alloc,
+            "The file of the five header lines, - for standard input, or @NODES:FAULTS:ROUNDS",
+        ))
 }
 
 /// The same with the options that say of which runs.

@@ -20,8 +20,8 @@
 //! ```
 //!
 //! SOURCE is a file's name, or `@NAME:VALUES`, a program of the library. FILE is a file's name, or
-//! `-` for standard input: what `-` means is left to the caller, who opens the file. LIST is
-//! numbers with commas, for `--check` names of properties, or for `--vars` any text, which is to be
+//! `-` for standard input: what `-` means is left to the caller, who opens the file; a header and
+//! omissions can't both be `-`. LIST is numbers with commas, for `--check` names of properties, or for `--vars` any text, which is to be
 //! names of variables. The FILE of a header may be `@NODES:FAULTS:ROUNDS`, three numbers, which the
 //! caller takes for a header with inputs 0. INPUTS are `header` or `any`, and for such a header
 //! `any` if they're left out. FAULTS are `none`, `omission` or `crash`. D is a number of 1 to
@@ -38,6 +38,7 @@ mod drawing;
 mod exploring;
 mod forms;
 mod headers;
+mod inputs;
 mod negative;
 mod searching;
 mod values;

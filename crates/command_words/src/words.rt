@@ -20,6 +20,7 @@ use crate::changes::{Changes, changes_of};
 use crate::commands::roundc_command;
 use crate::drawing::{Drawing, drawing_of};
 use crate::exploring::{Exploring, exploring_of};
+use crate::inputs::check_inputs;
 use crate::forms::{AnswerFormat, Form, answer_format_of, form_of};
 use crate::negative::{has_negative, has_negative_change, has_negative_list};
 use crate::values::{Source, read_list, read_number, read_source};
@@ -168,6 +169,8 @@ pub enum WordsFault {
     AnswerFormat,
     /// A BY that isn't `round` or `node`.
     Blocks,
+    /// Standard input as the file of the header and as that of the omissions.
+    InputTwice,
     /// Memory ran out. Nothing is known of the words.
     NoMemory,
 }
@@ -247,6 +250,12 @@ impl fmt::Display for WordsFault {
             }
             WordsFault::AnswerFormat => writeln!(f, "error: `--format` is `text` or `json`"),
             WordsFault::Blocks => writeln!(f, "error: `--by` is `round` or `node`"),
+            WordsFault::InputTwice => {
+                writeln!(
+                    f,
+                    "error: only one of `--header` and `--omissions` can be `-`, standard input"
+                )
+            }
             WordsFault::NoMemory => writeln!(f, "no memory"),
         }
     }
@@ -480,6 +489,7 @@ fn lockstep_of<'a>(alloc: Global, matches: &ArgMatches<'a>) -> Result<Words<'a>,
     ensures ok { IfOk result (Gives (codes "lockstep") (rows_of (found_of matches.now))) }
     ensures err { IfErr result (FailsByLockstep (rows_of (found_of matches.now))) }
 {
+    check_inputs(matches)?;
     Ok(Words::Lockstep {
         source: source_of(matches)?,
         header: header_of(matches)?,
@@ -498,6 +508,7 @@ fn realise_of<'a>(matches: &ArgMatches<'a>) -> Result<Words<'a>, WordsFault>
     ensures ok { IfOk result (Gives (codes "realise") (rows_of (found_of matches.now))) }
     ensures err { IfErr result (FailsByOmissions (rows_of (found_of matches.now))) }
 {
+    check_inputs(matches)?;
     Ok(Words::Realise {
         source: source_of(matches)?,
         header: header_of(matches)?,
@@ -510,6 +521,7 @@ fn rounds_of<'a>(matches: &ArgMatches<'a>) -> Result<Words<'a>, WordsFault>
     ensures ok { IfOk result (Gives (codes "rounds") (rows_of (found_of matches.now))) }
     ensures err { IfErr result (FailsByRounds (rows_of (found_of matches.now))) }
 {
+    check_inputs(matches)?;
     Ok(Words::Rounds {
         source: source_of(matches)?,
         header: header_of(matches)?,

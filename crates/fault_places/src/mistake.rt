@@ -31,6 +31,10 @@ pub enum Mistake {
     EqualForAssign,
     /// `:=` in the place of `=`.
     AssignForEqual,
+    /// An operator in the place of `:=`, as in `a += 1`.
+    OperatorForAssign,
+    /// `:` in the place of `:=`, as behind an `End` with a capital letter.
+    ColonForAssign,
     /// An `if` that assigns.
     IfAssigns,
     /// An assignment to an entry of a row.
@@ -79,6 +83,8 @@ pub enum Mistake {
     Semicolon,
     /// A block without `end:`.
     NoEnd,
+    /// A block that begins with `round`.
+    RoundForAt,
     /// `input`, `state` or `decide` behind a block.
     LateDeclaration,
     /// A name in the place of this word, which is spelt nearly as that.
@@ -107,6 +113,8 @@ impl Mistake {
             Mistake::DoubleEqual => "a comparison has one =, as in a = 1",
             Mistake::EqualForAssign => "an assignment is written with :=, as in a := m;",
             Mistake::AssignForEqual => "a first value is written with =: state a: num = 0",
+            Mistake::OperatorForAssign => "the new value is written as a whole: a := a + 1;",
+            Mistake::ColonForAssign => "an assignment is written with :=, and the last part end:",
             Mistake::Negative => "there are no numbers below 0; a - b stops at 0",
             _ => return None,
         };
@@ -160,6 +168,7 @@ impl Mistake {
             }
             Mistake::Semicolon => "only assignments end with a semicolon",
             Mistake::NoEnd => "each block has the part \"end:\", which may be empty",
+            Mistake::RoundForAt => "a block begins with \"at\", as in at 1:",
             Mistake::LateDeclaration => {
                 "\"input\", \"state\" and \"decide\" stand before \"at 1:\""
             }

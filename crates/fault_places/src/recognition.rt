@@ -5,7 +5,7 @@ use crate::mistake::Mistake;
 use crate::nearest::{Meant, nearest};
 use crate::spelling::word_text;
 use crate::spot::{Found, Spot};
-use round_lang::{BinaryOperator, Mark, Token, Word};
+use round_lang::{BinaryOperator, Constant, Mark, Token, Word};
 use run_events::NoMemory;
 use std::alloc::Global;
 
@@ -114,6 +114,7 @@ fn operator_mistake(spot: &Spot<'_, '_>, kind: TokenKind) -> Option<Mistake> {
     let is_behind_name = spot.follows(TokenKind::Name);
     match kind {
         TokenKind::Equal | TokenKind::Comparison => comparison_mistake(spot, kind),
+        TokenKind::Sum if spot.can_mark(Mark::Assign) => Some(Mistake::OperatorForAssign),
         TokenKind::Sum if spot.is_operand() && is_minus_sign(spot) => Some(Mistake::Negative),
         TokenKind::Mark(Mark::Open) if spot.is_behind_operand() && is_behind_name => {
             Some(Mistake::Called)
@@ -259,6 +260,12 @@ fn block_mistake(spot: &Spot<'_, '_>, kind: TokenKind) -> Option<Mistake> {
         return is_sent.then_some(Mistake::SentWithoutBrackets);
     }
     match kind {
+        TokenKind::Mark(Mark::Colon) if spot.can_mark(Mark::Assign) => {
+            Some(Mistake::ColonForAssign)
+        }
+        TokenKind::Constant if spot.can_mark(Mark::At) && is_round(spot) => {
+            Some(Mistake::RoundForAt)
+        }
         TokenKind::Mark(Mark::Semicolon) if is_behind_part(spot) => Some(Mistake::Semicolon),
         TokenKind::End if is_behind_assignments(spot) => Some(Mistake::NoEnd),
         TokenKind::Mark(Mark::At) if is_behind_assignments(spot) => Some(Mistake::NoEnd),
@@ -267,6 +274,11 @@ fn block_mistake(spot: &Spot<'_, '_>, kind: TokenKind) -> Option<Mistake> {
         }
         _ => None,
     }
+}
+
+/// Whether `round` stands there.
+fn is_round(spot: &Spot<'_, '_>) -> bool {
+    matches!(spot.found, Found::Token(Word::Fixed(Constant::Round)))
 }
 
 /// Whether `end:` could stand there.

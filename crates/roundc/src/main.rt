@@ -52,7 +52,7 @@ fn run<R: Threads + Wait + Sync>(
         }
         command => {
             let status = run_words(starter, alloc, command, &mut desk, &mut out, &mut err);
-            tell_of_why(status, command, &mut err);
+            tell_of_why(alloc, status, command, &mut err);
             status
         }
     };
