@@ -540,7 +540,12 @@ def is_list(text):
 
 
 def check_forms(command, source, options):
-    """Refuses a value that hasn't its option's form, the source first."""
+    """Refuses standard input for two files, and a value that hasn't its option's form, the source
+    first."""
+    if options.get("header") == options.get("omissions") == "-":
+        raise BadWords(
+            "error: only one of `--header` and `--omissions` can be `-`, standard input"
+        )
     if source.startswith("@") and not re.fullmatch(r"@[A-Za-z_][A-Za-z0-9_]*:[0-9]+", source):
         raise BadWords("error: SOURCE is a file, or `@`, a name, `:` and digits")
     has_report = command in ("run", "rounds")
@@ -618,8 +623,7 @@ def opened(options, files):
         text = made_header(name)
     setup, behind = read(text_of(text, SCHEDULE_LIMIT, "schedule 3"))
     if "omissions" in options:
-        is_read = options["omissions"] == name == "-"  # (standard input is read to its end)
-        text = b"" if is_read else files.get(options["omissions"])
+        text = files.get(options["omissions"])
         behind = read_omissions(text_of(text, SCHEDULE_LIMIT, "schedule 3"))
     return setup, behind
 
