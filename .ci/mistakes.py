@@ -179,7 +179,7 @@ class Mistake:
         if self.must("(") and self.is_behind(":"):
             return "the values that are sent stand in ( and ): send when c: (a)"
         if self.sees(":") and self.can(":="):
-            return "an assignment is written with :=, and the last part end:"
+            return 'an assignment is written with :=, and a block\'s last part is "end:"'
         if self.sees("round") and self.can("at"):
             return 'a block begins with "at", as in at 1:'
         if self.sees(";") and (self.can("state", "send", "on") or self.in_list()):

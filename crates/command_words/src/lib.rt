@@ -21,15 +21,15 @@
 //!
 //! SOURCE is a file's name, or `@NAME:VALUES`, a program of the library. FILE is a file's name, or
 //! `-` for standard input: what `-` means is left to the caller, who opens the file; a header and
-//! omissions can't both be `-`. LIST is numbers with commas, for `--check` names of properties, or for `--vars` any text, which is to be
-//! names of variables. The FILE of a header may be `@NODES:FAULTS:ROUNDS`, three numbers, which the
-//! caller takes for a header with inputs 0. INPUTS are `header` or `any`, and for such a header
-//! `any` if they're left out. FAULTS are `none`, `omission` or `crash`. D is a number of 1 to
-//! 1,024, J one of 1 to 256, and all others are numbers of 32 bits, C of `--clear` and COUNT of 1
-//! on. RANGE is `A-B`, two such numbers of 1 on with A no larger than B, and I is one of 1 to N,
-//! which is 65,536 at most. EXPR is any text. FORMAT is `text` or `json`, or for `run` and `rounds`
-//! also `table`, `summary` or `omissions`, and BY is `round` or `node`. What two dots follow may be
-//! there several times.
+//! omissions can't both be `-`. LIST is numbers with commas, for `--check` names of properties, or
+//! for `--vars` any text, which is to be names of variables. The FILE of a header may be
+//! `@NODES:FAULTS:ROUNDS`, three numbers, which the caller takes for a header with inputs 0. INPUTS
+//! are `header` or `any`, and for such a header `any` if they're left out. FAULTS are `none`,
+//! `omission` or `crash`. D is a number of 1 to 1,024, J one of 1 to 256, and all others are
+//! numbers of 32 bits, C of `--clear` and COUNT of 1 on. RANGE is `A-B`, two such numbers of 1 on
+//! with A no larger than B, and I is one of 1 to N, which is 65,536 at most. EXPR is any text.
+//! FORMAT is `text` or `json`, or for `run` and `rounds` also `table`, `summary` or `omissions`,
+//! and BY is `round` or `node`. What two dots follow may be there several times.
 #![tactic(auto)]
 
 mod changes;

@@ -588,7 +588,8 @@ fn command_of<'a>(
 /// A value that is missing, a repeated option, an unknown word, no word at all and a call for help
 /// or the version are `WordsFault::Refused`, with `clap`'s error. Where SOURCE has a fault too,
 /// `clap`'s goes first. Where `clap` refuses the words and an option that takes numbers has a
-/// number below 0 behind it, that is told.
+/// number below 0 behind it, that is told. Standard input as two files is told before the fault of
+/// a value.
 pub fn read_words<'a>(alloc: Global, words: &'a [&'a str]) -> Result<Words<'a>, WordsFault>
     // The command and its values are those of `clap`'s definition of a simple command's matches,
     // in which it finds no mistake.

@@ -114,7 +114,9 @@ impl Mistake {
             Mistake::EqualForAssign => "an assignment is written with :=, as in a := m;",
             Mistake::AssignForEqual => "a first value is written with =: state a: num = 0",
             Mistake::OperatorForAssign => "the new value is written as a whole: a := a + 1;",
-            Mistake::ColonForAssign => "an assignment is written with :=, and the last part end:",
+            Mistake::ColonForAssign => {
+                "an assignment is written with :=, and a block's last part is \"end:\""
+            }
             Mistake::Negative => "there are no numbers below 0; a - b stops at 0",
             _ => return None,
         };
