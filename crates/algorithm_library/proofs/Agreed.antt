@@ -1,5 +1,5 @@
 -- Algorithm 1 keeps agreement and validity for the nodes and faults that it was made for.
-use Rattle.std.proofs.Common.{ℕ, ◌+◌, ◌*◌, ◌<◌, ◌≤◌, sym, subst}
+use Rattle.std.proofs.Common.{ℕ, ◌+◌, ◌*◌, ◌≤◌, sym, subst}
 use Rattle.round_lang.specs.Limits.{max_values}
 use Rattle.round_meaning.specs.declared.setup.Setup.{Setup}
 use Rattle.round_meaning.specs.Agreement.{HasMajority}
@@ -18,11 +18,9 @@ has_majority k n t s few most is = record {
 }
 
 pub keeps_agreement : (k n t : ℕ) → k ≤ max_values → 2 * t + 1 ≤ n → KeepsAgreement (dls1 k) n t
-keeps_agreement k n t few most s omits is i j r q v u hi hj a b =
-    decisions_agree k s omits (has_majority k n t s few most is) i j r q v u
-    (subst (λ x. i < x) (sym is.nodes) hi) (subst (λ x. j < x) (sym is.nodes) hj) a b
+keeps_agreement k n t few most s omits is =
+    decisions_agree k s omits (has_majority k n t s few most is)
 
 pub keeps_validity : (k n t : ℕ) → k ≤ max_values → 2 * t + 1 ≤ n → KeepsValidity (dls1 k) n t
-keeps_validity k n t few most s omits is i r v hi a =
-    decisions_are_inputs k s omits (has_majority k n t s few most is) i r v
-    (subst (λ x. i < x) (sym is.nodes) hi) a
+keeps_validity k n t few most s omits is =
+    decisions_are_inputs k s omits (has_majority k n t s few most is)

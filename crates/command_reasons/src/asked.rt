@@ -11,12 +11,12 @@ use crate::library::LibrarySource;
 use crate::located::unwritten;
 use crate::options::tell_option;
 use crate::parts::tell_together;
-use crate::program::program_for;
+use crate::program::{program_for, program_of};
 use crate::refusals::unless_refused;
 use crate::round_reasons::tell_rounds;
 use crate::run_causes::{tell_correct_crash, tell_unknown};
 use crate::run_reasons::{RunQuestion, tell_run};
-use crate::search_notes::tell_notes;
+use crate::search_notes::{tell_notes, tell_proved};
 use crate::source::{tell_check, tell_source};
 use crate::trace_faults::tell_unwritable;
 use adversary::RunFault;
@@ -50,7 +50,7 @@ impl<'w, 'a> AskedCommand<'w, 'a> {
         ensures written { D.written desk.new ≡ D.written desk.old }
     {
         if let Words::Together { files } = self.command {
-            return tell_together(self.alloc, files.as_slice(), desk, out);
+            return tell_together(self.alloc, files.as_slice(), self.files, out);
         }
         if let Words::Threads { source, .. } = self.command {
             return match refused_before_threads(self.alloc, *source, self.files) {
@@ -61,7 +61,7 @@ impl<'w, 'a> AskedCommand<'w, 'a> {
         if self.tell_reasons(out)? || self.tell_found(rt, desk, out)? {
             return Ok(());
         }
-        let mut held = HeldDesk::new(self.alloc, self.files);
+        let mut held = HeldDesk::new(self.alloc, self.files)?;
         let mut printed = Vec::new(self.alloc);
         match serve(rt, self.alloc, self.words, &mut held, &mut printed) {
             Ok(_) => self.tell_served(desk, printed.as_slice(), out),
@@ -96,7 +96,21 @@ impl<'w, 'a> AskedCommand<'w, 'a> {
         if tell_unwritable(self.command, self.files, desk, out)? {
             return Ok(());
         }
-        out.write_all(printed).map_err(unwritten)
+        let mut note = Vec::new(self.alloc);
+        if let Words::Check { .. } = self.command {
+            // What is written to memory fails only for want of it.
+            if self.tell_known(&mut note).is_err() {
+                return Err(Refusal::NoMemory);
+            }
+        }
+        out.write_all(printed).map_err(unwritten)?;
+        out.write_all(note.as_slice()).map_err(unwritten)
+    }
+
+    /// Tells what is proved of the program of a source that is served, for every number of nodes.
+    fn tell_known<O: Write>(&self, out: &mut O) -> Result<(), Refusal> {
+        let program = program_of(self.alloc, self.command, self.files)?;
+        tell_proved(self.alloc, program.program(), out)
     }
 
     /// Tells what a run came to and why, if that is asked and the run is served.
@@ -170,7 +184,9 @@ impl<'w, 'a> AskedCommand<'w, 'a> {
             // What is written to memory fails only for want of it.
             Err(_) => return Err(Refusal::NoMemory),
         }
-        if tell_notes(exploring, &told, &mut text).is_err() {
+        if tell_notes(exploring, &told, &mut text).is_err()
+            || tell_proved(self.alloc, program.program(), &mut text).is_err()
+        {
             return Err(Refusal::NoMemory);
         }
         if tell_unwritable(self.command, self.files, desk, out)? {

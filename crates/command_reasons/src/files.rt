@@ -16,9 +16,6 @@ pub trait TellingDesk: Desk {
     fn failure(&self) -> Option<ErrorKind>;
 }
 
-/// How many files a command reads at most: the source's, the run's and that of the omissions.
-pub(crate) const MAX_FILES: usize = 3;
-
 /// What a file is read as.
 #[derive(Clone, Copy, PartialEq, Eq, Debug)]
 pub(crate) enum FileKind {
@@ -27,6 +24,8 @@ pub(crate) enum FileKind {
     Setup,
     Header,
     Omissions,
+    /// The answers of a part of a search.
+    Part,
 }
 
 /// A file by its name.
@@ -142,7 +141,7 @@ fn add<T: Drop>(list: &mut Vec<T>, item: T) -> Result<(), NoMemory> {
 /// The most bytes of a file that its command takes.
 pub(crate) fn limit_of(kind: FileKind) -> usize {
     match kind {
-        FileKind::Source => MAX_SOURCE,
+        FileKind::Source | FileKind::Part => MAX_SOURCE,
         _ => MAX_SCHEDULE,
     }
 }
@@ -181,6 +180,14 @@ fn names_of<'a>(alloc: Global, command: &Words<'a>) -> Result<Vec<NamedFile<'a>>
             kind: FileKind::Omissions,
             name,
         })?;
+    }
+    if let Words::Together { files } = command {
+        for name in files.as_slice() {
+            names.push(NamedFile {
+                kind: FileKind::Part,
+                name: *name,
+            })?;
+        }
     }
     Ok(names)
 }

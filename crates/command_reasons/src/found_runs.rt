@@ -2,10 +2,12 @@
 use crate::decision_lines::{tell_split, tell_taken_back};
 use crate::located::unwritten;
 use crate::refusals::unless_refused;
+use crate::run_table::tell_table;
 use command_runs::Refusal;
-use exploration_texts::{Answered, PropertyName, Told, stops_of};
+use exploration_texts::{Answered, Told, stops_of};
 use omission_explainer::{Report, ReportRow, write_report};
 use omission_schedules::rounds_report;
+use part_answers::Property;
 use round_check::Checked;
 use round_explorer::{Counterexample, Failure};
 use round_meaning::{NodeSet, Setup};
@@ -94,11 +96,11 @@ impl<P: Plan> SearchedRuns<'_, P> {
         writeln!(out, "    no message is missed").map_err(unwritten)
     }
 
-    /// Writes what shows that the property fails in the run.
+    /// Writes what shows that the property fails in the run, and then the run as a table.
     fn tell_outcome<O: Write>(
         &self,
         alloc: Global,
-        name: PropertyName,
+        name: Property,
         found: &Counterexample,
         out: &mut O,
     ) -> Result<(), Refusal> {
@@ -107,12 +109,13 @@ impl<P: Plan> SearchedRuns<'_, P> {
         };
         let rows = report.rows.as_slice();
         match name {
-            PropertyName::Agreement | PropertyName::Safety => tell_split(rows, out),
-            PropertyName::Validity => tell_invalid(rows, found.inputs.as_slice(), out),
-            PropertyName::Final => tell_taken_back(rows, self.setup.nodes, out),
-            PropertyName::Termination => tell_undecided(rows, found, out),
-            PropertyName::Always => tell_rows(alloc, &report, found.round, out),
+            Property::Agreement => tell_split(rows, out)?,
+            Property::Validity => tell_invalid(rows, found.inputs.as_slice(), out)?,
+            Property::Final => tell_taken_back(rows, self.setup.nodes, out)?,
+            Property::Termination => tell_undecided(rows, found, out)?,
+            Property::Always => tell_rows(alloc, &report, found.round, out)?,
         }
+        tell_table(alloc, &report, out)
     }
 
     /// The report of the run, up to the round in which the property fails.

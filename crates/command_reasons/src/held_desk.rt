@@ -2,28 +2,33 @@
 ghost use Rattle.std.specs.Prelude.{◌≡◌};
 
 use crate::byte_source::ByteSource;
-use crate::files::{CommandFiles, MAX_FILES, ReadFile};
+use crate::files::{CommandFiles, ReadFile};
 use command_runs::{Desk, DeskFault, Unwatched, Written};
+use run_events::NoMemory;
 use std::alloc::Global;
 
-/// The files that were read for a command. Each is given out once for each time that it was read:
-/// standard input, if two options name it, is empty the second time.
+/// The files that were read for a command. A command that reads a file twice finds what each of the
+/// two readings found: standard input, for example, is empty the second time.
 ///
 /// What is written on this desk is lost.
 #[derive(Drop)]
 pub(crate) struct HeldDesk<'a> {
     files: &'a [ReadFile<'a>],
-    given: [bool; MAX_FILES],
+    given: Vec<bool>,
     written: Written,
 }
 
 impl<'a> HeldDesk<'a> {
-    pub(crate) fn new(alloc: Global, files: &'a CommandFiles<'a>) -> HeldDesk<'a> {
-        HeldDesk {
-            files: files.as_slice(),
-            given: [false; MAX_FILES],
+    pub(crate) fn new(
+        alloc: Global,
+        files: &'a CommandFiles<'a>,
+    ) -> Result<HeldDesk<'a>, NoMemory> {
+        let files = files.as_slice();
+        Ok(HeldDesk {
+            files,
+            given: vec![in alloc; false; files.len()]?,
             written: Written::new(alloc),
-        }
+        })
     }
 
     /// The bytes of the next file of a name, if it could be read.

@@ -27,6 +27,7 @@ mod report_reasons;
 mod round_reasons;
 mod run_causes;
 mod run_reasons;
+mod run_table;
 mod schedule_forms;
 mod search_notes;
 mod sentence;

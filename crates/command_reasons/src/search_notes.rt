@@ -2,7 +2,11 @@
 use crate::located::unwritten;
 use command_runs::Refusal;
 use command_words::{Exploring, FaultChoice};
-use exploration_texts::{Answered, PropertyName, Told};
+use exploration_texts::{Answered, Told};
+use part_answers::Property;
+use proved_programs::algorithm_of;
+use round_lang::Program;
+use std::alloc::Global;
 use std::io::Write;
 
 /// Writes what the answers leave open, which options meant nothing, and that no trace is written.
@@ -38,6 +42,18 @@ pub(crate) fn tell_notes<O: Write>(
     }
 }
 
+/// Writes what is proved of the program for every number of nodes, if it's a known algorithm's.
+pub(crate) fn tell_proved<O: Write>(
+    alloc: Global,
+    program: &Program,
+    out: &mut O,
+) -> Result<(), Refusal> {
+    match algorithm_of(alloc, program)? {
+        Some(algorithm) => writeln!(out, "note: {algorithm}").map_err(unwritten),
+        None => Ok(()),
+    }
+}
+
 /// Whether a property fails in some run.
 fn any_fails(told: &[Told]) -> bool {
     for one in told {
@@ -52,11 +68,8 @@ fn any_fails(told: &[Told]) -> bool {
 fn hold_undecided(told: &[Told]) -> bool {
     for one in told {
         match one.name {
-            PropertyName::Termination | PropertyName::Always => return false,
-            PropertyName::Agreement
-            | PropertyName::Validity
-            | PropertyName::Final
-            | PropertyName::Safety => {}
+            Property::Termination | Property::Always => return false,
+            Property::Agreement | Property::Validity | Property::Final => {}
         }
     }
     true

@@ -167,5 +167,6 @@ module _ (source : Source) (files : Files) (schedule : Bor (List ℕ)) (d : Draw
   draw_refused (refusal.Run f) h = h
   draw_refused (refusal.Part cause) h = h
   draw_refused refusal.TooManyEvents h = h
+  draw_refused (refusal.Trace f) h = h
   draw_refused refusal.NoVariable h = h
   draw_refused refusal.NoMemory h = h

@@ -13,7 +13,6 @@ use Rattle.command_runs.specs.InParts.{IsHeadOf, explored_as}
 use Rattle.command_runs.specs.InRounds.{IsFound, IsMade, IsTrace, ShowsFailure, code_of}
 use Rattle.command_runs.specs.InRounds.{outcome_of, shown_by, trace_of}
 use Rattle.command_runs.specs.Refused.{IsRefusedCommand}
-use Rattle.command_runs.specs.Refused.{IsUnexplored}
 use Rattle.command_runs.specs.Served.{FindsIn, HasTrace, IsHeader, IsProgramOf, TellsOfAll}
 use Rattle.command_runs.specs.Within.{IsExplored}
 use Rattle.command_runs.specs.Stages.{HoldsText, WritesText}
@@ -26,17 +25,17 @@ use Rattle.command_runs.specs.declared.refusal.Refusal.TheVariants as refusal
 use Rattle.command_words.specs.declared.exploring.Exploring.{Exploring}
 use Rattle.command_words.specs.declared.forms.AnswerFormat.{AnswerFormat}
 use Rattle.command_words.specs.declared.values.Source.{Source}
-use Rattle.command_words.specs.declared.values.Source.TheVariants as source
 use Rattle.command_words.specs.declared.words.Words.TheVariants as words
-use Rattle.exploration_texts.specs.Lines.{comment_text, name_text}
+use Rattle.exploration_texts.specs.Lines.{comment_text}
 use Rattle.exploration_texts.specs.Stops.{steps_of}
 use Rattle.exploration_texts.specs.Told.{IsFirstNo, all_hold}
-use Rattle.exploration_texts.specs.declared.told.PropertyName.{PropertyName}
-use Rattle.exploration_texts.specs.declared.told.PropertyName.TheVariants as names
 use Rattle.exploration_texts.specs.declared.told.Told.{Told}
 use Rattle.exploration_texts.proofs.Showing.{first_no}
 use Rattle.omission_schedules.specs.Schedules.{schedule_with_stops}
 use Rattle.omission_schedules.proofs.Same.{schedule_same}
+use Rattle.part_answers.specs.Properties.{name_text}
+use Rattle.part_answers.specs.declared.property.Property.{Property as PropertyName}
+use Rattle.part_answers.specs.declared.property.Property.TheVariants as names
 use Rattle.round_explorer.specs.declared.answer.Counterexample.{Counterexample}
 use Rattle.round_lang.specs.Syntax.{ProgramTree}
 use Rattle.round_meaning.specs.Omissions.{is_omitted}
@@ -99,7 +98,6 @@ plain_name : (name : PropertyName) → is_plain (codes "# " ++ name_text name
 plain_name names.Agreement = refl
 plain_name names.Validity = refl
 plain_name names.Final = refl
-plain_name names.Safety = refl
 plain_name names.Termination = refl
 plain_name names.Always = refl
 
@@ -120,7 +118,7 @@ module _ (source : Source) (files : Files) (p : ProgramTree) (s : Setup) (k : Pl
   pub finds_in : (file : Option (List ℕ)) → IsProgramOf source files s.nodes s.faults p
       → IfSome file (λ text. IsHeader text s k) → IsExplored p s k e
       → IsFound (receives_of k) (start_of k s.nodes) p s k e x.found
-      → IsHeadOf source files s e x.head → FindsIn source files file e x
+      → IsHeadOf source files s p e x.head → FindsIn source files file e x
   finds_in None is read within h head = tt
   finds_in (Some text) is read within h head = (s, k, p, read, is, within, h, head)
 
@@ -131,41 +129,46 @@ has_trace : (s : Setup) (k : PlanKind) (name : Option (Bor (List ℕ))) (after :
     → HasTrace s k name after told
 has_trace s k None after told trace holds is = tt
 has_trace s k (Some name) after told None holds is = inl is
-has_trace s k (Some name) after told (Some text) holds is = inr (go (after name.now) holds)
+has_trace s k (Some name) after told (Some text) holds is = inr (go (after name.now) holds.1)
   where
     go : (held : Option (List ℕ)) → IfSome held (λ bytes. bytes ≡ text)
-        → IfSome held (ShowsFailure (receives_of k) (start_of k s.nodes) s k told)
+        → IfSome held (λ bytes. (length bytes ≤ max_text)
+        × ShowsFailure (receives_of k) (start_of k s.nodes) s k told bytes)
     go None same = tt
     go (Some bytes) same =
-        subst (ShowsFailure (receives_of k) (start_of k s.nodes) s k told) (sym same) is
+        subst (λ bytes. (length bytes ≤ max_text)
+        × ShowsFailure (receives_of k) (start_of k s.nodes) s k told bytes) (sym same)
+        (holds.0, is)
+
+-- nothing is known of its file
+has_no_file : (s : Setup) (k : PlanKind) (name : Option (Bor (List ℕ))) (told : List Told)
+    → HasTrace s k name (λ name. None) told
+has_no_file s k None told = tt
+has_no_file s k (Some name) told = inr tt
 
 module _ (source : Source) (files : Files) (e : Exploring) (x : Explored) where
+  told_with : (file : Option (List ℕ)) (after : Files)
+      → ((s : Setup) (k : PlanKind)
+      → IsTrace (receives_of k) (start_of k s.nodes) s k e.trace x.found.told.items
+      (trace_of x.found) → HasTrace s k e.trace after x.found.told.items)
+      → FindsIn source files file e x
+      → TellsOfAll source files after file e x.head x.found.told.items
+  told_with None after traced h = tt
+  told_with (Some text) after traced (s, k, p, read, is, within, h, head) =
+      (s, k, p, read, is, within, h.answers, traced s k h.trace, head)
+
   pub tells_of_all : (file : Option (List ℕ)) (after : Files)
       → HoldsText after e.trace (trace_of x.found) → FindsIn source files file e x
       → TellsOfAll source files after file e x.head x.found.told.items
-  tells_of_all None after holds h = tt
-  tells_of_all (Some text) after holds (s, k, p, read, is, within, h, head) = (
-    s,
-    k,
-    p,
-    read,
-    is,
-    within,
-    h.answers,
-    has_trace s k e.trace after x.found.told.items (trace_of x.found) holds h.trace,
-    head,
-  )
+  tells_of_all file after holds h =
+      told_with file after
+      (λ s k is. has_trace s k e.trace after x.found.told.items (trace_of x.found) holds is) h
 
   -- also if nothing is known of the files after it
   pub tells_at_first : (file : Option (List ℕ)) → FindsIn source files file e x
       → TellsOfAll source files (λ name. None) file e x.head x.found.told.items
-  tells_at_first file h = tells_of_all file (λ name. None) (nothing e.trace _) h
-    where
-      nothing : (name : Option (Bor (List ℕ))) (text : Option (List ℕ))
-          → HoldsText (λ name. None) name text
-      nothing None text = tt
-      nothing (Some name) None = tt
-      nothing (Some name) (Some text) = tt
+  tells_at_first file h =
+      told_with file (λ name. None) (λ s k is. has_no_file s k e.trace x.found.told.items) h
 
 -- ---- how the command ends
 
@@ -199,20 +202,14 @@ trace_written (Some name) told None o old new is ends wrote =
 trace_written (Some name) told (Some text) o old new is ends wrote =
     subst (λ x. WritesTrace (Some name) x old new) (outcome_not told is ∙ sym ends) wrote
 
--- of memory nothing is said
-no_room : (s : Source) (files : Files) (file : Option (List ℕ)) (e : Exploring)
-    → IsUnexplored s files file e refusal.NoMemory
-no_room (source.File name) files file e = inl tt
-no_room (source.Library name values) files file e = inr (inl (tt, tt))
-
 -- why the command is refused
 module _ (source : Source) (files : Files) (header : Bor (List ℕ)) (e : Exploring)
     (format : AnswerFormat) where
   -- nothing was written, though there was something to write
   pub explore_unwritten : (x : Explored) (r : Refusal)
-      → FindsIn source files (files header.now) e x → (r ≡ refusal.Write)
-      ⊎ (r ≡ refusal.NoMemory) → IsRefusedCommand (words.Explore source header e format) files r
-  explore_unwritten x r h (inl same) =
+      → FindsIn source files (files header.now) e x → r ≡ refusal.Write
+      → IsRefusedCommand (words.Explore source header e format) files r
+  explore_unwritten x r h same =
       subst (IsRefusedCommand (words.Explore source header e format) files) (sym same) (inr (
         (λ name. None),
         explored_as format x.head x.found.told.items,
@@ -223,9 +220,6 @@ module _ (source : Source) (files : Files) (header : Bor (List ℕ)) (e : Explor
           refl,
         ),
       ))
-  explore_unwritten x r h (inr same) =
-      subst (IsRefusedCommand (words.Explore source header e format) files) (sym same)
-      (no_room source files (files header.now) e)
 
 -- ---- the status
 

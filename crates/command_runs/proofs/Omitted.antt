@@ -1,16 +1,13 @@
 -- What is made of omissions is what the definitions say.
-use Rattle.std.proofs.Common.{◌≡◌, ◌∙◌, ◌<◌, ◌≤◌, ◌&&◌, ℕ, List, ap, arith, map, sym, true}
+use Rattle.std.proofs.Common.{◌≡◌, ◌∙◌, ◌<◌, ◌≤◌, ◌&&◌, ℕ, List, ap, arith, map, true}
 use Rattle.std.specs.Prelude.{slice_index}
 use Rattle.std.specs.List.{range_with_len}
 use Rattle.std.proofs.lemmas.Bool.{and_from, le-leb, lt-ltb}
 use Rattle.std.proofs.lemmas.List.FromFn.{get_or-map-range_with_len}
-use Rattle.command_runs.specs.InOmissions.{RunsReportRounds, ShowsOmitting, realised_by}
+use Rattle.command_runs.specs.InOmissions.{ShowsOmitting, realised_by}
 use Rattle.omission_explainer.specs.declared.report.Report.{Report}
-use Rattle.omission_explainer.specs.Reported.{declared_names, declared_types}
-use Rattle.omission_schedules.proofs.OneReport.{one_report}
 use Rattle.omission_schedules.proofs.Same.{schedule_same, shows_same}
-use Rattle.omission_schedules.proofs.Shown.{schedules_show_rounds}
-use Rattle.omission_schedules.specs.Reports.{IsExplained, IsScheduleRun, ShowsRounds}
+use Rattle.omission_schedules.specs.Reports.{ShowsRounds}
 use Rattle.omission_schedules.specs.Schedules.{schedule_with_stops}
 use Rattle.omission_texts.specs.Meaning.{IsTableOf, is_message, omits}
 use Rattle.omission_texts.specs.Stops.{steps_of}
@@ -50,27 +47,3 @@ module _ (nodes : ℕ) (start : ℕ → ℕ) (s : Setup) (ls : List OmissionLine
       → ShowsOmitting start p s ls report
   shown p report h = shows_same start (slice_index stops) (steps_of s.nodes start s ls) p s
       (is_omitted table) (omits ls) report stopped_so omitted_so h
-
--- ---- the run of the schedule
-
-pub runs_report_rounds : RunsReportRounds
-runs_report_rounds receives start p s ls report again laws shows h =
-    let x = h.so_far in
-    let stops = steps_of s.nodes start s ls in
-    let run : IsScheduleRun receives start p s stops (omits ls) x.run = record {
-      program = x.program;
-      setup = x.setup;
-      trace = x.trace;
-      agrees = x.agrees;
-      closed = h.closed;
-    } in
-    let explained : IsExplained start x.run again = record {
-      values = x.values ∙ ap (λ (q : ProgramTree). q.values) (sym x.program);
-      names = x.names ∙ ap declared_names (sym x.program);
-      types = x.types ∙ ap declared_types (sym x.program);
-      listed = x.listed;
-      reported = x.reported;
-      counted = x.counted;
-    } in
-    one_report start stops p s (omits ls) report again shows
-    (schedules_show_rounds receives start stops p s (omits ls) laws x.run again run explained)

@@ -1,7 +1,7 @@
 -- From what each layer answers to what a command prints.
 use Rattle.std.proofs.Common.{◌≡◌, ℕ, List, Option, Some, None, Result, Ok, Err, sym, ap, ◌∙◌}
 use Rattle.std.proofs.Common.{subst}
-use Rattle.std.specs.Prelude.{IfOk, IfSome, IsOk, OnOk}
+use Rattle.std.specs.Prelude.{IfOk, IfSome, IsOk, OnOk, string_bytes}
 use Rattle.std.specs.Io.KnownBytes.{Appends, Keeps}
 use Rattle.round_meaning.specs.declared.setup.Setup.{Setup}
 use Rattle.schedule_text.specs.Readers.{HasReadHeader, Reading}
@@ -20,20 +20,21 @@ use Rattle.command_runs.specs.declared.asking.Question.{Question}
 use Rattle.command_runs.specs.declared.asking.Question.TheVariants as question
 use Rattle.command_runs.specs.declared.sources.Opened.{Opened}
 use Rattle.command_runs.specs.declared.sources.Opened.TheVariants as opened
-use Rattle.command_runs.proofs.Refusing.{read_as}
+use Rattle.command_runs.proofs.Refusing.{file_program, read_as}
 use Rattle.slot_plans.specs.Named.{IsPlan, receives_of, start_of}
 
 -- the program of what was opened is the source's
 pub program_of : (s : Source) (files : Files) (o : Opened) (n t : ℕ) (p : ProgramTree)
     → Opens s files o → HoldsProgram o n t p → IsProgramOf s files n t p
-program_of (source.File name) files (opened.File q) n t p opens holds =
+program_of (source.File name) files (opened.File q text) n t p opens holds =
     subst (λ (r : ProgramTree). IfSome (files (file_name name.now))
-    (λ text. IsCheckedSource text r)) (sym holds) opens
+    (λ text. IsCheckedSource text r)) (sym holds)
+    (file_program (files (file_name name.now)) (string_bytes text) q opens.0 opens.1)
 program_of (source.Library name values) files (opened.Library m k) n t p opens holds =
     subst (λ x. Offers x values n t p) (ap (λ t. t.now) opens.0)
     (subst (λ k. Offers m.now k n t p) opens.1 holds)
 program_of (source.File name) files (opened.Library m k) n t p opens holds = absurd opens
-program_of (source.Library name values) files (opened.File q) n t p opens holds = absurd opens
+program_of (source.Library name values) files (opened.File q text) n t p opens holds = absurd opens
 
 -- an answer on a schedule that is read is one on its file
 pub answers_run : (source : Source) (files : Files) (p : ProgramTree) (s : Setup) (k : PlanKind)

@@ -1,7 +1,7 @@
 -- From what the parts of a command answer to what the command does.
 use Rattle.std.proofs.Common.{Bool, Bor, ◌≡◌, ◌≢◌, inl, inr, ℕ, List, [], Option, Some, None}
 use Rattle.std.proofs.Common.{Result, Ok, Err, ap, refl, sym, subst}
-use Rattle.std.specs.Prelude.{IfErr, IfSome}
+use Rattle.std.specs.Prelude.{IfErr, IfSome, string_bytes}
 use Rattle.std.specs.Global.{Vec}
 use Rattle.std.specs.Io.KnownBytes.{Keeps}
 use Rattle.adversary.specs.declared.fault.RunFault.TheVariants as run
@@ -24,6 +24,8 @@ use Rattle.command_runs.specs.declared.refusal.Refusal.{Refusal}
 use Rattle.command_runs.specs.declared.refusal.Refusal.TheVariants as refusal
 use Rattle.command_runs.specs.declared.sources.Opened.{Opened}
 use Rattle.command_runs.specs.declared.sources.Opened.TheVariants as opened
+use Rattle.command_runs.specs.declared.trace_fault.TraceFault.{TraceFault}
+use Rattle.command_runs.proofs.Refusing.{file_program}
 use Rattle.command_words.specs.declared.forms.AnswerFormat.{AnswerFormat}
 use Rattle.command_words.specs.declared.forms.Form.{Form}
 use Rattle.command_words.specs.declared.forms.Format.{Format}
@@ -60,6 +62,7 @@ silent_same x refusal.NoSuchProgram = keeps_same x
 silent_same x (refusal.Run f) = keeps_same x
 silent_same x (refusal.Part cause) = keeps_same x
 silent_same x refusal.TooManyEvents = keeps_same x
+silent_same x (refusal.Trace f) = keeps_same x
 silent_same x refusal.NoVariable = keeps_same x
 silent_same x refusal.NoMemory = keeps_same x
 
@@ -81,6 +84,7 @@ pub left_by : (ws : List (List ℕ)) (w : Words) (files after : Files) (old new 
     (r : Refusal) → Means ws w → IsRefusedCommand w files r → IsLeft w files after old new r
     → IsLeftBy ws files after old new r
 left_by ws w files after old new refusal.NodeNoMemory means cause left = (w, means, cause, left)
+left_by ws w files after old new (refusal.Trace f) means cause left = (w, means, left)
 left_by ws (words.Threads source setup trace told) files after old new r means cause left = left
 left_by ws w files after old new r means cause left = left
 
@@ -107,20 +111,22 @@ some_program (Some text) p h = (p, h)
 
 -- a source that was opened
 pub opened_is : (s : Source) (files : Files) (o : Opened) → Opens s files o → IsOpened s files
-opened_is (source.File name) files (opened.File p) h = some_program (files (file_name name.now)) p h
+opened_is (source.File name) files (opened.File p text) h =
+    some_program (files (file_name name.now)) p
+    (file_program (files (file_name name.now)) (string_bytes text) p h.0 h.1)
 opened_is (source.Library name values) files (opened.Library n k) h = tt
 opened_is (source.File name) files (opened.Library n k) h = absurd h
-opened_is (source.Library name values) files (opened.File p) h = absurd h
+opened_is (source.Library name values) files (opened.File p text) h = absurd h
 
 -- the library has no program for what was opened
 pub held_back : (s : Source) (files : Files) (o : Opened) (n t : ℕ) (r : Refusal) → Opens s files o
     → IsHeldBack o n t r → IsNotOffered s n t r
-held_back (source.File name) files (opened.File p) n t r h none = none
+held_back (source.File name) files (opened.File p text) n t r h none = none
 held_back (source.Library name values) files (opened.Library m k) n t r h none =
     subst (λ v. IsNotOffered (source.Library name v) n t r) h.1
     (subst (λ x. IsNotOffered (source.Library x k) n t r) h.0 none)
 held_back (source.File name) files (opened.Library m k) n t r h none = absurd h
-held_back (source.Library name values) files (opened.File p) n t r h none = absurd h
+held_back (source.Library name values) files (opened.File p text) n t r h none = absurd h
 
 -- what isn't told of a file, of the library or of a text
 pub record IsLast (r : Refusal) : Type 1 where
@@ -130,6 +136,13 @@ pub record IsLast (r : Refusal) : Type 1 where
 
 pub last_nodes : IsLast refusal.NodeNoMemory
 last_nodes = record {
+  program = λ file h. h;
+  offer = λ name values n t h. h;
+  text = λ HasFault file h. h;
+}
+
+pub last_trace : (f : TraceFault) → IsLast (refusal.Trace f)
+last_trace f = record {
   program = λ file h. h;
   offer = λ name values n t h. h;
   text = λ HasFault file h. h;
@@ -262,6 +275,7 @@ run_refused source files schedule told refusal.NoSuchProgram h = inl h
 run_refused source files schedule told (refusal.Run f) h = inl h
 run_refused source files schedule told (refusal.Part cause) h = inl h
 run_refused source files schedule told refusal.TooManyEvents h = inl h
+run_refused source files schedule told (refusal.Trace f) h = inl h
 run_refused source files schedule told refusal.NoVariable (named, (answer.Report report shown, h)) =
     inr (named, (report, h.1))
 run_refused source files schedule told refusal.NoVariable (named, (answer.Verdict verdict f, h)) =
@@ -317,6 +331,7 @@ module _ (source : Source) (files : Files) (schedule : Bor (List ℕ)) (correct 
   judge_refused (refusal.Run e) h = unanswered (refusal.Run e) h
   judge_refused (refusal.Part cause) h = unanswered (refusal.Part cause) h
   judge_refused refusal.TooManyEvents h = unanswered refusal.TooManyEvents h
+  judge_refused (refusal.Trace e) h = unanswered (refusal.Trace e) h
   judge_refused refusal.NoVariable h = absurd h.0
   judge_refused refusal.NoMemory h = unanswered refusal.NoMemory h
   judge_refused refusal.NodeNoMemory h =

@@ -2,8 +2,8 @@
 use Rattle.std.proofs.Common.{◌≡◌, ◌≢◌, ◌⊎◌, inl, inr, List, ℕ, Option, Result, Ok, Err, sym, subst}
 use Rattle.std.specs.Prelude.{IfErr, IsSome, OnOk}
 use Rattle.std.specs.Borrow.{Bor}
-use Rattle.command_runs.proofs.Telling.{last_no_thread, last_nodes, last_unmatched, last_write}
-use Rattle.command_runs.proofs.Telling.{not_in_turn}
+use Rattle.command_runs.proofs.Telling.{last_no_thread, last_nodes, last_trace, last_unmatched}
+use Rattle.command_runs.proofs.Telling.{last_write, not_in_turn}
 use Rattle.command_runs.specs.Refused.{IsNotExplored, IsNotThreaded, IsRefusedCommand}
 use Rattle.command_runs.specs.Refused.{IsRefusedInTurn, IsUnexplored, IsUnfit, IsUnfitForThreads}
 use Rattle.command_runs.specs.Refused.{IsUnthreaded, Later, StartsThreads}
@@ -106,6 +106,7 @@ module _ (source : Source) (files : Files) (file : Option (List ℕ)) where
   threads_refused refusal.NoSuchProgram h = h
   threads_refused (refusal.Part cause) h = h
   threads_refused refusal.TooManyEvents h = h
+  threads_refused (refusal.Trace f) h = h
   threads_refused refusal.NoVariable h = h
   threads_refused (refusal.Run f) h = h
   threads_refused refusal.NoMemory h = h
@@ -173,6 +174,7 @@ module _ (source : Source) (files : Files) (file : Option (List ℕ)) (e : Explo
   search_refused refusal.NoSuchProgram h = h
   search_refused (refusal.Part cause) h = h
   search_refused refusal.TooManyEvents h = h
+  search_refused (refusal.Trace f) h = h
   search_refused refusal.NoVariable h = h
   search_refused (refusal.Run f) h = h
   search_refused refusal.NoMemory h = h
@@ -216,6 +218,9 @@ module _ (source : Source) (files : Files) (header : Bor (List ℕ)) (e : Explor
   explore_refused refusal.NoSuchProgram h = h
   explore_refused (refusal.Part cause) h = h
   explore_refused refusal.TooManyEvents h = h
+  explore_refused (refusal.Trace f) h =
+      absurd (not_in_turn kinds.Header (λ p s k t r. IsNotExplored p s k e r) source files
+      (files header.now) (refusal.Trace f) (last_trace f) (λ p s k t none. none) h)
   explore_refused refusal.NoVariable h = h
   explore_refused (refusal.Run f) h = h
   explore_refused refusal.NoMemory h = h

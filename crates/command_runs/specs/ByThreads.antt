@@ -1,5 +1,6 @@
 -- What a run by threads gives.
-use Rattle.std.specs.Prelude.{◌≢◌, ◌↔◌, ◌+◌, ℕ, All, Bool, List, IsTrue, string_bytes}
+use Rattle.std.specs.Prelude.{◌≡◌, ◌≢◌, ◌↔◌, ◌+◌, ℕ, All, Bool, List, IsTrue, string_bytes}
+use Rattle.adversary.specs.Asking.{Chooses}
 use Rattle.adversary.specs.Driving.{ClosedAreDue}
 use Rattle.command_runs.specs.Explained.{IsReportSoFar}
 use Rattle.command_runs.specs.InLockstep.{IsWritten}
@@ -8,11 +9,17 @@ use Rattle.node_threads.specs.Ends.{AreBehind, HaveEnded}
 use Rattle.node_threads.specs.declared.ended.Ended.{Ended}
 use Rattle.node_threads.specs.declared.ended.Ended.TheVariants.{NoMemory}
 use Rattle.omission_explainer.specs.declared.report.Report.{Report}
+use Rattle.policies.specs.Policies.{prompt_choice}
+use Rattle.policies.specs.declared.prompt.Prompt.{Prompt}
 use Rattle.round_lang.specs.Syntax.{ProgramTree}
 use Rattle.round_meaning.specs.declared.setup.Setup.{Setup}
 use Rattle.schedule_text.specs.declared.pace.Stop.{Stop}
 use Rattle.schedule_text.specs.declared.reading.ThreadSetup.{ThreadSetup}
 use Rattle.run_events.specs.declared.event.Event.{Event}
+
+-- how a network chooses that releases each message as soon as it can, in their order
+abbrev pub chooses_promptly : Chooses Prompt
+chooses_promptly old now flight choice new = choice ≡ prompt_choice flight
 
 -- The report is of a run whose events are these, as in Explained. Each node's thread closed all its
 -- rounds, with no stop before their end; or it stopped after as many steps as its stop says; or it

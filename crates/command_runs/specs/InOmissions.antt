@@ -1,8 +1,7 @@
 -- What is made of the lines that say which messages a run omits.
-use Rattle.std.specs.Prelude.{◌≡◌, ⊤, ℕ, List, Some}
+use Rattle.std.specs.Prelude.{⊤, ℕ, List, Some}
 use Rattle.adversary.specs.declared.fault.RunFault.{RunFault}
 use Rattle.adversary.specs.declared.fault.RunFault.TheVariants as run
-use Rattle.command_runs.specs.Explained.{IsReportOf}
 use Rattle.omission_explainer.specs.declared.report.Report.{Report}
 use Rattle.omission_schedules.specs.Reports.{ShowsRounds}
 use Rattle.omission_schedules.specs.Schedules.{schedule_with_stops}
@@ -12,7 +11,6 @@ use Rattle.omission_texts.specs.declared.line.OmissionLine.{OmissionLine}
 use Rattle.round_lang.specs.Syntax.{ProgramTree}
 use Rattle.round_meaning.specs.Setups.{IsLawful}
 use Rattle.round_meaning.specs.declared.setup.Setup.{Setup}
-use Rattle.slot_plans.specs.Plan.{PlanLaws}
 use Rattle.run_events.specs.declared.event.Event.{Event}
 
 -- the schedule that goes round by round, omits what the lines say, and in which a node that they
@@ -35,10 +33,3 @@ OmissionCause p s ls run.BadSetup = ¬ (IsLawful p.values s)
 OmissionCause p s ls (run.UnknownMessage n) = IsLawful p.values s × IsFirstUnknown s ls (Some n)
 OmissionCause p s ls run.NoMemory = ⊤
 OmissionCause p s ls _ = ⊥
-
--- the run of the schedule has the very report that is made in rounds, under each plan
-abbrev pub RunsReportRounds : Type 0
-RunsReportRounds =
-    (receives start : ℕ → ℕ) (p : ProgramTree) (s : Setup) (ls : List OmissionLine)
-    (report again : Report) → PlanLaws s.nodes receives start → ShowsOmitting start p s ls report
-    → IsReportOf start p s (realised_by receives start s ls) again → again ≡ report

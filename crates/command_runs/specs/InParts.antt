@@ -5,7 +5,7 @@ use Rattle.std.specs.Prelude.{Some, [], codes, false, get_or, if◌then◌else�
 use Rattle.std.specs.Fmt.{decimal}
 use Rattle.std.specs.Io.KnownBytes.{Appends}
 use Rattle.std.specs.List.{AllZip, list_all}
-use Rattle.command_runs.specs.Sources.{ShowsSource}
+use Rattle.command_runs.specs.Sources.{ShowsSource, SpellsTyped}
 use Rattle.command_runs.specs.Texts.{Files}
 use Rattle.command_runs.specs.declared.outcome.Outcome.{Outcome}
 use Rattle.command_runs.specs.declared.outcome.Outcome.TheVariants.{Done, No}
@@ -16,6 +16,7 @@ use Rattle.command_words.specs.declared.forms.AnswerFormat.{AnswerFormat}
 use Rattle.command_words.specs.declared.forms.AnswerFormat.TheVariants as format
 use Rattle.command_words.specs.declared.searching.PartChoice.{PartChoice}
 use Rattle.command_words.specs.declared.values.Source.{Source}
+use Rattle.command_words.specs.declared.values.Source.TheVariants.{File, Library}
 use Rattle.exploration_texts.specs.Lines.{answers_as}
 use Rattle.exploration_texts.specs.Questions.{question_text}
 use Rattle.exploration_texts.specs.declared.told.Told.{Told}
@@ -31,16 +32,27 @@ use Rattle.part_answers.specs.declared.part.Part.{Part}
 use Rattle.part_answers.specs.declared.part.PartAnswers.{PartAnswers}
 use Rattle.part_answers.specs.declared.part.PartHead.{PartHead}
 use Rattle.round_lang.specs.Limits.{max_text}
+use Rattle.round_lang.specs.Syntax.{ProgramTree}
 use Rattle.round_meaning.specs.declared.setup.Setup.{Setup}
 use Rattle.schedule_text.specs.Bytes.{IsLongText, IsNoText, IsText}
 use Rattle.sha2.specs.Sha256.{sha256}
 
--- the hex digits of the question of a search: of the digest of its source's text, of the header's
--- numbers and of what is asked
-abbrev pub IsQuestionOf : Source → Files → Setup → Exploring → List ℕ → Type 0
-IsQuestionOf source files s e question =
-    (text : List ℕ) × ShowsSource source files text
-    × (question ≡ encode_lower (sha256 (question_text text s e)))
+-- the hex digits of the digest of a question: of a source's text, of the header's numbers and of
+-- what is asked
+abbrev pub IsDigestOf : (text : List ℕ) → Setup → Exploring → List ℕ → Type 0
+IsDigestOf text s e question = question ≡ encode_lower (sha256 (question_text text s e))
+
+-- the text of a source file is the one that spells the program that is searched, whatever the file
+-- holds later
+abbrev pub IsTextOfProgram : Source → (text : List ℕ) → ProgramTree → Type 0
+IsTextOfProgram (File name) text p = SpellsTyped text p
+IsTextOfProgram (Library name values) text p = ⊤
+
+-- the question of a search for this program, which is its source's
+abbrev pub IsQuestionOf : Source → Files → Setup → ProgramTree → Exploring → List ℕ → Type 0
+IsQuestionOf source files s p e question =
+    (text : List ℕ) × ShowsSource source files text × IsTextOfProgram source text p
+    × IsDigestOf text s e question
 
 abbrev pub part_of : PartChoice → Part
 part_of p = record { number = p.number; count = p.count }
@@ -51,8 +63,8 @@ IsHeadFor None IsQuestion None = ⊤
 IsHeadFor (Some p) IsQuestion (Some head) = (head.part ≡ part_of p) × IsQuestion head.question
 IsHeadFor _ IsQuestion _ = ⊥
 
-abbrev pub IsHeadOf : Source → Files → Setup → Exploring → Option PartHead → Type 0
-IsHeadOf source files s e head = IsHeadFor e.part (IsQuestionOf source files s e) head
+abbrev pub IsHeadOf : Source → Files → Setup → ProgramTree → Exploring → Option PartHead → Type 0
+IsHeadOf source files s p e head = IsHeadFor e.part (IsQuestionOf source files s p e) head
 
 -- `{"part":2,"of":8,"question":"9f86d0..."}`
 abbrev pub head_data : PartHead → List ℕ

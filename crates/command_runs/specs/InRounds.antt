@@ -1,16 +1,18 @@
 -- What is found in all runs in rounds, and how a command ends that was carried out.
 use Rattle.std.specs.Borrow.{Bor}
-use Rattle.std.specs.Prelude.{◌≡◌, ◌++◌, ◌∷◌, ◌≤◌, ℕ, List, None, Option, Some, false, length}
-use Rattle.std.specs.Prelude.{if◌then◌else◌, option_map, string_bytes, true}
+use Rattle.std.specs.Prelude.{◌≡◌, ◌++◌, ◌∷◌, ◌<◌, ◌≤◌, ⊤, ℕ, List, None, Option, Some, false}
+use Rattle.std.specs.Prelude.{if◌then◌else◌, length, option_map, string_bytes, true}
 use Rattle.command_runs.specs.declared.exploring.Found.{Found}
 use Rattle.command_runs.specs.declared.outcome.Outcome.{Outcome}
 use Rattle.command_runs.specs.declared.outcome.Outcome.TheVariants.{Done, No}
+use Rattle.command_runs.specs.declared.trace_fault.TraceFault.{TraceFault}
+use Rattle.command_runs.specs.declared.trace_fault.TraceFault.TheVariants as fault
 use Rattle.command_words.specs.declared.exploring.Exploring.{Exploring}
 use Rattle.exploration_texts.specs.Lines.{comment_text}
 use Rattle.exploration_texts.specs.Stops.{steps_of}
 use Rattle.exploration_texts.specs.Told.{AreAnswers, IsFirstNo, all_hold}
-use Rattle.exploration_texts.specs.declared.told.PropertyName.{PropertyName}
 use Rattle.exploration_texts.specs.declared.told.Told.{Told}
+use Rattle.part_answers.specs.declared.property.Property.{Property as PropertyName}
 use Rattle.omission_schedules.specs.Schedules.{schedule_with_stops}
 use Rattle.round_explorer.specs.Answers.{in_rounds, with_inputs}
 use Rattle.round_explorer.specs.declared.answer.Counterexample.{Counterexample}
@@ -77,6 +79,12 @@ IsMade (Some name) told (Some text) = all_hold told ≡ false
 -- the bytes of a trace that was found
 abbrev pub trace_of : Found → Option (List ℕ)
 trace_of found = option_map (λ text. string_bytes text) found.trace
+
+-- why a trace isn't written: it's longer than what commands read, or the desk doesn't take it
+abbrev pub IsTraceFault : (trace : Option (List ℕ)) → TraceFault → Type 0
+IsTraceFault (Some text) fault.TooLong = max_text < length text
+IsTraceFault (Some text) _ = ⊤
+IsTraceFault None _ = ⊥
 
 -- how `explore` ends that tells this
 abbrev pub outcome_of : List Told → Outcome

@@ -1,5 +1,4 @@
 pub mod Explained
-pub mod EveryReport
 pub mod InChanges
 pub mod InLockstep
 pub mod InOmissions

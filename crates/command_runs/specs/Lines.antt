@@ -14,6 +14,9 @@ use Rattle.command_runs.specs.declared.refusal.Refusal.TheVariants.{Schedule, Li
 use Rattle.command_runs.specs.declared.refusal.Refusal.TheVariants.{NoSuchProgram, Run, Write}
 use Rattle.command_runs.specs.declared.refusal.Refusal.TheVariants.{NoMemory, NodeNoMemory}
 use Rattle.command_runs.specs.declared.refusal.Refusal.TheVariants.{NoVariable, Part, TooManyEvents}
+use Rattle.command_runs.specs.declared.refusal.Refusal.TheVariants.{Trace}
+use Rattle.command_runs.specs.declared.trace_fault.TraceFault.{TraceFault}
+use Rattle.command_runs.specs.declared.trace_fault.TraceFault.TheVariants as trace
 use Rattle.command_words.specs.Lines.{words_line}
 use Rattle.exploration_texts.specs.Lines.{condition_text}
 use Rattle.part_answers.specs.declared.joining.PartsFault.{PartsFault}
@@ -105,6 +108,16 @@ part_line (part.Line place n) =
     ++ codes "\n"
 part_line (part.Parts fault) = parts_line fault
 
+-- why a trace isn't written that no command would read
+abbrev pub long_trace : List ℕ
+long_trace = codes "the schedule of this run has more than 16777216 bytes, and no command reads it"
+
+-- that the trace of a search isn't written
+abbrev pub trace_line : TraceFault → List ℕ
+trace_line trace.Unwritten = codes "refused write\n"
+trace_line trace.TooLong = codes "refused trace: " ++ long_trace ++ codes "\n"
+trace_line trace.NoMemory = memory_line
+
 -- the line of a refusal, if it isn't `clap`'s own text
 abbrev pub line_of : Refusal → Option (List ℕ)
 line_of (Words fault) = words_line fault
@@ -120,6 +133,7 @@ line_of (Run fault) = Some (run_line fault)
 line_of (Part cause) = Some (part_line cause)
 line_of TooManyEvents = Some (codes "refused picture: " ++ many_events ++ codes "\n")
 line_of NoVariable = Some (codes "refused table: " ++ no_variable ++ codes "\n")
+line_of (Trace fault) = Some (trace_line fault)
 line_of Write = Some (codes "refused write\n")
 line_of NoMemory = Some memory_line
 line_of NodeNoMemory = Some memory_line
@@ -127,6 +141,7 @@ line_of NodeNoMemory = Some memory_line
 -- 1 refused input, 2 a bad command line, 3 no memory
 abbrev pub status_of : Refusal → ℕ
 status_of (Words cause) = 2
+status_of (Trace trace.NoMemory) = 3
 status_of NoMemory = 3
 status_of NodeNoMemory = 3
 status_of _ = 1

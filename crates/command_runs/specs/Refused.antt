@@ -13,9 +13,10 @@ use Rattle.algorithm_library.specs.declared.fault.LibraryFault.{LibraryFault}
 use Rattle.algorithm_library.specs.declared.fault.LibraryFault.TheVariants as library
 use Rattle.command_runs.specs.InChanges.{AreFitChanges, Terms}
 use Rattle.command_runs.specs.InLockstep.{AreTerms}
-use Rattle.command_runs.specs.InParts.{HasNoPartText, MakesNoWhole, MakesWhole}
+use Rattle.command_runs.specs.InParts.{HasNoPartText, MakesNoWhole, MakesWhole, explored_as}
+use Rattle.command_runs.specs.InRounds.{IsTraceFault, trace_of}
 use Rattle.command_runs.specs.Lines.{status_of}
-use Rattle.command_runs.specs.Served.{AsksForHelp, IsCheckedSource, IsHeader, IsOfKind}
+use Rattle.command_runs.specs.Served.{AsksForHelp, FindsIn, IsCheckedSource, IsHeader, IsOfKind}
 use Rattle.command_runs.specs.Served.{IsOmissionText, IsProgramOf, IsThreadSetup, Prints}
 use Rattle.command_runs.specs.Served.{IsPaced, IsShownOf, NamesColumns, ReportsRounds, ReportsRun}
 use Rattle.command_runs.specs.Served.{ReportsThreads, SaysLines, file_name, terms_by}
@@ -28,8 +29,10 @@ use Rattle.schedule_text.specs.declared.source.TextFault.{TextFault}
 use Rattle.schedule_text.specs.declared.source.TextFault.TheVariants as text
 use Rattle.command_runs.specs.declared.desk.DeskFault.{DeskFault}
 use Rattle.command_runs.specs.declared.desk.DeskFault.TheVariants as desk
+use Rattle.command_runs.specs.declared.exploring.Explored.{Explored}
 use Rattle.command_runs.specs.declared.refusal.Refusal.{Refusal}
 use Rattle.command_runs.specs.declared.refusal.Refusal.TheVariants as refusal
+use Rattle.command_runs.specs.declared.trace_fault.TraceFault.{TraceFault}
 use Rattle.command_words.specs.Given.{Explains, Means}
 use Rattle.command_words.specs.declared.values.Source.{Source}
 use Rattle.command_words.specs.declared.values.Source.TheVariants.{File, Library}
@@ -39,6 +42,7 @@ use Rattle.command_words.specs.declared.words.Words.TheVariants.{Check, Draw, Ex
 use Rattle.command_words.specs.declared.words.Words.TheVariants.{Lockstep, Realise, Rounds, Run}
 use Rattle.command_words.specs.declared.words.Words.TheVariants.{Show, Threads, Together}
 use Rattle.command_words.specs.declared.exploring.Exploring.{Exploring}
+use Rattle.command_words.specs.declared.forms.AnswerFormat.{AnswerFormat}
 use Rattle.command_words.specs.declared.forms.Form.{Form}
 use Rattle.exploration_texts.specs.Conditions.{IsFaultFor}
 use Rattle.exploration_texts.specs.declared.condition.ConditionFault.{ConditionFault}
@@ -480,9 +484,17 @@ IsUnwritten (Explore source header exploring f) files =
     × Prints (Explore source header exploring f) files after text)
 IsUnwritten w files = (after : Files) × (text : List ℕ) × Prints w files after text
 
+-- the schedule that shows a failure isn't written after a search; other commands have none
+abbrev pub HasNoTrace : Words → Files → TraceFault → Type 0
+HasNoTrace (Explore source header exploring f) files fault =
+    (x : Explored) × FindsIn source files (files header.now) exploring x
+    × IsTraceFault (trace_of x.found) fault
+HasNoTrace w files fault = IsUnserved w files (refusal.Trace fault)
+
 -- and last, that something isn't written, or that the thread of a node had no memory
 abbrev pub IsRefusedCommand : Words → Files → Refusal → Type 0
 IsRefusedCommand w files refusal.Write = IsUnwritten w files
+IsRefusedCommand w files (refusal.Trace fault) = HasNoTrace w files fault
 IsRefusedCommand w files refusal.NodeNoMemory = IsThreaded w files
 IsRefusedCommand w files r = IsUnserved w files r
 
@@ -515,10 +527,20 @@ LeftByThreads source files file after told old new refusal.NodeNoMemory =
     TellsThreads source files file after false told old new
 LeftByThreads source files file after told old new r = IsSilent old new r
 
+-- what a search leaves that was refused: if its trace isn't written, the answers, and else nothing
+abbrev pub LeftBySearch : Source → Files → Option (List ℕ) → Exploring → AnswerFormat
+    → (old new : Option (List ℕ)) → Refusal → Type 0
+LeftBySearch source files file e f old new (refusal.Trace fault) =
+    (x : Explored) × FindsIn source files file e x
+    × Appends old new (explored_as f x.head x.found.told.items)
+LeftBySearch source files file e f old new r = IsSilent old new r
+
 -- what a refused command leaves
 abbrev pub IsLeft : Words → (files after : Files) → (old new : Option (List ℕ)) → Refusal → Type 0
 IsLeft (Threads source setup trace told) files after old new r =
     LeftByThreads source files (files setup.now) (after trace.now) told old new r
+IsLeft (Explore source header exploring f) files after old new r =
+    LeftBySearch source files (files header.now) exploring f old new r
 IsLeft w files after old new r = IsSilent old new r
 
 -- what the words leave whose command was refused
@@ -527,6 +549,8 @@ abbrev pub IsLeftBy : List (List ℕ) → (files after : Files) → (old new : O
 IsLeftBy ws files after old new refusal.NodeNoMemory =
     (w : Words) × Means ws w × IsThreaded w files
     × IsLeft w files after old new refusal.NodeNoMemory
+IsLeftBy ws files after old new (refusal.Trace fault) =
+    (w : Words) × Means ws w × IsLeft w files after old new (refusal.Trace fault)
 IsLeftBy ws files after old new r = IsSilent old new r
 
 -- a command was refused for a cause that stands, and this is what it leaves of `out`

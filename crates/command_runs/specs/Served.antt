@@ -1,7 +1,7 @@
 -- What the program writes, as a relation of its words to the files on the desk.
 use Rattle.std.specs.Borrow.{Bor}
 use Rattle.std.specs.Prelude.{◌≡◌, ◌<◌, ◌≤◌, ◌++◌, ◌⊎◌, ⊤, ℕ, All, Bool, List, None, Option, Some}
-use Rattle.std.specs.Prelude.{IfSome, IsSome, [], codes, false, length, true}
+use Rattle.std.specs.Prelude.{IfSome, IsSome, [], codes, false, length, string_bytes, true}
 use Rattle.std.specs.Global.{Vec}
 use Rattle.std.specs.Prelude.{if◌then◌else◌}
 use Rattle.std.specs.Fmt.{decimal}
@@ -23,6 +23,8 @@ use Rattle.command_runs.specs.declared.outcome.Outcome.{Outcome}
 use Rattle.command_runs.specs.declared.outcome.Outcome.TheVariants.{Done}
 use Rattle.command_runs.specs.declared.sources.Opened.{Opened}
 use Rattle.command_runs.specs.declared.sources.Opened.TheVariants as opened
+use Rattle.command_runs.specs.declared.sources.SourceText.{SourceText}
+use Rattle.command_runs.specs.declared.sources.SourceText.TheVariants as kept
 use Rattle.command_runs.specs.ByThreads.{IsThreadRun}
 use Rattle.command_runs.specs.Explained.{IsReportOf, IsVerdictOf}
 use Rattle.command_runs.specs.InChanges.{Terms}
@@ -31,8 +33,8 @@ use Rattle.command_runs.specs.InOmissions.{ShowsOmitting, realised_by}
 use Rattle.command_runs.specs.InParts.{IsHeadOf, MakesWhole, TellsWhole, explored_as}
 use Rattle.command_runs.specs.InRounds.{IsFound, ShowsFailure, outcome_of}
 use Rattle.command_runs.specs.Library.{Offers}
-pub use Rattle.command_runs.specs.Sources.{ShowsSource, file_name}
-use Rattle.command_runs.specs.Texts.{Files}
+pub use Rattle.command_runs.specs.Sources.{ShowsSource, SpellsTyped, file_name}
+use Rattle.command_runs.specs.Texts.{Files, HoldsWhole}
 use Rattle.command_runs.specs.Within.{IsExplored, IsFitOmitting, IsFitRun}
 use Rattle.schedule_text.specs.Bytes.{IsText}
 use Rattle.clap.specs.Words.{IsAmong, fault_of}
@@ -88,17 +90,25 @@ IsProgramOf (File name) files nodes faults p =
     IfSome (files (file_name name.now)) (λ text. IsCheckedSource text p)
 IsProgramOf (Library name values) files nodes faults p = Offers name.now values nodes faults p
 
--- a source that was opened: the program of its file, or what it names of the library
+-- a source that was opened: the program that the whole text of its file spells, with that text, or
+-- what it names of the library
 abbrev pub Opens : Source → Files → Opened → Type 0
-Opens (File name) files (opened.File p) =
-    IfSome (files (file_name name.now)) (λ text. IsCheckedSource text p)
+Opens (File name) files (opened.File p text) =
+    HoldsWhole max_text (files (file_name name.now)) (string_bytes text)
+    × SpellsTyped (string_bytes text) p
 Opens (Library name values) files (opened.Library n k) = (n ≡ name) × (k ≡ values)
 Opens _ files _ = ⊥
 
 -- the program of an opened source, for so many nodes and faults
 abbrev pub HoldsProgram : Opened → (nodes faults : ℕ) → ProgramTree → Type 0
-HoldsProgram (opened.File q) nodes faults p = p ≡ q
+HoldsProgram (opened.File q text) nodes faults p = p ≡ q
 HoldsProgram (opened.Library name values) nodes faults p = Offers name.now values nodes faults p
+
+-- the text of an opened source
+abbrev pub HoldsSourceText : Opened → SourceText → Type 0
+HoldsSourceText (opened.File q text) (kept.File same) = same ≡ text
+HoldsSourceText (opened.Library n k) (kept.Library name values) = (name ≡ n) × (values ≡ k)
+HoldsSourceText _ _ = ⊥
 
 -- the text is of this kind, with this setup and plan in its header, and this behind it
 pub record IsOfKind (kind : Kind) (text : List ℕ) (s : Setup) (k : PlanKind) (t : Tail kind) :
@@ -250,14 +260,16 @@ FindsIn source files file e x =
     IfSome file (λ text. (s : Setup) × (k : PlanKind) × (p : ProgramTree) × IsHeader text s k
     × IsProgramOf source files s.nodes s.faults p × IsExplored p s k e
     × IsFound (receives_of k) (start_of k s.nodes) p s k e x.found
-    × IsHeadOf source files s e x.head)
+    × IsHeadOf source files s p e x.head)
 
--- if a trace is asked for and a property fails, its file shows the first that does
+-- if a trace is asked for and a property fails, its file shows the first that does, and isn't too
+-- long to be read
 abbrev pub HasTrace :
     Setup → PlanKind → Option (Bor (List ℕ)) → (after : Files) → List Told → Type 0
 HasTrace s k None after told = ⊤
 HasTrace s k (Some name) after told = (all_hold told ≡ true)
-    ⊎ IfSome (after name.now) (ShowsFailure (receives_of k) (start_of k s.nodes) s k told)
+    ⊎ IfSome (after name.now) (λ held. (length held ≤ max_schedule)
+    × ShowsFailure (receives_of k) (start_of k s.nodes) s k told held)
 
 -- this is told of all runs of the source's program, under the header in a file
 abbrev pub TellsOfAll : Source → (files after : Files) → Option (List ℕ) → Exploring
@@ -266,7 +278,7 @@ TellsOfAll source files after file e head told =
     IfSome file (λ text. (s : Setup) × (k : PlanKind) × (p : ProgramTree) × IsHeader text s k
     × IsProgramOf source files s.nodes s.faults p × IsExplored p s k e
     × AreAnswers p s e told × HasTrace s k e.trace after told
-    × IsHeadOf source files s e head)
+    × IsHeadOf source files s p e head)
 
 -- the answer to a question on a run
 abbrev pub AnswersRun : Source → Files → Option (List ℕ) → Question → Answer → Type 0

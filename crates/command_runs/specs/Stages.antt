@@ -1,6 +1,6 @@
 -- What the parts of a command answer, which proofs pass through.
 use Rattle.std.specs.Borrow.{Bor}
-use Rattle.std.specs.Prelude.{◌≡◌, ◌≢◌, ◌<◌, ◌⊎◌, ◌++◌, ◌∷◌, ⊤, ℕ, IfSome, List, []}
+use Rattle.std.specs.Prelude.{◌≡◌, ◌≢◌, ◌<◌, ◌≤◌, ◌⊎◌, ◌++◌, ◌∷◌, ⊤, ℕ, IfSome, List, []}
 use Rattle.std.specs.Prelude.{Option, Some, length}
 use Rattle.std.specs.Io.KnownBytes.{Appends}
 use Rattle.adversary.specs.Reading.{IsScheduleOf}
@@ -25,7 +25,6 @@ use Rattle.command_runs.specs.declared.refusal.Refusal.{Refusal}
 use Rattle.command_runs.specs.declared.refusal.Refusal.TheVariants as refusal
 use Rattle.command_runs.specs.declared.sources.Opened.{Opened}
 use Rattle.command_runs.specs.declared.sources.Opened.TheVariants as opened
-use Rattle.command_runs.specs.declared.texts.Text.TheVariants as text
 use Rattle.command_words.specs.declared.drawing.Drawing.{Drawing}
 use Rattle.command_words.specs.declared.exploring.Exploring.{Exploring}
 use Rattle.command_words.specs.declared.forms.Form.{Form}
@@ -76,7 +75,7 @@ IsNoReadOf kind held r = IsUnread (fault_in kind) held r
 
 -- why an opened source has no program
 abbrev pub IsHeldBack : Opened → (nodes faults : ℕ) → Refusal → Type 0
-IsHeldBack (opened.File p) n t r = ⊥
+IsHeldBack (opened.File p text) n t r = ⊥
 IsHeldBack (opened.Library name values) n t r = IsNoOffer name.now values n t r
 
 -- the nodes that a question takes as correct
@@ -218,9 +217,10 @@ IsNoWhole parts (refusal.Part (part.Parts fault)) = IsFaultOf parts fault
 IsNoWhole parts refusal.NoMemory = ⊤
 IsNoWhole parts _ = ⊥
 
--- the file has the text, if there are both
+-- the file has the text, which commands can read, if there are both
 abbrev pub HoldsText : (after : Files) → Option (Bor (List ℕ)) → Option (List ℕ) → Type 0
-HoldsText after (Some name) (Some text) = IfSome (after name.now) (λ held. held ≡ text)
+HoldsText after (Some name) (Some text) =
+    (length text ≤ max_schedule) × IfSome (after name.now) (λ held. held ≡ text)
 HoldsText after _ _ = ⊤
 
 -- and it alone was written

@@ -1,5 +1,5 @@
 -- Why a source isn't shown.
-use Rattle.std.specs.Prelude.{⊤, ℕ, IfSome, List, Option}
+use Rattle.std.specs.Prelude.{◌≡◌, ⊤, ℕ, IfSome, List, Option}
 use Rattle.algorithm_library.specs.Refusals.{IsCount}
 use Rattle.algorithm_library.specs.declared.fault.LibraryFault.TheVariants as library
 use Rattle.command_runs.specs.Library.{IsLibraryName}
@@ -7,6 +7,8 @@ use Rattle.command_runs.specs.Sources.{file_name}
 use Rattle.command_runs.specs.Texts.{Files}
 use Rattle.command_runs.specs.declared.refusal.Refusal.{Refusal}
 use Rattle.command_runs.specs.declared.refusal.Refusal.TheVariants as refusal
+use Rattle.command_runs.specs.declared.sources.SourceText.{SourceText}
+use Rattle.command_runs.specs.declared.sources.SourceText.TheVariants as kept
 use Rattle.command_words.specs.declared.values.Source.{Source}
 use Rattle.command_words.specs.declared.values.Source.TheVariants.{File, Library}
 use Rattle.round_lang.specs.Limits.{max_text}
@@ -31,3 +33,8 @@ OffersNoText name k _ = ⊥
 abbrev pub IsUnshown : Source → Files → Refusal → Type 0
 IsUnshown (File name) files r = HasNoSource (files (file_name name.now)) r
 IsUnshown (Library name values) files r = OffersNoText name.now values r
+
+-- why there is no text of a source that was opened
+abbrev pub HasNoSourceText : SourceText → Refusal → Type 0
+HasNoSourceText (kept.File text) r = r ≡ refusal.NoMemory
+HasNoSourceText (kept.Library name values) r = OffersNoText name.now values r

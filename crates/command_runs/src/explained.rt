@@ -4,7 +4,8 @@ ghost use Rattle.adversary.specs.Driving.{IsKnown};
 ghost use Rattle.adversary.specs.Reading.{IsNotRead, IsScheduleOf};
 ghost use Rattle.command_runs.specs.Explained.{AreListed, IsReportOf, IsVerdictOf};
 ghost use Rattle.omission_explainer.specs.Decided.{AreAgreed, AreInputs};
-ghost use Rattle.round_meaning.specs.Agreement.{RunsAlgorithm1};
+ghost use Rattle.omission_explainer.specs.InRounds.{printed_omits};
+ghost use Rattle.round_meaning.specs.Agreement.{AgreesIn, IsValidIn};
 ghost use Rattle.run_events.specs.Limits.{max_nodes};
 ghost use Rattle.round_meaning.specs.Setups.{IsLawful};
 
@@ -19,10 +20,9 @@ use std::alloc::Global;
 use step_journal::Journal;
 
 /// The report of running a schedule in single steps, event by event as it's read: the run explained
-/// in rounds. Where the program is Algorithm 1, for a setup with fewer than half of the nodes
-/// faulty, all decisions in it are equal, and each is some node's input. The journal of the run is
-/// handed out too, whose trace has the schedule's events: whoever is done with it may leave its
-/// memory to the system.
+/// in rounds. What holds of all decisions of the program under the omissions that the report prints
+/// holds of the decisions in it. The journal of the run is handed out too, whose trace has the
+/// schedule's events: whoever is done with it may leave its memory to the system.
 ///
 /// Refusals are those of `run_read`.
 pub fn explained_run<P: Plan, S: TextSource + Drop>(
@@ -40,10 +40,11 @@ pub fn explained_run<P: Plan, S: TextSource + Drop>(
     ensures read { IfOk result (λ answer. IsScheduleOf setup.now reader answer.1.log.trace) }
     ensures explained { IfOk result (λ answer. IsReportOf (P.start plan) program.now setup.now
         answer.1.log.trace answer.0) }
-    ensures agreement { IfOk result
-        (λ answer. RunsAlgorithm1 program.now setup.now → AreAgreed answer.0.rows) }
-    ensures validity { IfOk result
-        (λ answer. RunsAlgorithm1 program.now setup.now → AreInputs setup.now answer.0.rows) }
+    ensures agreement { IfOk result (λ answer.
+        AgreesIn program.now setup.now (printed_omits answer.0.rows) → AreAgreed answer.0.rows) }
+    ensures validity { IfOk result (λ answer.
+        IsValidIn program.now setup.now (printed_omits answer.0.rows)
+        → AreInputs setup.now answer.0.rows) }
 {
     let journal = run_read(alloc, program, setup, plan, reader)?;
     journal.agrees();

@@ -1,15 +1,16 @@
 //! What is found by going through all runs in rounds.
-ghost use Rattle.std.specs.Prelude.{◌≡◌, ◌↔◌, All, IfErr, IfOk, IsTrue, OnOk, option_map};
+ghost use Rattle.std.specs.Prelude.{◌≡◌, ◌↔◌, ℕ, All, IfErr, IfOk, IsTrue, List, OnOk, option_map};
 ghost use Rattle.std.specs.Prelude.{string_bytes};
 ghost use Rattle.command_runs.specs.Apart.{IsApartIfNamed};
-ghost use Rattle.command_runs.specs.InParts.{IsHeadOf};
+ghost use Rattle.command_runs.specs.InParts.{IsDigestOf, IsHeadFor, IsHeadOf};
 ghost use Rattle.command_runs.specs.InRounds.{IsFound, IsMade, IsShown, IsTrace, ShowsFirst};
 ghost use Rattle.command_runs.specs.InRounds.{trace_of};
 ghost use Rattle.command_runs.specs.Refused.{IsNotExplored, IsUnexplored};
 ghost use Rattle.command_runs.specs.Within.{IsExplorable, IsExplored};
 ghost use Rattle.command_runs.specs.Served.{FindsIn};
+ghost use Rattle.command_runs.specs.Sources.{IsTextOfSource};
 ghost use Rattle.command_runs.specs.Stages.{AreSearchable, IsRefusedSearch};
-ghost use Rattle.command_runs.specs.Unshown.{IsUnshown};
+ghost use Rattle.command_runs.specs.Unshown.{HasNoSourceText};
 ghost use Rattle.exploration_texts.specs.Stops.{IsShowable, IsToldToShow};
 ghost use Rattle.round_meaning.specs.Setups.{IsSetup};
 ghost use Rattle.slot_plans.specs.Named.{receives_of, start_of};
@@ -17,8 +18,7 @@ ghost use Rattle.slot_plans.specs.Named.{receives_of, start_of};
 use crate::desk::Desk;
 use crate::lockstep::header_in;
 use crate::refusal::Refusal;
-use crate::showing::source_text;
-use crate::sources::Opened;
+use crate::sources::{Opened, SourceText};
 use crate::traces::try_trace_if_named;
 use adversary::RunFault;
 use command_words::{Exploring, Source};
@@ -93,7 +93,7 @@ impl<'a> Exploration<'a> {
     ) -> Result<(Checked, Setup, PlanKind, Option<PartHead>), Refusal>
         ensures searchable { IfOk result (λ o. AreSearchable self.now.source (D.files desk.old)
             (D.files desk.old self.now.header.now) self.now.exploring o.0 o.1 o.2) }
-        ensures headed { IfOk result (λ o. IsHeadOf self.now.source (D.files desk.old) o.1
+        ensures headed { IfOk result (λ o. IsHeadOf self.now.source (D.files desk.old) o.1 o.0
             self.now.exploring o.3) }
         ensures refused { IfErr result (IsUnexplored self.now.source (D.files desk.old)
             (D.files desk.old self.now.header.now) self.now.exploring) }
@@ -101,37 +101,36 @@ impl<'a> Exploration<'a> {
     {
         let opened = Opened::open(alloc, self.source, desk)?;
         let (setup, plan) = header_in(alloc, self.header, desk)?;
-        let program = opened.program(alloc, setup.nodes, setup.faults)?;
+        let (program, text) = opened.with_text(alloc, setup.nodes, setup.faults)?;
         check_asked(alloc, &program, &setup, plan, &self.exploring)?;
-        let head = self.head(alloc, &setup, desk)?;
+        let head = head_of(alloc, text, &setup, &self.exploring)?;
         Ok((program, setup, plan, head))
     }
+}
 
-    /// Which part of which question is asked about, if it is only one.
-    fn head<D: Desk>(
-        &self,
-        alloc: Global,
-        setup: &Setup,
-        desk: &mut D,
-    ) -> Result<Option<PartHead>, Refusal>
-        ensures headed { IfOk result (IsHeadOf self.now.source (D.files desk.old) setup.now
-            self.now.exploring) }
-        ensures refused { IfErr result (IsUnshown self.now.source (D.files desk.old)) }
-        ensures written { D.written desk.new ≡ D.written desk.old }
-    {
-        let Some(part) = self.exploring.part else {
-            return Ok(None);
-        };
-        let text = source_text(alloc, self.source, desk)?;
-        let digest = question_digest(alloc, text.as_str(), setup, &self.exploring)?;
-        Ok(Some(PartHead {
-            part: Part {
-                number: part.number,
-                count: part.count,
-            },
-            question: Question::of(&digest),
-        }))
-    }
+/// Which part of which question is asked about, if it is only one.
+fn head_of(
+    alloc: Global,
+    text: SourceText<'_>,
+    setup: &Setup,
+    exploring: &Exploring<'_>,
+) -> Result<Option<PartHead>, Refusal>
+    ensures headed { IfOk result (IsHeadFor exploring.now.part (λ question. (bytes : List ℕ)
+        × IsTextOfSource text.entry bytes × IsDigestOf bytes setup.now exploring.now question)) }
+    ensures refused { IfErr result (HasNoSourceText text.entry) }
+{
+    let Some(part) = exploring.part else {
+        return Ok(None);
+    };
+    let text = text.into_string(alloc)?;
+    let digest = question_digest(alloc, text.as_str(), setup, exploring)?;
+    Ok(Some(PartHead {
+        part: Part {
+            number: part.number,
+            count: part.count,
+        },
+        question: Question::of(&digest),
+    }))
 }
 
 /// Refuses numbers that are past their limits, and then an EXPR that is no condition.

@@ -7,6 +7,7 @@ ghost use Rattle.command_runs.specs.Lines.{run_line, schedule_line, source_line,
 
 use crate::desk::DeskFault;
 use crate::part_refusal::{PartRefusal, write_part_refusal};
+use crate::trace_fault::{TraceFault, write_trace_fault};
 use adversary::{ReadFault, RunFault, ScheduleFault};
 use algorithm_library::LibraryFault;
 use command_words::WordsFault;
@@ -41,6 +42,8 @@ pub enum Refusal {
     TooManyEvents,
     /// A list of a table's variables has a name that is that of none.
     NoVariable,
+    /// The answers of a search were printed, and the schedule that shows a failure isn't written.
+    Trace(TraceFault),
     /// Standard output takes no more, or a trace can't be written, or is a file that is read.
     Write,
     NoMemory,
@@ -64,6 +67,7 @@ impl Refusal {
         match self {
             Refusal::Words(_) => 2,
             Refusal::NoMemory | Refusal::NodeNoMemory => 3,
+            Refusal::Trace(TraceFault::NoMemory) => 3,
             _ => 1,
         }
     }
@@ -94,6 +98,7 @@ impl fmt::Display for Refusal {
             Refusal::Part(cause) => write_part_refusal(*cause, f),
             Refusal::TooManyEvents => writeln!(f, "refused picture: {}", MANY_EVENTS),
             Refusal::NoVariable => writeln!(f, "refused table: {}", NO_VARIABLE),
+            Refusal::Trace(fault) => write_trace_fault(*fault, f),
             Refusal::Write => writeln!(f, "refused write"),
             Refusal::NoMemory | Refusal::NodeNoMemory => write_no_memory(f),
         }

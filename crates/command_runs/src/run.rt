@@ -7,7 +7,8 @@ ghost use Rattle.command_runs.specs.Desks.{MayWrite, MayWriteTrace, Writes, Writ
 ghost use Rattle.command_runs.specs.Desks.{WroteAtMost, WroteFor};
 ghost use Rattle.command_runs.specs.InRounds.{code_of};
 ghost use Rattle.command_runs.specs.Refused.{IsCause, IsLeft, IsLeftBy, IsRefused};
-ghost use Rattle.command_runs.specs.Refused.{IsRefusedCommand, IsSilent, LeftByThreads};
+ghost use Rattle.command_runs.specs.Refused.{IsRefusedCommand, IsSilent, LeftBySearch};
+ghost use Rattle.command_runs.specs.Refused.{LeftByThreads};
 ghost use Rattle.command_runs.specs.Refused.{TellsThreads};
 ghost use Rattle.command_runs.specs.Served.{AsksForHelp, Ends, IsEnded, SaysAnswer, Serves};
 ghost use Rattle.command_runs.specs.InChanges.{terms_of};
@@ -31,8 +32,6 @@ use crate::sources::Opened;
 use crate::threads::{ThreadRun, Threaded};
 use crate::traces::{write_shown, write_trace};
 use command_words::{AnswerFormat, Form, Source, Words, WordsFault, read_words};
-use exploration_texts::Told;
-use part_answers::PartHead;
 use policies::{Bounded, Table};
 use round_check::Checked;
 use std::alloc::Global;
@@ -44,10 +43,11 @@ use std::thread::Threads;
 /// Runs the command that the words name, and answers the exit status: 0 done, 1 refused (the input,
 /// an output or a file that can't be written, or a thread that can't be started), 2 a bad command
 /// line, 3 no memory, 5 done, and a property that `explore` was asked about fails. A refusal is
-/// told on `err`, in one line, or for a bad command line in `clap`'s own text. Nothing is written
+/// printed on `err`, in one line, or for a bad command line in `clap`'s own text. Nothing is written
 /// to `out` then, but for three cases. If `out` fails it may have a part; if the trace of `explore`
-/// can't be written it has the answers; and if the thread of a node had no memory it has the report
-/// of what was recorded. If the words ask for help or the version, `out` gets that text.
+/// isn't written after the search it has the answers; and if the thread of a node had no memory it
+/// has the report of what was recorded. If the words ask for help or the version, `out` gets that
+/// text.
 ///
 /// With `threads` it waits for its threads, and needn't return.
 pub fn run_words<'a, R: Threads + Wait + Sync, D: Desk, O: Write, E: Write>(
@@ -65,9 +65,9 @@ pub fn run_words<'a, R: Threads + Wait + Sync, D: Desk, O: Write, E: Write>(
     ensures served { (o : Outcome) → result ≡ code_of o
         → IsEnded (map (λ s. s.now) words.entry.now) (D.files desk.old)
         (D.files desk.new) o (O.contents out.old) (O.contents out.new) }
-    // Another status: a cause stands, and none that is told before it, and `out` gained nothing. If
+    // Another status: a cause holds, and none that comes before it, and `out` gained nothing. If
     // the thread of a node had no memory, it gained the report of what was recorded, whose trace
-    // was written.
+    // was written. If the trace of a search isn't written, it gained the answers.
     ensures refused { 0 < result → result ≤ 3 → IsRefused (map (λ s. s.now) words.entry.now)
         (D.files desk.old) (D.files desk.new) result (O.contents out.old) (O.contents out.new) }
     // No command writes a file, but for `threads` and `explore` that of a trace.
@@ -418,9 +418,8 @@ fn run_rounds<'a, D: Desk, O: Write>(
     tell_report(alloc, &report, form, out)
 }
 
-/// Tells what is found in all runs, and first writes the schedule that shows a property failing. If
-/// that can't be written, what is found is told all the same.
-#[tactic(auto, using(crate::proofs::Telling::silent_same))]
+/// Prints what is found in all runs, and then writes the schedule that shows a property failing,
+/// also if `out` took no more.
 fn explore<'a, R: Threads + Sync, D: Desk, O: Write>(
     rt: &R,
     alloc: Global,
@@ -434,7 +433,9 @@ fn explore<'a, R: Threads + Sync, D: Desk, O: Write>(
         (D.files desk.old) (D.files desk.new) o (O.contents out.old) (O.contents out.new)) }
     ensures refused { IfErr result (IsRefusedCommand (Words.Explore exploration.entry.source
         exploration.entry.header exploration.entry.exploring format) (D.files desk.old)) }
-    ensures silent { IfErr result (IsSilent (O.contents out.old) (O.contents out.new)) }
+    ensures left { IfErr result (LeftBySearch exploration.entry.source (D.files desk.old)
+        (D.files desk.old exploration.entry.header.now) exploration.entry.exploring format
+        (O.contents out.old) (O.contents out.new)) }
     ensures written { MayWriteTrace exploration.entry.exploring.trace
         (D.written desk.old) (D.written desk.new) }
     ensures apart { (D.written desk.new ≡ D.written desk.old)
@@ -445,33 +446,13 @@ fn explore<'a, R: Threads + Sync, D: Desk, O: Write>(
 {
     let Explored { head, found } = exploration.find(rt, alloc, desk)?;
     let Found { told, trace } = found;
-    match write_shown(exploration.exploring.trace, &trace, desk) {
-        Ok(()) => {
-            written(write_explored(&head, &told, format, out), out)?;
-            Ok(Outcome::of(&told))
-        }
-        Err(refusal) => Err(told_all_the_same(&head, &told, format, refusal, out)),
+    let printed = written(write_explored(&head, &told, format, out), out);
+    let traced = write_shown(exploration.exploring.trace, &trace, desk);
+    printed?;
+    match traced {
+        Ok(()) => Ok(Outcome::of(&told)),
+        Err(fault) => Err(Refusal::Trace(fault)),
     }
-}
-
-/// Tells what is found if its trace can't be written, and gives that refusal; without memory
-/// nothing is told.
-fn told_all_the_same<O: Write>(
-    head: &Option<PartHead>,
-    told: &[Told],
-    format: AnswerFormat,
-    refusal: Refusal,
-    out: &mut O,
-) -> Refusal
-    requires { (refusal ≡ Refusal.Write) ⊎ (refusal ≡ Refusal.NoMemory) }
-    ensures same { result ≡ refusal }
-    ensures silent { IsSilent (O.contents out.old) (O.contents out.new) result }
-{
-    if let Refusal::Write = refusal {
-        // Where `out` fails too, that is refused as well.
-        let _ = written(write_explored(head, told, format, out), out);
-    }
-    refusal
 }
 
 /// Writes an answer, and all that the writer still holds.

@@ -54,7 +54,7 @@ pub(crate) fn source_text<'a, D: Desk>(
 }
 
 /// The text of a program of the library.
-fn offered_text(alloc: Global, name: &str, values: u32) -> Result<String, Refusal>
+pub(crate) fn offered_text(alloc: Global, name: &str, values: u32) -> Result<String, Refusal>
     ensures offered { IfOk result (λ text. OffersText name.now values (string_bytes text)) }
     ensures refused { IfErr result (OffersNoText name.now values) }
 {

@@ -1,14 +1,18 @@
 //! Programs, from source files and from the library.
-ghost use Rattle.std.specs.Prelude.{◌≡◌, ℕ, List, IfErr, IfOk, IfSome, true};
+ghost use Rattle.std.specs.Prelude.{◌≡◌, ℕ, List, IfErr, IfOk, string_bytes};
 ghost use Rattle.command_runs.specs.Library.{Offers};
 ghost use Rattle.command_runs.specs.Refused.{IsNoOffer, IsNoProgram, IsNotOpened};
-ghost use Rattle.command_runs.specs.Served.{HoldsProgram, IsCheckedSource, Opens, file_name};
+ghost use Rattle.command_runs.specs.Served.{HoldsProgram, HoldsSourceText, Opens, SpellsTyped};
+ghost use Rattle.command_runs.specs.Served.{file_name};
+ghost use Rattle.command_runs.specs.Sources.{IsTextOfSource};
 ghost use Rattle.command_runs.specs.Stages.{IsHeldBack, IsNoProgramOf};
-ghost use Rattle.round_check.specs.Causes.{is_typed};
-ghost use Rattle.round_lang.specs.Source.{IsSource};
+ghost use Rattle.command_runs.specs.Texts.{HoldsWhole};
+ghost use Rattle.command_runs.specs.Unshown.{HasNoSourceText};
+ghost use Rattle.round_lang.specs.Limits.{max_text};
 
 use crate::desk::Desk;
 use crate::refusal::Refusal;
+use crate::showing::offered_text;
 use crate::texts::source_text_in;
 use algorithm_library::{count_votes, dls1, gather};
 use command_words::Source;
@@ -16,11 +20,18 @@ use round_check::{Checked, check};
 use round_lang::parse;
 use std::alloc::Global;
 
-/// A source that was opened: the program of a file, or where the library has one. What the library
-/// refuses is refused later than what a file has.
+/// A source that was opened: the program of a file with its text, or where the library has one.
+/// What the library refuses is refused later than what a file has.
 #[derive(Drop)]
 pub(crate) enum Opened<'a> {
-    File(Checked),
+    File { program: Checked, text: String },
+    Library { name: &'a str, values: u32 },
+}
+
+/// Where the text of an opened source is: in memory, as it was read, or in the library.
+#[derive(Drop)]
+pub(crate) enum SourceText<'a> {
+    File(String),
     Library { name: &'a str, values: u32 },
 }
 
@@ -37,38 +48,80 @@ impl<'a> Opened<'a> {
         ensures written { D.written desk.new ≡ D.written desk.old }
     {
         match source {
-            Source::File(name) => { Ok(Opened::File(program_in(alloc, file_name(name), desk)?)) }
+            Source::File(name) => {
+                let (program, text) = program_in(alloc, file_name(name), desk)?;
+                Ok(Opened::File { program, text })
+            }
             Source::Library { name, values } => Ok(Opened::Library { name, values }),
         }
     }
 
-    /// The program, for a run on so many nodes of which up to `faults` may fail.
+    /// The program, for a run on this number of nodes of which up to `faults` may fail.
     pub(crate) fn program(self, alloc: Global, nodes: u32, faults: u32) -> Result<Checked, Refusal>
         ensures program { IfOk result (HoldsProgram self.entry nodes faults) }
         ensures refused { IfErr result (IsHeldBack self.entry nodes faults) }
     {
         match self {
-            Opened::File(program) => Ok(program),
+            Opened::File { program, .. } => Ok(program),
             Opened::Library { name, values } => offered(alloc, name, values, nodes, faults),
+        }
+    }
+
+    /// The program, as `program` gives it, and the text of the source.
+    pub(crate) fn with_text(
+        self,
+        alloc: Global,
+        nodes: u32,
+        faults: u32,
+    ) -> Result<(Checked, SourceText<'a>), Refusal>
+        ensures program { IfOk result (λ both. HoldsProgram self.entry nodes faults both.0) }
+        ensures text { IfOk result (λ both. HoldsSourceText self.entry both.1) }
+        ensures refused { IfErr result (IsHeldBack self.entry nodes faults) }
+    {
+        match self {
+            Opened::File { program, text } => Ok((program, SourceText::File(text))),
+            Opened::Library { name, values } => {
+                let program = offered(alloc, name, values, nodes, faults)?;
+                Ok((program, SourceText::Library { name, values }))
+            }
         }
     }
 }
 
-/// The program that a file has.
-fn program_in<D: Desk>(alloc: Global, name: &str, desk: &mut D) -> Result<Checked, Refusal>
-    ensures program { IfOk result (λ p. IfSome (D.files desk.old name.now)
-        (λ text. IsCheckedSource text p)) }
+impl<'a> SourceText<'a> {
+    /// The text itself.
+    pub(crate) fn into_string(self, alloc: Global) -> Result<String, Refusal>
+        ensures text { IfOk result (λ text. IsTextOfSource self.entry (string_bytes text)) }
+        ensures refused { IfErr result (HasNoSourceText self.entry) }
+    {
+        match self {
+            SourceText::File(text) => Ok(text),
+            SourceText::Library { name, values } => offered_text(alloc, name, values),
+        }
+    }
+}
+
+/// The program that a file has, and its text.
+fn program_in<D: Desk>(
+    alloc: Global,
+    name: &str,
+    desk: &mut D,
+) -> Result<(Checked, String), Refusal>
+    ensures spelled { IfOk result (λ both. SpellsTyped (string_bytes both.1) both.0) }
+    ensures held { IfOk result (λ both.
+        HoldsWhole max_text (D.files desk.old name.now) (string_bytes both.1)) }
     ensures refused { IfErr result (IsNoProgram (D.files desk.old name.now)) }
     ensures files { (other : List ℕ) → D.files desk.new other ≡ D.files desk.old other }
     ensures written { D.written desk.new ≡ D.written desk.old }
 {
     let text = source_text_in(alloc, name, desk)?;
-    checked(alloc, text.as_str())
+    let program = checked(alloc, text.as_str())?;
+    Ok((program, text))
 }
 
 /// The program that a text in UTF-8 is.
 fn checked(alloc: Global, text: &str) -> Result<Checked, Refusal>
-    ensures program { IfOk result (λ p. IsSource text.now p × (is_typed p ≡ true)) }
+    ensures program { IfOk result (SpellsTyped text.now) }
     ensures refused { IfErr result (IsNoProgramOf text.now) }
 {
     Ok(check(alloc, parse(alloc, text)?)?)

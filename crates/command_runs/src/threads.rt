@@ -1,7 +1,7 @@
 //! Runs by threads.
 ghost use Rattle.std.specs.Prelude.{◌≡◌, ◌≢◌, ◌⊎◌, ◌↔◌, All, Err, IfErr, IfOk, IfSome, IsTrue};
 ghost use Rattle.std.specs.Prelude.{OnOk, Some, string_bytes};
-ghost use Rattle.command_runs.specs.ByThreads.{IsRunOf};
+ghost use Rattle.command_runs.specs.ByThreads.{IsRunOf, chooses_promptly};
 ghost use Rattle.command_runs.specs.Apart.{IsApart};
 ghost use Rattle.command_runs.specs.Refused.{IsBadForThreads, IsMissing, IsNotThreaded};
 ghost use Rattle.command_runs.specs.Refused.{IsUnfit, IsUnfitForThreads, StartsThreads};
@@ -11,8 +11,10 @@ ghost use Rattle.command_runs.specs.Stages.{IsRefusedThreads};
 ghost use Rattle.node_threads.specs.Ends.{IsFitForThreads};
 ghost use Rattle.node_threads.specs.Stops.{AreStops};
 ghost use Rattle.node_threads.specs.Faults.{IsOfThreads};
+ghost use Rattle.node_threads.specs.Following.{FollowsPolicy};
 ghost use Rattle.omission_explainer.specs.Decided.{AreAgreed, AreInputs};
-ghost use Rattle.round_meaning.specs.Agreement.{RunsAlgorithm1};
+ghost use Rattle.omission_explainer.specs.InRounds.{printed_omits};
+ghost use Rattle.round_meaning.specs.Agreement.{AgreesIn, IsValidIn};
 ghost use Rattle.schedule_text.specs.Texts.{SaysOf};
 ghost use Rattle.schedule_text.specs.declared.kind.Kind.TheVariants as kinds;
 ghost use Rattle.slot_plans.specs.Named.{IsPlan, start_of};
@@ -169,10 +171,9 @@ fn run_by<R: Threads + Wait + Sync>(
 }
 
 /// The report and the trace of a run in which a thread for each node takes its steps, and another
-/// one is the network, which releases each message as soon as it can. Where the program is
-/// Algorithm 1, for a setup with fewer than half of the nodes faulty, all decisions in it are
-/// equal, and each is some node's input. The journal of the run is handed out too: whoever is done
-/// with it may leave its memory to the system.
+/// one is the network, which releases each message as soon as it can. What holds of all decisions
+/// of the program under the omissions that the report prints holds of the decisions in it. The
+/// journal of the run is handed out too: whoever is done with it may leave its memory to the system.
 ///
 /// Refusals are those of `run_threads`. Like it, this needn't return.
 pub fn explained_threads<R: Threads + Wait + Sync, P: Plan + Send + Sync>(
@@ -189,10 +190,13 @@ pub fn explained_threads<R: Threads + Wait + Sync, P: Plan + Send + Sync>(
         ⊎ IsOfThreads fault) }
     ensures explained { IfOk result
         (λ answer. IsRunOf (P.start plan) program.now setup.now answer.0) }
-    ensures agreement { IfOk result
-        (λ answer. RunsAlgorithm1 program.now setup.now.setup
+    ensures follows { IfOk result (λ answer.
+        FollowsPolicy chooses_promptly P.start plan setup.now.pace (record {}) answer.1.log) }
+    ensures agreement { IfOk result (λ answer.
+        AgreesIn program.now setup.now.setup (printed_omits answer.0.report.rows)
         → AreAgreed answer.0.report.rows) }
-    ensures validity { IfOk result (λ answer. RunsAlgorithm1 program.now setup.now.setup
+    ensures validity { IfOk result (λ answer.
+        IsValidIn program.now setup.now.setup (printed_omits answer.0.report.rows)
         → AreInputs setup.now.setup answer.0.report.rows) }
 {
     let header = &setup.setup;

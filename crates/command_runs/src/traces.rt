@@ -1,15 +1,19 @@
 //! The file of a trace.
-ghost use Rattle.std.specs.Prelude.{◌≡◌, ◌⊎◌, ◌++◌, ◌∷◌, [], IfErr, IfSome, IsSome, OnErr, OnOk};
-ghost use Rattle.std.specs.Prelude.{false, option_map, string_bytes};
+ghost use Rattle.std.specs.Prelude.{◌≡◌, ◌≤◌, ◌⊎◌, ◌++◌, ◌∷◌, [], IfErr, IfSome, IsSome, OnErr};
+ghost use Rattle.std.specs.Prelude.{OnOk, Some, false, length, option_map, string_bytes};
 ghost use Rattle.command_runs.specs.Apart.{IsApart, IsApartIfNamed, SparesSource};
 ghost use Rattle.command_runs.specs.Desks.{MayWriteTrace, WroteAtMost};
+ghost use Rattle.command_runs.specs.InRounds.{IsTraceFault};
 ghost use Rattle.command_runs.specs.Refused.{of_unwritten};
 ghost use Rattle.command_runs.specs.Stages.{HoldsText, WritesText};
+ghost use Rattle.schedule_text.specs.Texts.{max_text as max_schedule};
 
 use crate::desk::{Desk, DeskFault};
 use crate::refusal::Refusal;
 use crate::sources::file_name;
+use crate::trace_fault::TraceFault;
 use command_words::Source;
+use schedule_text::MAX_TEXT;
 
 /// Makes sure that the file of a trace can be written, and that it is neither the source's nor the
 /// other one that is read.
@@ -75,23 +79,43 @@ pub(crate) fn write_trace<D: Desk>(name: &str, text: &str, desk: &mut D) -> Resu
     }
 }
 
-/// Makes the text the whole file of the trace, if there are both.
+/// Makes the text the whole file of the trace, if there are both and commands can read it.
 pub(crate) fn write_shown<D: Desk>(
     name: Option<&str>,
     text: &Option<String>,
     desk: &mut D,
-) -> Result<(), Refusal>
+) -> Result<(), TraceFault>
     ensures held { OnOk result (HoldsText (D.files desk.new) name.entry
         (option_map (λ text. string_bytes text) text.now)) }
-    ensures refused { IfErr result (λ r. (r ≡ Refusal.Write) ⊎ (r ≡ Refusal.NoMemory)) }
+    ensures refused { IfErr result
+        (IsTraceFault (option_map (λ text. string_bytes text) text.now)) }
     ensures written { MayWriteTrace name.entry (D.written desk.old) (D.written desk.new) }
     ensures traced { OnOk result (WritesText name.entry
         (option_map (λ text. string_bytes text) text.now)
         (D.written desk.old) (D.written desk.new)) }
 {
     match (name, text) {
-        (Some(name), Some(text)) => write_trace(name, text.as_str(), desk),
+        (Some(name), Some(text)) => write_readable(name, text.as_str(), desk),
         _ => Ok(()),
+    }
+}
+
+/// Makes the text the whole file of the trace, if commands can read it.
+fn write_readable<D: Desk>(name: &str, text: &str, desk: &mut D) -> Result<(), TraceFault>
+    ensures held { OnOk result (IfSome (D.files desk.new name.now) (λ held. held ≡ text.now)) }
+    ensures short { OnOk result (length text.now ≤ max_schedule) }
+    ensures refused { IfErr result (IsTraceFault (Some text.now)) }
+    ensures written { WroteAtMost (D.written desk.old) (D.written desk.new) name.now }
+    ensures traced { OnOk result (D.written desk.new ≡ D.written desk.old ++ name.now ∷ []) }
+{
+    if text.len() > MAX_TEXT {
+        return Err(TraceFault::TooLong);
+    }
+    let done = desk.write(name, text.as_bytes());
+    match done {
+        Ok(()) => Ok(()),
+        Err(DeskFault::Failed) => Err(TraceFault::Unwritten),
+        Err(DeskFault::NoMemory) => Err(TraceFault::NoMemory),
     }
 }
 

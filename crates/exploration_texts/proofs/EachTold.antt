@@ -1,6 +1,6 @@
 -- The answers of all properties, one after another.
 use Rattle.std.proofs.Common.{◌≡◌, ◌∙◌, ◌++◌, ◌∷◌, [], ℕ, All, Bool, List, None, Option, Some, Bor}
-use Rattle.std.proofs.Common.{ap, false, map, refl, subst, sym, true}
+use Rattle.std.proofs.Common.{ap, false, get_or, map, refl, subst, sym, true}
 use Rattle.std.specs.Prelude.{is_some, option_map}
 use Rattle.std.proofs.lemmas.List.{append-nil}
 use Rattle.std.proofs.lemmas.List.Elements.{All-append, All-cons, All-nil}
@@ -11,14 +11,16 @@ use Rattle.exploration_texts.specs.Asking.{inputs_of, question_of}
 use Rattle.exploration_texts.specs.Conditions.{IsConditionFor}
 use Rattle.exploration_texts.specs.Told.{Adds, AddsAlways, AddsAnswer, AreAnswers, AreAnswersOf}
 use Rattle.exploration_texts.specs.Told.{IsAnswer, IsAnswerOf, IsNamed, IsRightOf, asked}
-use Rattle.exploration_texts.specs.Told.{is_of_safety, name_of, no_failure}
+use Rattle.exploration_texts.specs.Told.{is_of_safety, name_of}
 use Rattle.exploration_texts.specs.declared.answering.Search.{Search}
 use Rattle.exploration_texts.specs.declared.told.Answered.{Answered}
-use Rattle.exploration_texts.specs.declared.told.Answered.TheVariants.{HoldsInAllRounds}
-use Rattle.exploration_texts.specs.declared.told.PropertyName.{PropertyName}
-use Rattle.exploration_texts.specs.declared.told.PropertyName.TheVariants as kinds
+use Rattle.exploration_texts.specs.declared.told.Answered.TheVariants.{Holds, HoldsInAllRounds}
+use Rattle.exploration_texts.specs.declared.told.Answered.TheVariants.{NotFound}
 use Rattle.exploration_texts.specs.declared.told.Told.{Told}
-use Rattle.round_explorer.specs.Answers.{AllHoldUpTo, in_rounds}
+use Rattle.part_answers.specs.declared.property.Property.{Property as PropertyName}
+use Rattle.part_answers.specs.declared.property.Property.TheVariants as kinds
+use Rattle.round_explorer.specs.Answers.{AllHoldUpTo, in_rounds, run_of}
+use Rattle.round_explorer.specs.Properties.{HoldsUpTo, Run}
 use Rattle.round_explorer.specs.declared.property.Property.{Property}
 use Rattle.round_explorer.specs.declared.property.Property.TheVariants.{Agreement, Always, Final}
 use Rattle.round_explorer.specs.declared.property.Property.TheVariants.{Safety, Termination}
@@ -28,6 +30,7 @@ use Rattle.round_explorer.specs.declared.question.Question.{Question}
 use Rattle.round_lang.specs.Syntax.{ProgramTree}
 use Rattle.round_lang.specs.Tree.{Tree}
 use Rattle.round_meaning.specs.declared.setup.Setup.{Setup}
+use Rattle.run_samples.specs.Found.{AreFaultless}
 
 -- so far these are asked, and the answers are right
 pub record AreTold (w : Search) (condition : Option Tree) (names : List PropertyName)
@@ -84,29 +87,53 @@ told_always w (Some f) names old new h added =
     one_told w (Some f.now) names (Always f) old new refl h added
 told_always w None names old new h same = none_added w None names old new h same
 
--- a property that is agreement, validity or finality holds up to a round if all three do
+-- a property that is agreement, validity or finality holds in a run if all three do
+one_of_three : (x : Property) (run : Run) (k : ℕ) → is_of_safety x ≡ true → HoldsUpTo Safety run k
+    → HoldsUpTo x run k
+one_of_three Agreement run k is h = h.0
+one_of_three Validity run k is h = h.1
+one_of_three Final run k is h = h.2
+one_of_three Safety run k is h = absurd (cc is)
+one_of_three Termination run k is h = absurd (cc is)
+one_of_three (Always f) run k is h = absurd (cc is)
+
 one_of_safety : (p : ProgramTree) (s : Setup) (question : Question) (asked : AskedInputs) (k : ℕ)
     (x : Property) → is_of_safety x ≡ true → AllHoldUpTo p s question asked Safety k
     → AllHoldUpTo p s question asked x k
-one_of_safety p s question asked k Agreement is h = λ inputs pattern omits run.
-    (h inputs pattern omits run).0
-one_of_safety p s question asked k Validity is h = λ inputs pattern omits run.
-    (h inputs pattern omits run).1
-one_of_safety p s question asked k Final is h = λ inputs pattern omits run.
-    (h inputs pattern omits run).2
-one_of_safety p s question asked k Safety is h = absurd (cc is)
-one_of_safety p s question asked k Termination is h = absurd (cc is)
-one_of_safety p s question asked k (Always f) is h = absurd (cc is)
+one_of_safety p s question asked k x is h = λ inputs pattern omits run.
+    one_of_three x (run_of p s inputs pattern omits) k is (h inputs pattern omits run)
+
+-- and so in runs that were made
+faultless_by : (p : ProgramTree) (s : Setup) (question : Question) (asked : AskedInputs) (n : ℕ)
+    (x : Property) → is_of_safety x ≡ true → AreFaultless p s question asked Safety n
+    → AreFaultless p s question asked x n
+faultless_by p s question asked n x is (made, many, all) = (
+  made,
+  many,
+  λ k d lt.
+      let one = get_or made k d in
+      let h = all k d lt in
+      (h.0, one_of_three x (run_of p s one.inputs one.pattern one.omits) s.rounds is h.1),
+)
 
 -- the answer is right of the property, of all runs or of a sample
 abbrev IsOf : Search → Option SampleChoice → Property → Answered → Type 0
 IsOf w sample x answer = IsAnswer w.program.now w.setup.now w.question w.inputs sample x answer
 
-none_by : (w : Search) (sample : Option SampleChoice) (x : Property) → is_of_safety x ≡ true
-    → IsOf w sample Safety (no_failure sample) → IsOf w sample x (no_failure sample)
-none_by w (Some sample) x is h = refl
-none_by w None x is h =
+hold_by : (w : Search) (sample : Option SampleChoice) (x : Property) → is_of_safety x ≡ true
+    → IsOf w sample Safety Holds → IsOf w sample x Holds
+hold_by w (Some sample) x is h = absurd h
+hold_by w None x is h =
     one_of_safety w.program.now w.setup.now w.question w.inputs w.setup.now.rounds x is h
+
+none_by : (w : Search) (sample : Option SampleChoice) (n : ℕ) (x : Property)
+    → is_of_safety x ≡ true → IsOf w sample Safety (NotFound n) → IsOf w sample x (NotFound n)
+none_by w (Some sample) n x is (held, few, each) = (
+  faultless_by w.program.now w.setup.now w.question w.inputs n x is held,
+  few,
+  each,
+)
+none_by w None n x is h = absurd h
 
 all_by : (w : Search) (sample : Option SampleChoice) (x : Property) → is_of_safety x ≡ true
     → IsOf w sample Safety HoldsInAllRounds → IsOf w sample x HoldsInAllRounds
@@ -115,10 +142,15 @@ all_by w None x is h = λ rounds.
     one_of_safety w.program.now (in_rounds w.setup.now rounds) w.question w.inputs rounds x is
     (h rounds)
 
--- no failure of it is found if none of the three is
-pub none_if_safe : (w : Search) (x : Property) → is_of_safety x ≡ true
-    → IsAnswerOf w Safety (no_failure w.sample) → IsAnswerOf w x (no_failure w.sample)
-none_if_safe w x is h = none_by w w.sample x is h
+-- it holds if the three do
+pub hold_if_safe : (w : Search) (x : Property) → is_of_safety x ≡ true
+    → IsAnswerOf w Safety Holds → IsAnswerOf w x Holds
+hold_if_safe w x is h = hold_by w w.sample x is h
+
+-- it fails in none of the runs that were made if none of the three does
+pub none_if_safe : (w : Search) (n : ℕ) (x : Property) → is_of_safety x ≡ true
+    → IsAnswerOf w Safety (NotFound n) → IsAnswerOf w x (NotFound n)
+none_if_safe w n x is h = none_by w w.sample n x is h
 
 -- and it holds in any number of rounds if the three do
 pub all_if_safe : (w : Search) (x : Property) → is_of_safety x ≡ true

@@ -9,8 +9,8 @@ use Rattle.exploration_texts.specs.Told.{AreAnswers, IsAnswer, IsFirstNo, IsRigh
 use Rattle.exploration_texts.specs.declared.told.Answered.{Answered}
 use Rattle.exploration_texts.specs.declared.told.Answered.TheVariants.{Fails, Holds}
 use Rattle.exploration_texts.specs.declared.told.Answered.TheVariants.{HoldsInAllRounds, NotFound}
-use Rattle.exploration_texts.specs.declared.told.PropertyName.{PropertyName}
 use Rattle.exploration_texts.specs.declared.told.Told.{Told}
+use Rattle.part_answers.specs.declared.property.Property.{Property as PropertyName}
 use Rattle.round_explorer.specs.Answers.{IsAsked}
 use Rattle.round_explorer.specs.Questions.{AreAsked}
 use Rattle.round_explorer.specs.declared.answer.Counterexample.{Counterexample}

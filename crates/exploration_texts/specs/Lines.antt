@@ -1,5 +1,5 @@
 -- The lines of `explore`.
-use Rattle.std.specs.Prelude.{ℕ, ◌++◌, List, codes}
+use Rattle.std.specs.Prelude.{ℕ, ◌++◌, ◌∷◌, List, codes}
 use Rattle.std.specs.Fmt.{decimal}
 use Rattle.std.specs.List.{flat_map}
 use Rattle.command_words.specs.declared.forms.AnswerFormat.{AnswerFormat}
@@ -9,32 +9,26 @@ use Rattle.exploration_texts.specs.declared.condition.ConditionFault.TheVariants
 use Rattle.exploration_texts.specs.declared.told.Answered.{Answered}
 use Rattle.exploration_texts.specs.declared.told.Answered.TheVariants.{Fails, Holds}
 use Rattle.exploration_texts.specs.declared.told.Answered.TheVariants.{HoldsInAllRounds, NotFound}
-use Rattle.exploration_texts.specs.declared.told.PropertyName.{PropertyName}
-use Rattle.exploration_texts.specs.declared.told.PropertyName.TheVariants as names
 use Rattle.exploration_texts.specs.declared.told.Told.{Told}
+use Rattle.part_answers.specs.Answers.{outcome_words}
+use Rattle.part_answers.specs.Properties.{name_text}
+use Rattle.part_answers.specs.declared.answered.Outcome.TheVariants as outcome
+use Rattle.part_answers.specs.declared.property.Property.{Property as PropertyName}
 use Rattle.round_check.specs.declared.fault.CheckFault.{CheckFault}
 use Rattle.round_check.specs.declared.fault.CheckFault.TheVariants as check
 use Rattle.round_lang.specs.declared.fault.LangFault.{LangFault}
 use Rattle.round_lang.specs.declared.fault.LangFault.TheVariants as lang
 
--- the property, as its line begins
-abbrev pub name_text : PropertyName → List ℕ
-name_text names.Agreement = codes "agreement"
-name_text names.Validity = codes "validity"
-name_text names.Final = codes "final"
-name_text names.Safety = codes "safety"
-name_text names.Termination = codes "termination"
-name_text names.Always = codes "always"
+-- the answer: as a part of a search has it, or in how many runs of a sample no failure was found
+abbrev pub answer_words : Answered → List ℕ
+answer_words Holds = outcome_words outcome.Holds
+answer_words HoldsInAllRounds = outcome_words outcome.HoldsInAllRounds
+answer_words (Fails c) = outcome_words (outcome.Fails c.round)
+answer_words (NotFound n) = codes "none found in " ++ decimal n
 
-abbrev pub answer_text : Answered → List ℕ
-answer_text Holds = codes " yes"
-answer_text HoldsInAllRounds = codes " yes in all rounds"
-answer_text (Fails c) = codes " no in round " ++ decimal c.round
-answer_text (NotFound n) = codes " none found in " ++ decimal n
-
--- the property and its answer
+-- the property, a space, and its answer
 abbrev pub told_text : Told → List ℕ
-told_text t = name_text t.name ++ answer_text t.answer
+told_text t = name_text t.name ++ 32 ∷ answer_words t.answer
 
 abbrev pub told_line : Told → List ℕ
 told_line t = told_text t ++ codes "\n"

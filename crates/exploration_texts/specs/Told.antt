@@ -1,7 +1,7 @@
 -- What is told of the properties that the options of `explore` ask.
 use Rattle.std.specs.Borrow.{Bor}
-use Rattle.std.specs.Prelude.{◌≡◌, ◌++◌, ◌∷◌, ◌&&◌, ◌⊎◌, [], All, Bool, List, None, Option, Some}
-use Rattle.std.specs.Prelude.{false, is_some, map, true, ⊤}
+use Rattle.std.specs.Prelude.{◌≡◌, ◌≤◌, ◌++◌, ◌∷◌, ◌&&◌, ◌⊎◌, [], All, Bool, List, None, Option}
+use Rattle.std.specs.Prelude.{Some, false, is_some, map, true, ⊤}
 use Rattle.command_words.specs.declared.exploring.Checks.{Checks}
 use Rattle.command_words.specs.declared.exploring.Exploring.{Exploring}
 use Rattle.command_words.specs.declared.searching.SampleChoice.{SampleChoice}
@@ -13,9 +13,9 @@ use Rattle.exploration_texts.specs.declared.answering.Search.{Search}
 use Rattle.exploration_texts.specs.declared.told.Answered.{Answered}
 use Rattle.exploration_texts.specs.declared.told.Answered.TheVariants.{Fails, Holds}
 use Rattle.exploration_texts.specs.declared.told.Answered.TheVariants.{HoldsInAllRounds, NotFound}
-use Rattle.exploration_texts.specs.declared.told.PropertyName.{PropertyName}
-use Rattle.exploration_texts.specs.declared.told.PropertyName.TheVariants as names
 use Rattle.exploration_texts.specs.declared.told.Told.{Told}
+use Rattle.part_answers.specs.declared.property.Property.{Property as PropertyName}
+use Rattle.part_answers.specs.declared.property.Property.TheVariants as names
 use Rattle.round_explorer.specs.Answers.{IsRight}
 use Rattle.round_explorer.specs.declared.answer.Answer.{Answer}
 use Rattle.round_explorer.specs.declared.answer.Answer.TheVariants as all
@@ -29,14 +29,14 @@ use Rattle.round_explorer.specs.declared.question.Question.{Question}
 use Rattle.round_lang.specs.Syntax.{ProgramTree}
 use Rattle.round_lang.specs.Tree.{Tree}
 use Rattle.round_meaning.specs.declared.setup.Setup.{Setup}
-use Rattle.run_samples.specs.Found.{IsFound}
+use Rattle.run_samples.specs.Found.{AreFaultless, EachIsMade, IsFound}
 
--- the name of a property
+-- the name of a property; none is of safety, of which nothing is told
 abbrev pub name_of : Property → PropertyName
 name_of Agreement = names.Agreement
 name_of Validity = names.Validity
 name_of Final = names.Final
-name_of Safety = names.Safety
+name_of Safety = names.Agreement
 name_of Termination = names.Termination
 name_of (Always f) = names.Always
 
@@ -54,9 +54,12 @@ names_of c has_condition =
 
 -- the property has this name, and that of EXPR is of this condition
 abbrev pub IsNamed : Option Tree → PropertyName → Property → Type 0
+IsNamed condition names.Agreement property = property ≡ Agreement
+IsNamed condition names.Validity property = property ≡ Validity
+IsNamed condition names.Final property = property ≡ Final
+IsNamed condition names.Termination property = property ≡ Termination
 IsNamed condition names.Always (Always f) = condition ≡ Some f.now
 IsNamed condition names.Always _ = ⊥
-IsNamed condition name property = name_of property ≡ name
 
 -- the answer of a search through all runs
 abbrev pub answered_by : Answer → Answered
@@ -65,7 +68,7 @@ answered_by all.HoldsInAllRounds = HoldsInAllRounds
 answered_by (all.Fails c) = Fails c
 
 -- the answer is right of a property: it's one of all runs that are asked about; or of a sample, and
--- then a failure is one, and else it says how many runs there were
+-- then a failure is one, or it fails in none of the n runs that were made: all that the sample has
 abbrev pub IsAnswer : ProgramTree → Setup → Question → AskedInputs → Option SampleChoice
     → Property → Answered → Type 0
 IsAnswer p s question inputs None x Holds = IsRight p s question inputs x all.Holds
@@ -76,12 +79,9 @@ IsAnswer p s question inputs None x (NotFound n) = ⊥
 IsAnswer p s question inputs (Some sample) x Holds = ⊥
 IsAnswer p s question inputs (Some sample) x HoldsInAllRounds = ⊥
 IsAnswer p s question inputs (Some sample) x (Fails c) = IsFound p s question inputs x c
-IsAnswer p s question inputs (Some sample) x (NotFound n) = n ≡ sample.count
-
--- what is answered if no failure is found
-abbrev pub no_failure : Option SampleChoice → Answered
-no_failure None = Holds
-no_failure (Some sample) = NotFound sample.count
+IsAnswer p s question inputs (Some sample) x (NotFound n) =
+    AreFaultless p s question inputs x n
+    × (n ≤ sample.count) × (EachIsMade s question inputs → n ≡ sample.count)
 
 -- the answer is right of the property of this name
 abbrev pub IsRightOf : ProgramTree → Setup → Question → AskedInputs → Option SampleChoice
@@ -132,7 +132,8 @@ is_of_safety _ = false
 -- what is known of agreement, validity and finality is true of all at once
 abbrev pub IsKnown : Search → Known → Type 0
 IsKnown w known.Nothing = ⊤
-IsKnown w known.NoFailure = IsAnswerOf w Safety (no_failure w.sample)
+IsKnown w known.Hold = IsAnswerOf w Safety Holds
+IsKnown w (known.NoneFound n) = IsAnswerOf w Safety (NotFound n)
 IsKnown w known.HoldInAllRounds = IsAnswerOf w Safety HoldsInAllRounds
 
 -- the answer of one more property

@@ -3,18 +3,18 @@ ghost use Rattle.std.specs.Prelude.{◌≡◌, IfErr, IfOk, None, OnOk, Some, op
 ghost use Rattle.round_meaning.specs.Setups.{IsLawful};
 ghost use Rattle.exploration_texts.specs.Conditions.{IsConditionFor, IsFaultFor};
 ghost use Rattle.exploration_texts.specs.Told.{Adds, AddsAlways, AreAnswers, AreAnswersOf};
-ghost use Rattle.exploration_texts.specs.Told.{IsAnswerOf, IsKnown, is_of_safety, no_failure};
+ghost use Rattle.exploration_texts.specs.Told.{IsAnswerOf, IsKnown, is_of_safety};
 
 use crate::asking::{inputs_of, question_of};
 use crate::condition::{ConditionFault, read_condition};
-use crate::told::{Answered, PropertyName, Told};
+use crate::told::{Answered, Told, name_of};
 use command_words::{Checks, Exploring, SampleChoice};
 use round_check::Checked;
 use round_explorer::{AskedInputs, Property, Question, Watch, explore_by_jobs};
 use round_lang::Formula;
 use round_meaning::Setup;
 use run_events::NoMemory;
-use run_samples::{Sampling, sample as sample_runs, shrink};
+use run_samples::{Sampled, Sampling, sample as sample_runs, shrink};
 use std::alloc::Global;
 use std::thread::Threads;
 
@@ -36,8 +36,10 @@ pub(crate) struct Search<'a> {
 enum Known {
     /// Nothing: it wasn't made, or there is a failure.
     Nothing,
-    /// No failure is found of any of them.
-    NoFailure,
+    /// Each of them holds.
+    Hold,
+    /// None of them fails in this many runs that were made at random.
+    NoneFound(u32),
     /// Each of them holds in any number of rounds.
     HoldInAllRounds,
 }
@@ -172,7 +174,8 @@ impl<'a> Search<'a> {
             return Ok(Known::Nothing);
         }
         match self.explore(rt, alloc, Property::Safety, watch)? {
-            Answered::Holds | Answered::NotFound(_) => Ok(Known::NoFailure),
+            Answered::Holds => Ok(Known::Hold),
+            Answered::NotFound(made) => Ok(Known::NoneFound(made)),
             Answered::HoldsInAllRounds => Ok(Known::HoldInAllRounds),
             Answered::Fails(_) => Ok(Known::Nothing),
         }
@@ -237,7 +240,7 @@ impl<'a> Search<'a> {
             count: sample.count,
             seed: u64::from(sample.seed),
         };
-        let found = sample_runs(
+        let sampled = sample_runs(
             alloc,
             self.program,
             self.setup,
@@ -247,19 +250,9 @@ impl<'a> Search<'a> {
             sampling,
             watch,
         )?;
-        match found {
-            Some(found) => Ok(Answered::Fails(found)),
-            None => Ok(Answered::NotFound(sample.count)),
-        }
-    }
-
-    /// What is answered if no failure is found.
-    fn no_failure(&self) -> Answered
-        ensures { result ≡ no_failure self.now.sample }
-    {
-        match self.sample {
-            None => Answered::Holds,
-            Some(sample) => Answered::NotFound(sample.count),
+        match sampled {
+            Sampled::Fails(found) => Ok(Answered::Fails(found)),
+            Sampled::NotFound(made) => Ok(Answered::NotFound(made)),
         }
     }
 
@@ -277,7 +270,8 @@ impl<'a> Search<'a> {
         ensures { IfOk result (IsAnswerOf self.now property.entry) }
     {
         match known {
-            Known::NoFailure if is_of_safety(property) => Ok(self.no_failure()),
+            Known::Hold if is_of_safety(property) => Ok(Answered::Holds),
+            Known::NoneFound(made) if is_of_safety(property) => Ok(Answered::NotFound(made)),
             Known::HoldInAllRounds if is_of_safety(property) => Ok(Answered::HoldsInAllRounds),
             _ => {
                 let answer = self.explore(rt, alloc, property, watch)?;
@@ -368,7 +362,7 @@ impl<'a> Search<'a> {
         requires known { IsKnown self.now known }
         ensures { OnOk result (Adds self.now true property.entry told.old.items told.new.items) }
     {
-        let name = PropertyName::of(property);
+        let name = name_of(property);
         let answer = self.answer(rt, alloc, property, known, watch)?;
         told.push(Told { name, answer })?;
         Ok(())

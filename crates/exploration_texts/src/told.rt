@@ -1,27 +1,15 @@
 //! What is told of properties.
 ghost use Rattle.std.specs.Prelude.{◌≡◌, IfNone, IfSome, OnOk, true};
 ghost use Rattle.std.specs.Io.KnownBytes.{Appends};
-ghost use Rattle.exploration_texts.specs.Lines.{answers_as, answers_data, answers_text, name_text};
-ghost use Rattle.exploration_texts.specs.Lines.{told_data, told_line};
+ghost use Rattle.exploration_texts.specs.Lines.{answers_as, answers_data, answers_text, told_data};
+ghost use Rattle.exploration_texts.specs.Lines.{told_line};
 ghost use Rattle.exploration_texts.specs.Told.{IsFirstNo, all_hold, name_of};
 
 use command_words::AnswerFormat;
+use part_answers::{Answered as PartAnswered, Outcome, Property as PropertyName};
 use round_explorer::{Answer, Counterexample, Property};
 use std::io::Write;
 use std::{fmt, io};
-
-/// Which property is told of.
-#[derive(Clone, Copy, Debug, PartialEq, Eq)]
-pub enum PropertyName {
-    Agreement,
-    Validity,
-    Final,
-    /// Agreement, validity and finality at once.
-    Safety,
-    Termination,
-    /// EXPR.
-    Always,
-}
 
 /// Whether a property holds of the runs that are asked about.
 #[derive(Drop)]
@@ -66,38 +54,29 @@ pub struct Failed<'a> {
     pub found: &'a Counterexample,
 }
 
-impl PropertyName {
-    /// The name of a property.
-    pub(crate) fn of(property: Property<'_>) -> PropertyName
-        ensures { result ≡ name_of property.entry }
-    {
-        match property {
-            Property::Agreement => PropertyName::Agreement,
-            Property::Validity => PropertyName::Validity,
-            Property::Final => PropertyName::Final,
-            Property::Safety => PropertyName::Safety,
-            Property::Termination => PropertyName::Termination,
-            Property::Always(_) => PropertyName::Always,
-        }
-    }
-
-    /// The word for it.
-    pub fn as_str(self) -> &'static str
-        ensures { result.now ≡ name_text self }
-    {
-        match self {
-            PropertyName::Agreement => "agreement",
-            PropertyName::Validity => "validity",
-            PropertyName::Final => "final",
-            PropertyName::Safety => "safety",
-            PropertyName::Termination => "termination",
-            PropertyName::Always => "always",
-        }
+/// The name of a property. Agreement, validity and finality at once have none: they are asked
+/// together, and each is told of by itself.
+pub(crate) fn name_of(property: Property<'_>) -> PropertyName
+    ensures { result ≡ name_of property.entry }
+{
+    match property {
+        Property::Agreement | Property::Safety => PropertyName::Agreement,
+        Property::Validity => PropertyName::Validity,
+        Property::Final => PropertyName::Final,
+        Property::Termination => PropertyName::Termination,
+        Property::Always(_) => PropertyName::Always,
     }
 }
 
-/// The property and `yes`, `yes in all rounds`, `no` and the round, or in how many runs no failure
-/// was found.
+/// What a part of a search answers of a property.
+const fn answer_of(property: PropertyName, outcome: Outcome) -> PartAnswered
+    ensures { result ≡ record { property = property; outcome = outcome } }
+{
+    PartAnswered { property, outcome }
+}
+
+/// The property and its answer, as a part of a search has it; of a sample, in how many runs no
+/// failure was found.
 impl fmt::Display for Told {
     ghost use Rattle.std.specs.Prelude.{Some};
     ghost use Rattle.exploration_texts.specs.Lines.{told_text};
@@ -105,12 +84,14 @@ impl fmt::Display for Told {
     ghost output = { λ told. Some (told_text told) };
 
     fn fmt<W: fmt::Write>(&self, f: &mut fmt::Formatter<W>) -> fmt::Result {
-        let name = self.name.as_str();
+        let name = self.name;
         match &self.answer {
-            Answered::Holds => write!(f, "{name} yes"),
-            Answered::HoldsInAllRounds => write!(f, "{name} yes in all rounds"),
-            Answered::Fails(found) => write!(f, "{name} no in round {}", found.round),
-            Answered::NotFound(runs) => write!(f, "{name} none found in {runs}"),
+            Answered::Holds => write!(f, "{}", answer_of(name, Outcome::Holds)),
+            Answered::HoldsInAllRounds => {
+                write!(f, "{}", answer_of(name, Outcome::HoldsInAllRounds))
+            }
+            Answered::Fails(found) => write!(f, "{}", answer_of(name, Outcome::Fails(found.round))),
+            Answered::NotFound(runs) => write!(f, "{} none found in {runs}", name.as_str()),
         }
     }
 }

@@ -2,7 +2,7 @@
 ghost use Rattle.std.specs.Prelude.{◌≡◌, ◌++◌, ◌∷◌, IfOk, string_bytes};
 ghost use Rattle.exploration_texts.specs.Lines.{comment_text};
 
-use crate::told::PropertyName;
+use part_answers::Property as PropertyName;
 use run_events::NoMemory;
 use std::alloc::Global;
 

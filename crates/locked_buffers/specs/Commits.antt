@@ -122,3 +122,7 @@ CloseFails start r b n close.NoMemory = IsBookOfRun r b
 abbrev pub IsUnreadable : {P : Type 0} → Run P → Recorded P → RelayFault → Type 0
 IsUnreadable r b relay.Stranger = ¬ IsBookOfRun r b
 IsUnreadable r b relay.NoMemory = IsBookOfRun r b
+
+-- why some record isn't read: it's of another run, or it's of this one and memory is refused
+abbrev pub IsUnreadableInRun : {P : Type 0} → Run P → RelayFault → Type 0
+IsUnreadableInRun {P} r fault = (one : Recorded P) × IsUnreadable r one fault

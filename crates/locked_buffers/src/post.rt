@@ -10,7 +10,7 @@ ghost use Rattle.step_machine.specs.Sealed.{IsPrepared};
 ghost use Rattle.run_events.specs.declared.event.Event.TheVariants as event;
 ghost use Rattle.locked_buffers.specs.Accounts.{AccountsAgree};
 ghost use Rattle.locked_buffers.specs.Acts.{event_of};
-ghost use Rattle.locked_buffers.specs.Commits.{told_with};
+ghost use Rattle.locked_buffers.specs.Commits.{told_with, IsUnreadableInRun};
 ghost use Rattle.locked_buffers.specs.Runs.{AddsSentInRun, IsBookOfRun, IsFlightInRun};
 ghost use Rattle.locked_buffers.specs.Runs.{IsNextCopyInRun, algorithm_by};
 ghost use Rattle.locked_buffers.specs.Seats.{Account, CloseBlame, MayClose, MayReceive, MaySend};
@@ -335,7 +335,8 @@ impl<P: Plan> Post<P> {
     /// and how many events are recorded: both of one moment, since they are read under one lock.
     /// Refused as [`RelayFault::Stranger`] if the book is of another run.
     pub fn flight<R: Wait>(&self, rt: &R) -> Result<(Vec<InFlight>, usize), RelayFault>
-        ensures { IfOk result (λ o. IsFlightInRun P.start self.now o.0.items o.1) }
+        ensures ok { IfOk result (λ o. IsFlightInRun P.start self.now o.0.items o.1) }
+        ensures cause { IfErr result (IsUnreadableInRun self.now) }
     {
         let book = take_book(rt, &self.book);
         read_flight(&self.run, self.alloc, &book)
@@ -354,6 +355,7 @@ impl<P: Plan> Post<P> {
         ensures ok { IfOk result (AddsSentInRun P.start self.now known sent.old.items
             sent.new.items) }
         ensures err { OnErr result (sent.new.items ≡ sent.old.items) }
+        ensures cause { IfErr result (IsUnreadableInRun self.now) }
     {
         let book = take_book(rt, &self.book);
         read_sent(&self.run, &book, known, sent)
@@ -366,6 +368,7 @@ impl<P: Plan> Post<P> {
         requires { IsName self.now.setup name }
         ensures ok { IfOk result (IsNextCopyInRun P.start self.now name) }
         ensures known { IfOk result (λ copied. IfSome copied (IsName self.now.setup)) }
+        ensures cause { IfErr result (IsUnreadableInRun self.now) }
     {
         let book = take_book(rt, &self.book);
         read_copy(&self.run, &book, name)

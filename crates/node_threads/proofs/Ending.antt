@@ -32,24 +32,21 @@ use Rattle.std.proofs.lemmas.List.Elements.{All-get_or}
 use Rattle.adversary.specs.Driving.{ClosedAreDue}
 use Rattle.locked_buffers.specs.Accounts.{AccountsAgree, IsAccountOf}
 use Rattle.locked_buffers.specs.Seats.{Account, Told, round_by}
-use Rattle.round_meaning.specs.Agreement.{HasDecided, RunsAlgorithm1}
-use Rattle.round_meaning.specs.Algorithm1.{dls1}
-use Rattle.round_meaning.specs.Rounds.{algorithm_of, rounds}
+use Rattle.round_meaning.specs.Agreement.{AgreesIn, Decides, IsValidIn}
 use Rattle.round_meaning.specs.Turn.{decision}
-use Rattle.round_meaning.proofs.Consensus.{decisions_agree, decisions_are_inputs}
 use Rattle.round_lang.specs.Syntax.{ProgramTree}
 use Rattle.round_lang.specs.declared.value.Value.{Value}
 use Rattle.round_meaning.specs.declared.setup.Setup.{Setup}
 use Rattle.schedule_text.specs.declared.pace.Stop.{Stop}
 use Rattle.step_book.specs.Agreed.{JournalAgrees, state_in}
 use Rattle.step_book.specs.Agreement.{row}
-use Rattle.step_book.specs.History.{omits_of}
 use Rattle.step_book.specs.Log.{Log, Recorded, count_of, history, round_of, world_of}
 use Rattle.step_book.specs.declared.mark.Mark.{Mark}
 use Rattle.run_events.specs.declared.event.Event.{Event}
 use Rattle.run_events.specs.declared.name.Name.{Name}
 use Rattle.node_threads.specs.Bodies.{IsEnded, IsNotPassed, SeatsEnded}
-use Rattle.node_threads.specs.Ends.{AreBehind, HasDecidedBy, HasEnded, HasOneDecision, HaveEnded}
+use Rattle.node_threads.specs.Ends.{AreBehind, HasAgreed, HasDecidedBy, HasDecidedInputs, HasEnded}
+use Rattle.node_threads.specs.Ends.{HaveEnded, omitted_by}
 use Rattle.node_threads.specs.Stops.{stop_of}
 use Rattle.node_threads.specs.declared.ended.Ended.{Ended}
 use Rattle.node_threads.specs.declared.ended.Ended.TheVariants.{Done, Stopped, NoMemory}
@@ -153,27 +150,24 @@ closed_are_due start v mark waiting stops ends agrees ended memory i r node some
 
 -- a decision of the record is one of the run in rounds
 decided : (start : ℕ → ℕ) (v : Log) (mark : Name → Mark) (waiting : ℕ → List Name) (i r x : ℕ)
-    → JournalAgrees start v mark waiting → v.program ≡ dls1 v.program.values → HasDecidedBy v i r x
-    → HasDecided v.program.values v.setup (omits_of (world_of start v) (history v)) r i x
-decided start v mark waiting i r x agrees is d =
-    let o = omits_of (world_of start v) (history v) in
-    let stated = agrees.stated i r d.node d.closed in
-    let of : decision v.program (rounds (algorithm_of v.program v.setup) o r i) ≡ Some x =
-    subst (λ (z : List Value). decision v.program z ≡ Some x) stated d.decides in
-    subst (λ (p : ProgramTree). decision p (rounds (algorithm_of p v.setup) o r i) ≡ Some x) is of
+    → JournalAgrees start v mark waiting → HasDecidedBy v i r x
+    → Decides v.program v.setup (omitted_by start v) r i x
+decided start v mark waiting i r x agrees d =
+    subst (λ (z : List Value). decision v.program z ≡ Some x) (agrees.stated i r d.node d.closed)
+    d.decides
 
-pub one_decision : (start : ℕ → ℕ) (v : Log) (mark : Name → Mark) (waiting : ℕ → List Name)
-    → JournalAgrees start v mark waiting → RunsAlgorithm1 v.program v.setup → HasOneDecision v
-one_decision start v mark waiting agrees runs =
-    let o = omits_of (world_of start v) (history v) in
-    let k = v.program.values in
-    record {
-      agreed = λ i j r q x y a b. decisions_agree k v.setup o runs.1 i j r q x y a.node b.node
-          (decided start v mark waiting i r x agrees runs.0 a)
-          (decided start v mark waiting j q y agrees runs.0 b);
-      valid = λ i r x a. decisions_are_inputs k v.setup o runs.1 i r x a.node
-          (decided start v mark waiting i r x agrees runs.0 a);
-    }
+pub has_agreed : (start : ℕ → ℕ) (v : Log) (mark : Name → Mark) (waiting : ℕ → List Name)
+    → JournalAgrees start v mark waiting → AgreesIn v.program v.setup (omitted_by start v)
+    → HasAgreed v
+has_agreed start v mark waiting journal agrees i j r q x y a b =
+    agrees i j r q x y a.node b.node (decided start v mark waiting i r x journal a)
+    (decided start v mark waiting j q y journal b)
+
+pub has_decided_inputs : (start : ℕ → ℕ) (v : Log) (mark : Name → Mark) (waiting : ℕ → List Name)
+    → JournalAgrees start v mark waiting → IsValidIn v.program v.setup (omitted_by start v)
+    → HasDecidedInputs v
+has_decided_inputs start v mark waiting journal valid i r x a =
+    valid i r x a.node (decided start v mark waiting i r x journal a)
 
 -- two records of one run with the same events have the same states
 pub same_states : (start : ℕ → ℕ) (v w : Log) (mark also : Name → Mark) (waiting waits : ℕ

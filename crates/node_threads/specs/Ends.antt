@@ -1,12 +1,14 @@
 -- How the threads of a run ended.
-use Rattle.std.specs.Prelude.{◌≡◌, ℕ, ◌+◌, ◌<◌, ◌≤◌, List, [], Option, Some, length, slice_index_or}
+use Rattle.std.specs.Prelude.{◌≡◌, ℕ, ◌+◌, ◌<◌, ◌≤◌, Bool, List, [], Option, Some, length}
+use Rattle.std.specs.Prelude.{slice_index_or}
 use Rattle.round_meaning.specs.Agreement.{IsInput}
 use Rattle.round_meaning.specs.Setups.{IsLawful}
 use Rattle.round_meaning.specs.Turn.{decision}
 use Rattle.round_meaning.specs.declared.setup.Setup.{Setup}
 use Rattle.schedule_text.specs.declared.pace.Stop.{Stop}
 use Rattle.step_book.specs.Agreement.{row}
-use Rattle.step_book.specs.Log.{IsDue, Log, count_of, round_of}
+use Rattle.step_book.specs.History.{omits_of}
+use Rattle.step_book.specs.Log.{IsDue, Log, count_of, history, round_of, world_of}
 use Rattle.node_threads.specs.declared.ended.Ended.{Ended}
 use Rattle.node_threads.specs.declared.ended.Ended.TheVariants.{Done, NoMemory, Stopped}
 use Rattle.node_threads.specs.Stops.{AreStops, stop_of}
@@ -47,7 +49,14 @@ pub record HasDecidedBy (v : Log) (i r x : ℕ) : Type 0 where
   pub closed : r < round_of v i
   pub decides : decision v.program (slice_index_or (row v.rows i) r []) ≡ Some x
 
--- all decisions that were made by closed rounds are equal, and each is some node's input
-pub record HasOneDecision (v : Log) : Type 0 where
-  pub agreed : (i j r q x y : ℕ) → HasDecidedBy v i r x → HasDecidedBy v j q y → x ≡ y
-  pub valid : (i r x : ℕ) → HasDecidedBy v i r x → IsInput v.setup x
+-- what the run in rounds of this record omits
+abbrev pub omitted_by : (start : ℕ → ℕ) → Log → ℕ → ℕ → ℕ → Bool
+omitted_by start v = omits_of (world_of start v) (history v)
+
+-- all decisions that were made by closed rounds are equal
+abbrev pub HasAgreed : Log → Type 0
+HasAgreed v = (i j r q x y : ℕ) → HasDecidedBy v i r x → HasDecidedBy v j q y → x ≡ y
+
+-- and each of them is some node's input
+abbrev pub HasDecidedInputs : Log → Type 0
+HasDecidedInputs v = (i r x : ℕ) → HasDecidedBy v i r x → IsInput v.setup x

@@ -1,12 +1,17 @@
 -- What the network knows to be in flight, event by event.
 use Rattle.std.specs.Prelude.{◌≡◌, ◌⊎◌, ℕ, ◌+◌, ◌-◌, ◌^◌, ◌<◌, ◌≤◌, List, [], ◌∷◌, Some, insert}
-use Rattle.std.specs.Prelude.{length, min, remove, slice_get}
+use Rattle.std.specs.Prelude.{length, max, min, remove, slice_get}
 use Rattle.policies.specs.declared.policy.Choice.{Choice}
 use Rattle.policies.specs.declared.policy.Choice.TheVariants as choice
 use Rattle.run_events.specs.declared.event.Event.{Event}
 use Rattle.run_events.specs.declared.event.Event.TheVariants.{Copy}
 use Rattle.run_events.specs.declared.in_flight.InFlight.{InFlight}
 use Rattle.run_events.specs.declared.name.Name.{Name}
+
+-- of this many entries so many at the beginning are gone: no more than are left, or than 64
+pub record AreFewGone (entries gone : ℕ) : Type 0 where
+  pub there : gone ≤ entries
+  pub few : gone ≤ max 64 (entries - gone)
 
 -- a message that was sent, if the network knew so many before it
 abbrev pub sent_as : (start : ℕ → ℕ) → (known : ℕ) → Name → InFlight

@@ -1,7 +1,7 @@
 //! What the network knows to be in flight.
-ghost use Rattle.std.specs.Prelude.{◌≡◌, ◌<◌, ◌≤◌, ◌∷◌, ◌++◌, [], IfSome, OnErr, OnOk, insert};
-ghost use Rattle.std.specs.Prelude.{length, remove, slice_get};
-ghost use Rattle.node_threads.specs.Flights.{AreCopies, IsNoted};
+ghost use Rattle.std.specs.Prelude.{◌≡◌, ◌<◌, ◌≤◌, ◌∷◌, ◌++◌, [], IfSome, OnErr, OnOk, drop};
+ghost use Rattle.std.specs.Prelude.{insert, length, remove, slice_get};
+ghost use Rattle.node_threads.specs.Flights.{AreCopies, AreFewGone, IsNoted};
 
 use policies::Choice;
 use run_events::{Event, InFlight, NoMemory};
@@ -20,14 +20,15 @@ pub(crate) struct Flight {
 }
 
 impl Model for Flight {
-    ghost use Rattle.std.specs.Prelude.{◌≤◌, List, drop, length};
+    ghost use Rattle.std.specs.Prelude.{List, drop, length};
     ghost use Rattle.run_events.specs.declared.in_flight.InFlight.{InFlight as OneInFlight};
+    ghost use Rattle.node_threads.specs.Flights.{AreFewGone};
 
     ghost Value = { List OneInFlight };
 
     ghost view = { λ s. drop s.gone s.entries.items };
 
-    ghost invariant = { λ s. s.gone ≤ length s.entries.items };
+    ghost invariant = { λ s. AreFewGone (length s.entries.items) s.gone };
 }
 
 impl Flight {
@@ -51,7 +52,6 @@ impl Flight {
         ensures ok { OnOk result (self.new ≡ self.old ++ message ∷ []) }
         ensures err { OnErr result (self.new ≡ self.old) }
     {
-        self.reclaim();
         self.entries.push(message)?;
         Ok(())
     }
@@ -72,9 +72,10 @@ impl Flight {
         ensures { self.new ≡ remove self.old place }
     {
         if place == 0 {
-            self.gone += 1;
+            self.gone = reclaim(&mut self.entries, self.gone + 1);
         } else {
             let _message = self.entries.remove(self.gone + place);
+            self.gone = reclaim(&mut self.entries, self.gone);
         }
     }
 
@@ -100,18 +101,21 @@ impl Flight {
         }
         Ok(())
     }
+}
 
-    /// Gives room back once half of the entries are gone.
-    fn reclaim(&mut self)
-        ensures { self.new ≡ self.old }
-    {
-        let left = self.entries.len() - self.gone;
-        if self.gone >= FEWEST && self.gone >= left {
-            self.entries.rotate_left(self.gone);
-            self.entries.truncate(left);
-            self.gone = 0;
-        }
+/// Gives room back once half of the entries are gone, and answers how many are gone then.
+fn reclaim(entries: &mut Vec<InFlight>, gone: usize) -> usize
+    requires { gone ≤ length entries.old.items }
+    ensures left { drop result entries.new.items ≡ drop gone entries.old.items }
+    ensures few { AreFewGone (length entries.new.items) result }
+{
+    let left = entries.len() - gone;
+    if gone < FEWEST || gone < left {
+        return gone;
     }
+    entries.rotate_left(gone);
+    entries.truncate(left);
+    0
 }
 
 /// The end of the entries from a place on that are copies of one message.

@@ -5,12 +5,13 @@ ghost use Rattle.std.specs.Thread.{IsSend, IsSync};
 ghost use Rattle.adversary.specs.Driving.{ClosedAreDue};
 ghost use Rattle.locked_buffers.specs.Accounts.{IsTold};
 ghost use Rattle.locked_buffers.specs.Runs.{IsBookOfRun};
-ghost use Rattle.round_meaning.specs.Agreement.{RunsAlgorithm1};
+ghost use Rattle.round_meaning.specs.Agreement.{AgreesIn, IsValidIn};
 ghost use Rattle.round_meaning.specs.Setups.{IsLawful};
 ghost use Rattle.step_book.specs.Agreed.{JournalAgrees};
 ghost use Rattle.step_book.specs.Log.{mark_in, waiting_in};
 ghost use Rattle.node_threads.specs.Bodies.{SeatsEnded};
-ghost use Rattle.node_threads.specs.Ends.{AreBehind, HasOneDecision, HaveEnded, IsFitForThreads};
+ghost use Rattle.node_threads.specs.Ends.{AreBehind, HasAgreed, HasDecidedInputs, HaveEnded};
+ghost use Rattle.node_threads.specs.Ends.{IsFitForThreads, omitted_by};
 ghost use Rattle.node_threads.specs.Faults.{IsOfThreads, told_fault, with_least};
 ghost use Rattle.node_threads.specs.Following.{FollowsPolicy};
 ghost use Rattle.node_threads.specs.Turns.{HasRun, nothing_known};
@@ -353,8 +354,10 @@ where
     ensures closed { IfOk result (λ o. All (λ e. e ≢ ended.NoMemory) o.1.items
         → ClosedAreDue (P.start plan) o.0.log) }
     ensures follows { IfOk result (λ o. FollowsPolicy Q.chooses P.start plan pace policy o.0.log) }
-    ensures agreement { IfOk result (λ o. RunsAlgorithm1 program.now setup.now
-        → HasOneDecision o.0.log) }
+    ensures agreement { IfOk result (λ o. AgreesIn program.now setup.now
+        (omitted_by (P.start plan) o.0.log) → HasAgreed o.0.log) }
+    ensures validity { IfOk result (λ o. IsValidIn program.now setup.now
+        (omitted_by (P.start plan) o.0.log) → HasDecidedInputs o.0.log) }
 {
     if !setup.is_lawful(program) || !are_stops(setup.nodes, stops) {
         return Err(RunFault::BadSetup);

@@ -1,4 +1,4 @@
--- The rows of a run of Algorithm 1 have decisions that agree.
+-- What holds of all decisions of a run holds of those in the rows of its report.
 use Rattle.std.proofs.Common.{ℕ, List, [], ◌∷◌, All}
 use Rattle.std.proofs.lemmas.List.Elements.{All-from_recursion, All-head, All-tail}
 use Rattle.std.specs.List.{AllByRecursion}
@@ -6,8 +6,8 @@ use Rattle.omission_explainer.specs.Decided.{AreAgreed, AreInputs, AreOfRun, IsO
 use Rattle.omission_explainer.specs.InRounds.{IsOfRounds, printed_omits}
 use Rattle.omission_explainer.specs.Reported.{IsReported}
 use Rattle.omission_explainer.specs.Rows.{ClosedRound}
-use Rattle.omission_explainer.proofs.Summaries.{runs_agree}
-use Rattle.round_meaning.specs.Agreement.{RunsAlgorithm1}
+use Rattle.omission_explainer.proofs.Summaries.{decided_rows_agree, decided_rows_are_inputs}
+use Rattle.round_meaning.specs.Agreement.{AgreesIn, IsValidIn}
 use Rattle.round_meaning.specs.Rounds.{algorithm_of}
 use Rattle.step_book.specs.Log.{Log}
 
@@ -32,7 +32,15 @@ of_run start v rows reported in_rounds =
 
 pub rows_agree : (start : ℕ → ℕ) (v : Log) (rows : List ClosedRound) → All (IsReported start v) rows
     → All (IsOfRounds (algorithm_of v.program v.setup) (printed_omits rows)) rows
-    → RunsAlgorithm1 v.program v.setup → AreAgreed rows × AreInputs v.setup rows
-rows_agree start v rows reported in_rounds runs =
-    runs_agree rows v.program v.setup (printed_omits rows) runs
+    → AgreesIn v.program v.setup (printed_omits rows) → AreAgreed rows
+rows_agree start v rows reported in_rounds agrees =
+    decided_rows_agree rows v.program v.setup (printed_omits rows) agrees
+    (of_run start v rows reported in_rounds)
+
+pub rows_are_inputs : (start : ℕ → ℕ) (v : Log) (rows : List ClosedRound)
+    → All (IsReported start v) rows
+    → All (IsOfRounds (algorithm_of v.program v.setup) (printed_omits rows)) rows
+    → IsValidIn v.program v.setup (printed_omits rows) → AreInputs v.setup rows
+rows_are_inputs start v rows reported in_rounds valid =
+    decided_rows_are_inputs rows v.program v.setup (printed_omits rows) valid
     (of_run start v rows reported in_rounds)

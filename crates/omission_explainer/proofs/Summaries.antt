@@ -8,12 +8,10 @@ use Rattle.std.proofs.lemmas.List.{take_all, take_more}
 use Rattle.std.proofs.lemmas.List.Sums.{fold-append}
 use Rattle.std.proofs.lemmas.List.Elements.{All-head, All-tail}
 use Rattle.round_lang.specs.Syntax.{ProgramTree}
-use Rattle.round_meaning.specs.Agreement.{HasDecided, RunsAlgorithm1}
-use Rattle.round_meaning.specs.Algorithm1.{dls1}
+use Rattle.round_meaning.specs.Agreement.{AgreesIn, Decides, IsValidIn}
 use Rattle.round_meaning.specs.Rounds.{algorithm_of, rounds}
 use Rattle.round_meaning.specs.Turn.{decision}
 use Rattle.round_meaning.specs.declared.setup.Setup.{Setup}
-use Rattle.round_meaning.proofs.Consensus.{decisions_agree, decisions_are_inputs}
 use Rattle.omission_explainer.specs.Decided.{AreOfRun, IsDecided, IsNeverSplit, IsOfRun, IsSummary}
 use Rattle.omission_explainer.specs.Decided.{AreAgreed, AreInputs, summary_of, with_decision}
 use Rattle.omission_explainer.specs.Rows.{ClosedRound}
@@ -126,40 +124,37 @@ whole_summary rows items i all same past h =
     subst (λ xs. (all ≡ summary_of xs) × IsSummary xs all)
     (take_all i rows (subst (λ (xs : List ClosedRound). length xs ≤ i) same past)) h
 
--- ---- runs of Algorithm 1
+-- ---- runs whose decisions agree
 
 -- a decision of some row is one of some node after some round
-found : (p : ProgramTree) (s : Setup) (omits : ℕ → ℕ → ℕ → Bool) → p ≡ dls1 p.values
+found : (p : ProgramTree) (s : Setup) (omits : ℕ → ℕ → ℕ → Bool)
     → (rows : List ClosedRound) → AreOfRun p s omits rows → (v : ℕ) → IsDecided rows v
-    → (i : ℕ) × (r : ℕ) × (i < s.nodes) × HasDecided p.values s omits r i v
-found p s omits e [] all v h = absurd h
-found p s omits e (row ∷ rows) all v (inl x) =
-    let here = All-head (IsOfRun p s omits) row rows all in (
-      row.node,
-      row.round,
-      here.0,
-      ap (λ q. decision q (rounds (algorithm_of q s) omits row.round row.node)) (sym e)
-          ∙ ap (decision p) (sym here.1) ∙ sym here.2 ∙ x,
-    )
-found p s omits e (row ∷ rows) all v (inr x) =
-    found p s omits e rows (All-tail (IsOfRun p s omits) row rows all) v x
+    → (i : ℕ) × (r : ℕ) × (i < s.nodes) × Decides p s omits r i v
+found p s omits [] all v h = absurd h
+found p s omits (row ∷ rows) all v (inl x) =
+    let here = All-head (IsOfRun p s omits) row rows all in
+    (row.node, row.round, here.0, ap (decision p) (sym here.1) ∙ sym here.2 ∙ x)
+found p s omits (row ∷ rows) all v (inr x) =
+    found p s omits rows (All-tail (IsOfRun p s omits) row rows all) v x
 
--- rows of a run of Algorithm 1 agree, and their decisions are inputs
-pub runs_agree : (rows : List ClosedRound) (p : ProgramTree) (s : Setup) (omits : ℕ → ℕ → ℕ → Bool)
-    → RunsAlgorithm1 p s
-    → AreOfRun p s omits rows → AreAgreed rows × AreInputs s rows
-runs_agree rows p s omits runs all = (
-  λ v u x y.
-      let a = found p s omits runs.0 rows all v x in
-      let b = found p s omits runs.0 rows all u y in
-      decisions_agree p.values s omits runs.1 a.0 b.0 a.1 b.1 v u a.2 b.2 a.3 b.3,
-  λ v x. let a = found p s omits runs.0 rows all v x in
-      decisions_are_inputs p.values s omits runs.1 a.0 a.1 v a.2 a.3,
-)
+-- rows of a run whose decisions agree
+pub decided_rows_agree : (rows : List ClosedRound) (p : ProgramTree) (s : Setup)
+    (omits : ℕ → ℕ → ℕ → Bool) → AgreesIn p s omits → AreOfRun p s omits rows → AreAgreed rows
+decided_rows_agree rows p s omits agrees all v u x y =
+    let a = found p s omits rows all v x in
+    let b = found p s omits rows all u y in
+    agrees a.0 b.0 a.1 b.1 v u a.2 b.2 a.3 b.3
+
+-- rows of a run whose decisions are inputs
+pub decided_rows_are_inputs : (rows : List ClosedRound) (p : ProgramTree) (s : Setup)
+    (omits : ℕ → ℕ → ℕ → Bool) → IsValidIn p s omits → AreOfRun p s omits rows → AreInputs s rows
+decided_rows_are_inputs rows p s omits valid all v x =
+    let a = found p s omits rows all v x in
+    valid a.0 a.1 v a.2 a.3
 
 pub never_split : (rows : List ClosedRound) (all : Decided) → IsSummary rows all
     → IsNeverSplit rows all
-never_split rows d.None h p s omits runs of e = absurd (cc)
-never_split rows (d.One v) h p s omits runs of e = absurd (cc)
-never_split rows d.Split h p s omits runs of e =
-    h.4 ((runs_agree rows p s omits runs of).0 h.0 h.1 h.2 h.3)
+never_split rows d.None h p s omits agrees of e = absurd (cc)
+never_split rows (d.One v) h p s omits agrees of e = absurd (cc)
+never_split rows d.Split h p s omits agrees of e =
+    h.4 (decided_rows_agree rows p s omits agrees of h.0 h.1 h.2 h.3)

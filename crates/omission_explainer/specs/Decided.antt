@@ -4,7 +4,7 @@ use Rattle.std.specs.Prelude.{◌++◌, codes, if◌then◌else◌, ◌==◌}
 use Rattle.std.specs.Fmt.{decimal}
 use Rattle.std.specs.List.{fold}
 use Rattle.round_lang.specs.Syntax.{ProgramTree}
-use Rattle.round_meaning.specs.Agreement.{IsInput, RunsAlgorithm1}
+use Rattle.round_meaning.specs.Agreement.{AgreesIn, IsInput}
 use Rattle.round_meaning.specs.Rounds.{algorithm_of}
 use Rattle.round_meaning.specs.Turn.{decision}
 use Rattle.round_meaning.specs.declared.setup.Setup.{Setup}
@@ -53,10 +53,10 @@ AreAgreed rows = (v u : ℕ) → IsDecided rows v → IsDecided rows u → v ≡
 abbrev pub AreInputs : Setup → List ClosedRound → Type 0
 AreInputs s rows = (v : ℕ) → IsDecided rows v → IsInput s v
 
--- the summary of such rows isn't Split
+-- the summary of rows of a run whose decisions agree isn't Split
 abbrev pub IsNeverSplit : List ClosedRound → Decided → Type 0
 IsNeverSplit rows all =
-    (p : ProgramTree) (s : Setup) (omits : ℕ → ℕ → ℕ → Bool) → RunsAlgorithm1 p s
+    (p : ProgramTree) (s : Setup) (omits : ℕ → ℕ → ℕ → Bool) → AgreesIn p s omits
     → AreOfRun p s omits rows → all ≢ d.Split
 
 -- `-`, the decision, or `split`

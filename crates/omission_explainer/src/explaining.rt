@@ -1,7 +1,7 @@
 //! From a journal to its report.
 ghost use Rattle.std.specs.Prelude.{◌≡◌, ◌≢◌, ◌+◌, ◌<◌, ◌≤◌, ◌↔◌, All, IfOk, IsTrue, map};
 ghost use Rattle.run_events.specs.Limits.{max_rounds};
-ghost use Rattle.round_meaning.specs.Agreement.{RunsAlgorithm1};
+ghost use Rattle.round_meaning.specs.Agreement.{AgreesIn, IsValidIn};
 ghost use Rattle.round_meaning.specs.Rounds.{algorithm_of};
 ghost use Rattle.round_meaning.specs.Turn.{decision};
 ghost use Rattle.step_book.specs.Agreement.{row};
@@ -29,9 +29,9 @@ use std::sync::Arc;
 use step_book::{Book, Mark, earliest, is_within};
 use step_journal::Journal;
 
-/// The report of a journal: its closed rounds, as rounds with omissions. Where the program is
-/// Algorithm 1, for a setup with fewer than half of the nodes faulty, all decisions in it are
-/// equal, and each is some node's input.
+/// The report of a journal: its closed rounds, as rounds with omissions. What holds of all decisions
+/// of the program under these omissions holds of the decisions in the report. For Algorithm 1,
+/// `decisions_agree` of `round_meaning` gives both premises.
 pub fn explain<P: Plan>(alloc: Global, journal: &Journal<P>) -> Result<Report, NoMemory>
     ensures values { IfOk result (λ report. report.values ≡ journal.now.log.program.values) }
     ensures names { IfOk result (λ report. report.names ≡ declared_names journal.now.log.program) }
@@ -44,9 +44,10 @@ pub fn explain<P: Plan>(alloc: Global, journal: &Journal<P>) -> Result<Report, N
         (printed_omits report.rows)) report.rows) }
     ensures counted { IfOk result (λ report. report.counts ≡ counts_in journal.now.log) }
     ensures agreement { IfOk result (λ report.
-        RunsAlgorithm1 journal.now.log.program journal.now.log.setup → AreAgreed report.rows) }
+        AgreesIn journal.now.log.program journal.now.log.setup (printed_omits report.rows)
+        → AreAgreed report.rows) }
     ensures validity { IfOk result (λ report.
-        RunsAlgorithm1 journal.now.log.program journal.now.log.setup
+        IsValidIn journal.now.log.program journal.now.log.setup (printed_omits report.rows)
         → AreInputs journal.now.log.setup report.rows) }
 {
     let book = journal.book();

@@ -7,11 +7,11 @@ use Rattle.std.proofs.lemmas.List.Elements.{All-get_or}
 use Rattle.round_lang.specs.declared.value.Value.{Value}
 use Rattle.round_lang.specs.Syntax.{ProgramTree}
 use Rattle.round_meaning.specs.declared.setup.Setup.{Setup}
-use Rattle.round_meaning.specs.Agreement.{HasMajority, RunsAlgorithm1, DecisionsAgree}
+use Rattle.round_meaning.specs.Agreement.{Agreement, AgreesIn, Decides, DecisionsAgree, HasMajority}
 use Rattle.round_meaning.specs.Agreement.{DecisionsAreInputs, HasDecided, DecidesNext, IsInput}
-use Rattle.round_meaning.specs.Agreement.{state_after}
+use Rattle.round_meaning.specs.Agreement.{IsValidIn, Validity, state_after}
 use Rattle.round_meaning.specs.Algorithm1.{dls1, lock_in}
-use Rattle.round_meaning.specs.Rounds.{algorithm_of, rounds}
+use Rattle.round_meaning.specs.Rounds.{algorithm_of}
 use Rattle.round_meaning.specs.States.{HasRun, States, state_of}
 use Rattle.round_meaning.specs.Turn.{decision, phase_of}
 use Rattle.round_meaning.proofs.PhaseProgram.{rounds_run, decides_run}
@@ -74,26 +74,32 @@ decisions_are_locked k s omits h i r d v hi a =
     before : (r : ℕ) → r ≡ suc r - 1
     before r = omega arith
 
+pub algorithm_1_agrees : Agreement
+algorithm_1_agrees p s omits runs =
+    subst (λ q. AgreesIn q s omits) (sym runs.0) (decisions_agree p.values s omits runs.1)
+
+pub algorithm_1_is_valid : Validity
+algorithm_1_is_valid p s omits runs =
+    subst (λ q. IsValidIn q s omits) (sym runs.0) (decisions_are_inputs p.values s omits runs.1)
+
 -- a decision in a table of the program's states is one of the program
 tabled : (p : ProgramTree) (s : Setup) (omits : ℕ → ℕ → ℕ → Bool) (t : States) → t.program ≡ p
-    → t.nodes ≡ s.nodes → HasRun t (algorithm_of p s) omits → p ≡ dls1 p.values
+    → t.nodes ≡ s.nodes → HasRun t (algorithm_of p s) omits
     → (r i v : ℕ) → i < t.nodes → r ≤ t.rounds → decision t.program (state_of t i r) ≡ Some v
-    → HasDecided p.values s omits r i v
-tabled p s omits t same nodes has e r i v hi hr d =
-    ap (λ q. decision q (rounds (algorithm_of q s) omits r i)) (sym e)
-    ∙ sym (ap (λ q. decision q (state_of t i r)) same ∙ ap (decision p) (has r i hr hi)) ∙ d
+    → Decides p s omits r i v
+tabled p s omits t same nodes has r i v hi hr d =
+    sym (ap (λ q. decision q (state_of t i r)) same ∙ ap (decision p) (has r i hr hi)) ∙ d
 
 pub table_agrees : (p : ProgramTree) (s : Setup) (omits : ℕ → ℕ → ℕ → Bool) (t : States)
-    → t.program ≡ p → t.nodes ≡ s.nodes → HasRun t (algorithm_of p s) omits → RunsAlgorithm1 p s
+    → t.program ≡ p → t.nodes ≡ s.nodes → HasRun t (algorithm_of p s) omits → AgreesIn p s omits
     → DecisionsAgree t
-table_agrees p s omits t same nodes has runs i j r q v u hi hj hr hq a b =
-    decisions_agree p.values s omits runs.1 i j r q v u (omega arith) (omega arith)
-    (tabled p s omits t same nodes has runs.0 r i v hi hr a)
-    (tabled p s omits t same nodes has runs.0 q j u hj hq b)
+table_agrees p s omits t same nodes has agrees i j r q v u hi hj hr hq a b =
+    agrees i j r q v u (omega arith) (omega arith)
+    (tabled p s omits t same nodes has r i v hi hr a)
+    (tabled p s omits t same nodes has q j u hj hq b)
 
 pub table_decides_inputs : (p : ProgramTree) (s : Setup) (omits : ℕ → ℕ → ℕ → Bool) (t : States)
-    → t.program ≡ p → t.nodes ≡ s.nodes → HasRun t (algorithm_of p s) omits → RunsAlgorithm1 p s
+    → t.program ≡ p → t.nodes ≡ s.nodes → HasRun t (algorithm_of p s) omits → IsValidIn p s omits
     → DecisionsAreInputs s t
-table_decides_inputs p s omits t same nodes has runs i r v hi hr a =
-    decisions_are_inputs p.values s omits runs.1 i r v (omega arith)
-    (tabled p s omits t same nodes has runs.0 r i v hi hr a)
+table_decides_inputs p s omits t same nodes has valid i r v hi hr a =
+    valid i r v (omega arith) (tabled p s omits t same nodes has r i v hi hr a)

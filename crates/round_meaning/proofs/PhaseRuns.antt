@@ -17,13 +17,13 @@ use Rattle.round_meaning.proofs.DecisionRound.{step3, stays3, locked3}
 use Rattle.round_meaning.proofs.ReleaseRound.{step4, stays4, locked4, was4}
 
 -- what holds before the round at position p of phase q+1
-abbrev Inv : Setting → (ℕ → ℕ) → ℕ → ℕ → World → Type 0
+abbrev pub Inv : Setting → (ℕ → ℕ) → ℕ → ℕ → World → Type 0
 Inv s inputs zero q w = Before s inputs q w
 Inv s inputs (suc zero) q w = Proposed s inputs q w
 Inv s inputs (suc (suc zero)) q w = Locking s inputs q w
 Inv s inputs (suc (suc (suc p))) q w = Before s inputs (q + 1) w
 
-always_of : (s : Setting) (inputs : ℕ → ℕ) (p q : ℕ) (w : World) → Inv s inputs p q w
+pub always_of : (s : Setting) (inputs : ℕ → ℕ) (p q : ℕ) (w : World) → Inv s inputs p q w
     → Always s inputs w
 always_of s inputs zero q w h = h.always
 always_of s inputs (suc zero) q w h = h.always
@@ -65,7 +65,7 @@ at_start s inputs = record {
       get_or-replicate s.values v 0 0 hv in omega arith;
 }
 
-holds : (s : Setting) (inputs : ℕ → ℕ) (omits : ℕ → ℕ → ℕ → Bool) → Suits s inputs → (r : ℕ)
+pub holds : (s : Setting) (inputs : ℕ → ℕ) (omits : ℕ → ℕ → ℕ → Bool) → Suits s inputs → (r : ℕ)
     → Inv s inputs (r % 4) (r / 4) (run s inputs omits r)
 holds s inputs omits ok zero = at_start s inputs
 holds s inputs omits ok (suc r) =
@@ -79,7 +79,7 @@ stays s (suc zero) k w o i v l h = stays2 s w (o i) k i v h
 stays s (suc (suc zero)) k w o i v l h = stays3 s w (o i) k i v l h
 stays s (suc (suc (suc p))) k w o i v l h = stays4 s w (o i) i v h
 
-stays_long : (s : Setting) (inputs : ℕ → ℕ) (omits : ℕ → ℕ → ℕ → Bool) (i v r d : ℕ) → v < 64
+pub stays_long : (s : Setting) (inputs : ℕ → ℕ) (omits : ℕ → ℕ → ℕ → Bool) (i v r d : ℕ) → v < 64
     → Has (run s inputs omits r i).done v → Has (run s inputs omits (r + d) i).done v
 stays_long s inputs omits i v r zero l h = let e : r + 0 ≡ r = omega arith in rw e h
 stays_long s inputs omits i v r (suc d) l h =

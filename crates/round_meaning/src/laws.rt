@@ -66,8 +66,9 @@ pub fn places_are_kept(program: &Checked)
     program.typed();
 }
 
-/// Algorithm 1 under every omission table: any two decisions, of any nodes at any rounds, are
-/// equal, and each is some node's input.
+/// Algorithm 1, for a setup with fewer than half of the nodes faulty, keeps agreement and validity
+/// under every omission table: any two decisions, of any nodes after any rounds, are equal, and
+/// each is some node's input. These are the premises of `run_rounds`, `explain` and `run_threads`.
 pub fn decisions_agree()
     ensures agreement { Agreement }
     ensures validity { Validity }

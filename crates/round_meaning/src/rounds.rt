@@ -1,6 +1,7 @@
 //! The run of all nodes in rounds.
 ghost use Rattle.std.specs.Prelude.{◌≡◌, ℕ, Bool, ◌+◌, ◌^◌, ◌<◌, IfOk, length};
-ghost use Rattle.round_meaning.specs.Agreement.{DecisionsAgree, DecisionsAreInputs, RunsAlgorithm1};
+ghost use Rattle.round_meaning.specs.Agreement.{AgreesIn, DecisionsAgree, DecisionsAreInputs};
+ghost use Rattle.round_meaning.specs.Agreement.{IsValidIn};
 ghost use Rattle.round_meaning.specs.Omissions.{is_omitted};
 ghost use Rattle.round_meaning.specs.Rounds.{algorithm_of, heard, inbox};
 ghost use Rattle.round_meaning.specs.States.{HasRun, initial_states, next_state, state_in};
@@ -17,8 +18,8 @@ use run_events::NoMemory;
 use std::alloc::Global;
 
 /// The states of all nodes after each of some rounds, where all nodes go on at once: the basic
-/// round model. Where the program is Algorithm 1, for a setup with fewer than half of the nodes
-/// faulty, all decisions are equal, and each is some node's input.
+/// round model. What holds of all decisions of the program under these omissions holds of the
+/// decisions in the table. For Algorithm 1, `decisions_agree` gives both premises.
 pub fn run_rounds(
     alloc: Global,
     program: &Checked,
@@ -31,9 +32,10 @@ pub fn run_rounds(
     ensures rounds { IfOk result (λ t. t.rounds ≡ rounds) }
     ensures states { IfOk result
         (λ t. HasRun t (algorithm_of program.now setup.now) (is_omitted omissions.now)) }
-    ensures agreement { IfOk result (λ t. RunsAlgorithm1 program.now setup.now → DecisionsAgree t) }
-    ensures validity { IfOk result
-        (λ t. RunsAlgorithm1 program.now setup.now → DecisionsAreInputs setup.now t) }
+    ensures agreement { IfOk result
+        (λ t. AgreesIn program.now setup.now (is_omitted omissions.now) → DecisionsAgree t) }
+    ensures validity { IfOk result (λ t. IsValidIn program.now setup.now (is_omitted omissions.now)
+        → DecisionsAreInputs setup.now t) }
 {
     let mut snapshots = Vec::new(alloc);
     snapshots.push(initial_states(alloc, program, setup)?)?;

@@ -2,7 +2,10 @@
 use Rattle.std.proofs.Common.{◌≡◌, ℕ, ◌+◌, ◌<◌, ◌≤◌, Bool, true, List, [], ◌++◌, refl, sym, ap, ◌∙◌}
 use Rattle.std.proofs.Common.{◌∷◌, Option, None, Some, false, subst, arith, ◌⊎◌, inl, inr}
 use Rattle.std.specs.List.{filter_map, range_with_len}
+use Rattle.std.specs.Prelude.{length}
 use Rattle.std.proofs.lemmas.Bool.{cases_lt, cond-false, cond-true}
+use Rattle.std.proofs.lemmas.List.{length-append}
+use Rattle.std.proofs.lemmas.List.Elements.{All-push}
 use Rattle.round_lang.specs.declared.value.Value.{Value}
 use Rattle.round_lang.specs.Syntax.{ProgramTree}
 use Rattle.round_meaning.specs.declared.omissions.Omission.{Omission}
@@ -31,9 +34,9 @@ use Rattle.round_explorer.proofs.Lost.{is_omitted-lost}
 use Rattle.round_explorer.proofs.Notes.{seen_after_past}
 use Rattle.round_explorer.proofs.Parts.{part_is_track, part_more}
 use Rattle.round_explorer.proofs.Searching.{holds_none}
-use Rattle.run_samples.specs.Found.{IsFound}
+use Rattle.run_samples.specs.Found.{AreFaultless, IsFaultless, IsFound, MadeRun}
 use Rattle.run_samples.specs.Samples.{AgreeUpTo, EndsWithout, Follows, HoldsBefore, IsFailing}
-use Rattle.run_samples.specs.Samples.{IsCaseOf, IsFailingRun, IsToldOf, inbox_with}
+use Rattle.run_samples.specs.Samples.{IsCaseOf, IsFailingRun, IsHoldingRun, IsToldOf, inbox_with}
 use Rattle.run_samples.specs.Samples.{run_of_case}
 
 -- an inbox with one sender more
@@ -199,42 +202,97 @@ module _ (p : ProgramTree) (c : Case) where
         first = λ k l. h.first k (omega arith) omits (λ i q j m. agree i q j (omega arith));
       }
 
+-- a run that has gone through all rounds in which the property holds
+pub whole_run : (p : ProgramTree) (c : Case) (run : Track)
+    → IsTrack (search_of p c) c.setup.rounds run
+    → HoldsBefore p c run.lost (c.setup.rounds + 1) → IsHoldingRun p c run
+whole_run p c run is h = record {
+  is_track = is;
+  holds = h c.setup.rounds (omega arith) (is_omitted run.lost) (λ i r j l. refl);
+}
+
+-- a case that is asked about is that of the setup, with its own inputs and failures
+case_is : (p : ProgramTree) (s : Setup) (question : Question) (asked : AskedInputs)
+    (property : Property) (c : Case) (inputs : List ℕ) (pattern : List Failure)
+    → IsCaseOf p s question asked property c → inputs ≡ c.setup.inputs → pattern ≡ c.pattern
+    → c ≡ record {
+      setup = with_inputs s inputs;
+      question = question;
+      pattern = pattern;
+      property = property;
+    }
+case_is p s question asked property c inputs pattern is same_inputs same_pattern =
+    ap (λ (x : Setup). record {
+      setup = x;
+      question = c.question;
+      pattern = c.pattern;
+      property = c.property;
+    }) (is.is_setup ∙ ap (with_inputs s) (sym same_inputs))
+    ∙ ap (λ (x : Question). record {
+      setup = with_inputs s inputs;
+      question = x;
+      pattern = c.pattern;
+      property = c.property;
+    }) is.is_question
+    ∙ ap (λ (x : List Failure). record {
+      setup = with_inputs s inputs;
+      question = question;
+      pattern = x;
+      property = c.property;
+    }) (sym same_pattern)
+    ∙ ap (λ (x : Property). record {
+      setup = with_inputs s inputs;
+      question = question;
+      pattern = pattern;
+      property = x;
+    }) is.is_property
+
+-- what was made of a whole run of a case
+abbrev pub made_of : Case → Track → MadeRun
+made_of c run = record {
+  inputs = c.setup.inputs;
+  pattern = c.pattern;
+  omits = is_omitted run.lost;
+}
+
+-- a run of a case that is asked about, in which the property holds, is a faultless one
+pub faultless_in : (p : ProgramTree) (s : Setup) (question : Question) (asked : AskedInputs)
+    (property : Property) (c : Case) (run : Track)
+    → IsCaseOf p s question asked property c → IsHoldingRun p c run
+    → IsFaultless p s question asked property (made_of c run)
+unfolding algorithm
+faultless_in p s question asked property c run is h =
+    let same = case_is p s question asked property c c.setup.inputs c.pattern is refl refl in
+    let here = subst (λ (x : Case). IsHoldingRun p x run) same h in (
+      record {
+        are_asked = is.are_asked;
+        is_pattern = is.is_pattern;
+        is_table = here.is_track.table;
+      },
+      here.holds,
+    )
+
+-- one run more
+pub one_made : (p : ProgramTree) (s : Setup) (question : Question) (asked : AskedInputs)
+    (property : Property) (c : Case) (run : Track) (n : ℕ)
+    → IsCaseOf p s question asked property c → IsHoldingRun p c run
+    → AreFaultless p s question asked property n → AreFaultless p s question asked property (n + 1)
+one_made p s question asked property c run n is h (made, many, all) =
+    let more = made_of c run in (
+      made ++ more ∷ [],
+      length-append made (more ∷ []) ∙ ap (λ k. k + 1) many,
+      All-push (IsFaultless p s question asked property) made more all
+          (faultless_in p s question asked property c run is h),
+    )
+
 -- a failure of a case that is asked about is one that is found
 pub found_in : (p : ProgramTree) (s : Setup) (question : Question) (asked : AskedInputs)
     (property : Property) (c : Case) (found : Counterexample)
     → IsCaseOf p s question asked property c → IsFailing p c found
     → IsFound p s question asked property found
 found_in p s question asked property c found is failing =
-    let same : c ≡ record {
-      setup = with_inputs s found.inputs;
-      question = question;
-      pattern = found.failures.items;
-      property = property;
-    } =
-    ap (λ (x : Setup). record {
-      setup = x;
-      question = c.question;
-      pattern = c.pattern;
-      property = c.property;
-    }) (is.is_setup ∙ ap (with_inputs s) (sym failing.inputs))
-    ∙ ap (λ (x : Question). record {
-      setup = with_inputs s found.inputs;
-      question = x;
-      pattern = c.pattern;
-      property = c.property;
-    }) is.is_question
-    ∙ ap (λ (x : List Failure). record {
-      setup = with_inputs s found.inputs;
-      question = question;
-      pattern = x;
-      property = c.property;
-    }) (sym failing.failures)
-    ∙ ap (λ (x : Property). record {
-      setup = with_inputs s found.inputs;
-      question = question;
-      pattern = found.failures.items;
-      property = x;
-    }) is.is_property in
+    let same = case_is p s question asked property c found.inputs found.failures.items is
+    failing.inputs failing.failures in
     let here = subst (λ (x : Case). IsFailing p x found) same failing in
     record {
       is_asked = record {

@@ -1,21 +1,27 @@
 -- What is known of a sample while it's made and run.
 use Rattle.std.specs.Prelude.{◌≡◌, ℕ, ◌+◌, ◌<◌, ◌≤◌, ◌++◌, Bool, List, [], ◌∷◌}
-use Rattle.std.specs.Prelude.{Option, None, Some, true}
+use Rattle.std.specs.Prelude.{Option, None, Some, false, true}
+use Rattle.std.specs.List.{count_by, range_with_len}
 use Rattle.round_lang.specs.declared.value.Value.{Value}
 use Rattle.round_lang.specs.Syntax.{ProgramTree}
 use Rattle.round_meaning.specs.declared.omissions.Omission.{Omission}
 use Rattle.round_meaning.specs.declared.received.Received.{Received}
 use Rattle.round_meaning.specs.declared.setup.Setup.{Setup}
+use Rattle.round_meaning.specs.Nodes.{has_node}
 use Rattle.round_meaning.specs.Omissions.{is_omitted}
 use Rattle.round_explorer.specs.declared.answer.Counterexample.{Counterexample}
 use Rattle.round_explorer.specs.declared.property.Property.{Property}
 use Rattle.round_explorer.specs.declared.question.AskedInputs.{AskedInputs}
+use Rattle.round_explorer.specs.declared.question.Failure.{Failure}
 use Rattle.round_explorer.specs.declared.question.Question.{Question}
 use Rattle.round_explorer.specs.Answers.{with_inputs}
 use Rattle.round_explorer.specs.Properties.{HoldsUpTo, Run}
 use Rattle.round_explorer.specs.Questions.{AreAsked, IsPattern, IsTable, Messages}
 use Rattle.round_explorer.specs.Searched.{Case, End, IsEndWithout, IsTrack, IsWhole}
-use Rattle.round_explorer.specs.Searched.{LeavesEnough, Search, Track, search_of, with_end}
+use Rattle.round_explorer.specs.Searched.{LeavesEnough, Search, Track, has_stopped, search_of}
+use Rattle.round_explorer.specs.Searched.{with_end}
+use Rattle.run_samples.specs.declared.running.Course.{Course}
+use Rattle.run_samples.specs.declared.running.Course.TheVariants.{Ends, Fails, Holds}
 
 -- the case is that of a question, with inputs and failures that are asked about
 pub record IsCaseOf (p : ProgramTree) (s : Setup) (question : Question) (asked : AskedInputs)
@@ -25,6 +31,16 @@ pub record IsCaseOf (p : ProgramTree) (s : Setup) (question : Question) (asked :
   pub is_property : c.property ≡ property
   pub are_asked : AreAsked p.values s asked c.setup.inputs
   pub is_pattern : IsPattern question s c.pattern
+
+-- if nodes fail so, enough are left in the last round that each can hear as many as it must
+abbrev pub LeavesEnoughOf : Question → Setup → List Failure → Type 0
+LeavesEnoughOf question s pattern =
+    count_by (has_stopped pattern s.rounds) (range_with_len 0 s.nodes) + question.hears ≤ s.nodes
+
+-- of the first n nodes the set has those that have stopped before round r, and it has no others
+pub record AreStopped (c : Case) (r n set : ℕ) : Type 0 where
+  pub below : (j : ℕ) → j < n → has_node set j ≡ has_stopped c.pattern r j
+  pub past : (j : ℕ) → n ≤ j → has_node set j ≡ false
 
 -- the case of a failure that is known
 abbrev pub case_of : Setup → Question → Property → Counterexample → Case
@@ -76,6 +92,18 @@ pub record IsFailingRun (p : ProgramTree) (c : Case) (r : ℕ) (run : Track) : T
   pub fails : (omits : Messages) → AgreeUpTo r (is_omitted run.lost) omits
       → HoldsUpTo c.property (run_of_case p c omits) r → ⊥
   pub first : HoldsBefore p c run.lost r
+
+-- this run of the case is asked about, and the property holds in it up to the last round
+pub record IsHoldingRun (p : ProgramTree) (c : Case) (run : Track) : Type 0 where
+  pub is_track : IsTrack (search_of p c) c.setup.rounds run
+  pub holds : HoldsUpTo c.property (run_of_case p c (is_omitted run.lost)) c.setup.rounds
+
+-- how a run of the case goes; if there is a row for each node in each round, it ends early only if
+-- not enough nodes are left
+abbrev pub IsCourse : (complete : Bool) → ProgramTree → Case → Course → Type 0
+IsCourse complete p c (Fails failing) = IsFailingRun p c failing.round failing.path
+IsCourse complete p c (Holds path) = IsHoldingRun p c path
+IsCourse complete p c Ends = complete ≡ true → LeavesEnough c → ⊥
 
 -- this is told of the run, which failed in round r
 pub record IsToldOf (c : Case) (r : ℕ) (run : Track) (found : Counterexample) : Type 0 where

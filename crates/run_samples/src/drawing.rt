@@ -1,8 +1,12 @@
 //! Inputs and failures of a sample.
-ghost use Rattle.std.specs.Prelude.{◌≡◌, ◌<◌, ◌≤◌, All, IfOk, IfSome, length};
+ghost use Rattle.std.specs.Prelude.{◌≡◌, ◌<◌, ◌≤◌, ◌+◌, All, IfOk, IfSome, IsSome, cond, length};
 ghost use Rattle.round_meaning.specs.Setups.{IsSetup};
 ghost use Rattle.round_explorer.specs.Questions.{AreAsked, IsInPart, IsOfKind, IsPattern};
-ghost use Rattle.run_samples.specs.Samples.{IsCaseOf};
+ghost use Rattle.round_explorer.specs.Questions.{is_faulty};
+ghost use Rattle.round_explorer.specs.Searched.{LeavesEnough, is_stopped};
+ghost use Rattle.round_explorer.specs.declared.question.FaultKind.{FaultKind as KindOfFault};
+ghost use Rattle.run_samples.specs.Found.{AsksNoPart};
+ghost use Rattle.run_samples.specs.Samples.{IsCaseOf, LeavesEnoughOf};
 
 use crate::dice::{Dice, Rate};
 use round_check::Checked;
@@ -26,8 +30,11 @@ pub(crate) fn drawn_case<'a>(
     dice: &mut Dice,
 ) -> Result<Option<Case<'a>>, NoMemory>
     requires { IsSetup setup.now }
-    ensures { IfOk result (λ drawn. IfSome drawn
+    ensures case { IfOk result (λ drawn. IfSome drawn
         (IsCaseOf program.now setup.now question asked property.entry)) }
+    ensures enough { IfOk result (λ drawn. IfSome drawn
+        (λ c. question.hears ≤ setup.now.nodes → LeavesEnough c)) }
+    ensures all { IfOk result (λ drawn. AsksNoPart asked → IsSome drawn) }
 {
     let Some(inputs) = drawn_inputs(alloc, program, setup, asked, dice)? else {
         return Ok(None);
@@ -50,7 +57,9 @@ fn drawn_inputs(
     asked: AskedInputs,
     dice: &mut Dice,
 ) -> Result<Option<Inputs>, NoMemory>
-    ensures { IfOk result (λ drawn. IfSome drawn (AreAsked program.now.values setup.now asked)) }
+    ensures asked { IfOk result
+        (λ drawn. IfSome drawn (AreAsked program.now.values setup.now asked)) }
+    ensures all { IfOk result (λ drawn. AsksNoPart asked → IsSome drawn) }
 {
     match asked {
         AskedInputs::Header => Ok(Some(setup.inputs.copy()?)),
@@ -95,7 +104,8 @@ fn any_inputs(
     Ok(Inputs::new(inputs))
 }
 
-/// A failure for each node: of at most the setup's faults, how many being drawn too.
+/// A failure for each node: of at most the setup's faults, how many being drawn too; and enough
+/// nodes are left to be heard.
 fn drawn_pattern(
     alloc: Global,
     question: Question,
@@ -103,19 +113,63 @@ fn drawn_pattern(
     dice: &mut Dice,
 ) -> Result<Vec<Failure>, NoMemory>
     requires { IsSetup setup.now }
-    ensures { IfOk result (λ pattern. IsPattern question setup.now pattern.items) }
+    ensures pattern { IfOk result (λ pattern. IsPattern question setup.now pattern.items) }
+    ensures enough { IfOk result (λ pattern. question.hears ≤ setup.now.nodes
+        → LeavesEnoughOf question setup.now pattern.items) }
 {
     let mut pattern = Vec::new(alloc);
     let mut left = dice.below(setup.faults + 1);
+    let mut spare = setup.nodes.saturating_sub(question.hears);
     for node in 0..setup.nodes {
-        if dice.below(setup.nodes - node) < left {
-            pattern.push(drawn_failure(question.faults, setup.rounds, dice))?;
-            left -= 1;
-        } else {
-            pattern.push(Failure::Never)?;
-        }
+        let failure = next_failure(question, setup, node, &mut left, &mut spare, dice);
+        pattern.push(failure)?;
     }
     Ok(pattern)
+}
+
+/// How the next node fails, if `left` nodes do of it and those after it, and `spare` of them may
+/// stop before the last round.
+fn next_failure(
+    question: Question,
+    setup: &Setup,
+    node: u32,
+    left: &mut u32,
+    spare: &mut u32,
+    dice: &mut Dice,
+) -> Failure
+    requires rounds { 0 < setup.now.rounds }
+    requires node { node < setup.now.nodes }
+    ensures kind { IsOfKind question.faults setup.now.rounds result }
+    ensures few { left.new + cond (is_faulty result) 1 0 ≤ left.old }
+    ensures spare { spare.old ≡ spare.new + cond (is_stopped result setup.now.rounds) 1 0 }
+{
+    if dice.below(setup.nodes - node) >= *left {
+        return Failure::Never;
+    }
+    *left -= 1;
+    let failure = drawn_failure(question.faults, setup.rounds, dice);
+    spared(failure, setup.rounds, spare)
+}
+
+/// The same failure, if as many nodes more can be spared as it stops before the last round: one or
+/// none. Else the node crashes in the last round.
+fn spared(failure: Failure, rounds: u32, spare: &mut u32) -> Failure
+    requires { 0 < rounds }
+    ensures kind { (kind : KindOfFault) → IsOfKind kind rounds failure
+        → IsOfKind kind rounds result }
+    ensures faulty { is_faulty result ≡ is_faulty failure }
+    ensures spare { spare.old ≡ spare.new + cond (is_stopped result rounds) 1 0 }
+{
+    match failure {
+        Failure::Crashes(round) if round < rounds => {
+            if *spare == 0 {
+                return Failure::Crashes(rounds);
+            }
+            *spare -= 1;
+            failure
+        }
+        _ => failure,
+    }
 }
 
 /// How a node fails that does.

@@ -2,9 +2,9 @@
 //! fails, without the omissions that aren't needed for it.
 //!
 //! A sample has inputs, a pattern of failures, and for each round and node the messages that the
-//! node misses, all drawn of those that a question allows. What a node misses is tested before it's
-//! used, and the property after each round. So what is found is a run that the question asks about,
-//! and it's told with the first round in which the property fails in that run.
+//! node misses, all drawn of those that a question allows, so that each draw makes a run that the
+//! question asks about. The property is tested after each round: a failure is told with the first
+//! round in which the property fails in that run, and else how many runs were made.
 //!
 //! A run in which a property fails may have omissions that the failure doesn't need. They're left
 //! out of it as long as the property first fails in the same round.
@@ -22,5 +22,5 @@ mod sampling;
 mod shrinking;
 mod tally;
 
-pub use sampling::{Sampling, sample};
+pub use sampling::{Sampled, Sampling, sample};
 pub use shrinking::shrink;

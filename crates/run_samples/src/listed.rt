@@ -1,6 +1,8 @@
 //! Rows of missed nodes that are given, some of which a trial leaves out.
-use crate::missing::Rows;
-use round_explorer::{Case, may_be_heard};
+ghost use Rattle.std.specs.Prelude.{false};
+
+use crate::missing::{Rows, stopped};
+use round_explorer::{Case, is_row, may_be_heard};
 use round_meaning::{NodeSet, OmissionTable};
 use run_events::NoMemory;
 use std::alloc::Global;
@@ -113,6 +115,8 @@ impl Listed {
 }
 
 impl Rows for Listed {
+    ghost complete = { false };
+
     fn begin_round(&mut self, _round: u32) {}
 
     fn row(&mut self, case: &Case<'_>, round: u32, me: u32) -> Option<NodeSet> {
@@ -120,9 +124,14 @@ impl Rows for Listed {
         let place = before.saturating_add(u64::from(me)) as usize;
         let row = *self.rows.get(place)?;
         let kept = row.bits & !self.trial.part_of(place, row);
-        Some(NodeSet {
+        let missed = NodeSet {
             bits: kept | stopped(case, round).bits,
-        })
+        };
+        if is_row(case, round, missed) {
+            Some(missed)
+        } else {
+            None
+        }
     }
 }
 
@@ -131,17 +140,6 @@ fn row_in(case: &Case<'_>, table: &OmissionTable, round: u32, me: u32) -> NodeSe
     let mut row = NodeSet::empty();
     for from in 0..case.setup().nodes {
         if table.is_omitted(me, round, from) && may_be_heard(case, round, from) {
-            row = row.with(from);
-        }
-    }
-    row
-}
-
-/// The nodes that have stopped before a round.
-fn stopped(case: &Case<'_>, round: u32) -> NodeSet {
-    let mut row = NodeSet::empty();
-    for from in 0..case.setup().nodes {
-        if !may_be_heard(case, round, from) {
             row = row.with(from);
         }
     }

@@ -1,12 +1,12 @@
 //! Trying runs made at random.
-ghost use Rattle.std.specs.Prelude.{IfOk, IfSome};
+ghost use Rattle.std.specs.Prelude.{IfOk};
 ghost use Rattle.round_meaning.specs.Setups.{IsLawful};
-ghost use Rattle.run_samples.specs.Found.{IsFound};
+ghost use Rattle.run_samples.specs.Found.{IsSampled};
 
 use crate::drawing::drawn_case;
 use crate::drawn::Drawn;
 use crate::machine::Machine;
-use crate::running::failure_of;
+use crate::running::{Course, course_of, told_of};
 use crate::tally::Tally;
 use round_check::Checked;
 use round_explorer::{AskedInputs, Counterexample, Property, Question, Watch};
@@ -21,13 +21,23 @@ pub struct Sampling {
     pub seed: u64,
 }
 
-/// A run in rounds in which a property fails, among runs of the setup's rounds that are made at
-/// random of those asked about; it's told with the first round in which it fails in that run. The
+/// What a sample shows of a property.
+#[derive(Drop)]
+pub enum Sampled {
+    /// It fails in this run.
+    Fails(Counterexample),
+    /// It holds in each of this many runs that were made.
+    NotFound(u32),
+}
+
+/// Whether a property fails in one of the runs that are made at random, of the setup's rounds and
+/// of those asked about. If it does, the first run in which it does is told, with the first round
+/// in which it does; else how many runs were made. That's `count`, unless no run can be made: if
+/// `hears` is above N, or if the inputs that were drawn aren't in the part that is asked about. The
 /// same arguments give the same answer.
 ///
-/// `None` says that none was found and nothing more: no clause speaks of it, nor of how the runs
-/// are spread. It's also the answer if the question allows no run, as with `hears` above N. A run
-/// takes memory for its omissions and the nodes' states of two rounds, and leaves none taken.
+/// No clause speaks of how the runs are spread, nor says that they differ. A run takes memory for
+/// its omissions and the nodes' states of two rounds, and leaves none taken.
 ///
 /// `watch` is told about every 16,384 rounds how far the samples have come: the round of the run,
 /// and, both as states and as transitions, how many rounds were run. No clause speaks of that.
@@ -40,14 +50,15 @@ pub fn sample<W: Watch>(
     property: Property<'_>,
     sampling: Sampling,
     watch: &W,
-) -> Result<Option<Counterexample>, NoMemory>
+) -> Result<Sampled, NoMemory>
     requires { IsLawful program.now.values setup.now }
-    ensures { IfOk result (λ found. IfSome found
-        (IsFound program.now setup.now question asked property.entry)) }
+    ensures { IfOk result
+        (IsSampled program.now setup.now question asked property.entry sampling.count) }
 {
     let mut machine = Machine::new(alloc, program)?;
     let mut rows = Drawn::new(sampling.seed);
     let mut tally = Tally::new(watch, sampling.count);
+    let mut made = 0;
     for _sample in 0..sampling.count {
         tally.begin_run();
         let dice = &mut rows.dice;
@@ -55,10 +66,13 @@ pub fn sample<W: Watch>(
         let Some(case) = drawn else {
             continue;
         };
-        let found = failure_of(alloc, &mut machine, program, &case, &mut rows, &mut tally)?;
-        if let Some(found) = found {
-            return Ok(Some(found));
+        match course_of(alloc, &mut machine, program, &case, &mut rows, &mut tally)? {
+            Course::Fails(failing) => {
+                return Ok(Sampled::Fails(told_of(alloc, &case, &failing)?));
+            }
+            Course::Holds(_path) => made += 1,
+            Course::Ends => {}
         }
     }
-    Ok(None)
+    Ok(Sampled::NotFound(made))
 }

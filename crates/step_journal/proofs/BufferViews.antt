@@ -152,20 +152,30 @@ arrives a rows n fs (Some g) h = (
 -- the frame that work is made into
 frame_made_by : (p : Ready) (frame : Frame) (o : Option (List Value))
     → ◌≡◌ {A = Option Frame}
-    (option_map (λ m. record { name = p.name; state = p.state; message = m }) o) (Some frame)
+    (option_map (λ m. record {
+      format = p.format;
+      name = p.name;
+      state = p.state;
+      message = m;
+    }) o) (Some frame)
     → (m : List Value) × (o ≡ Some m)
-    × (frame ≡ record { name = p.name; state = p.state; message = m })
+    × (frame ≡ record { format = p.format; name = p.name; state = p.state; message = m })
 frame_made_by p frame None h = cc
 frame_made_by p frame (Some m) h = (m, refl, cc)
 
 frame_made : (p : Ready) (frame : Frame) → frame_of p ≡ Some frame
     → (m : List Value) × (p.message ≡ Some m)
-    × (frame ≡ record { name = p.name; state = p.state; message = m })
+    × (frame ≡ record { format = p.format; name = p.name; state = p.state; message = m })
 frame_made p frame h = frame_made_by p frame p.message h
 
 silence_by : (p : Ready) (o : Option (List Value))
     → ◌≡◌ {A = Option Frame}
-    (option_map (λ m. record { name = p.name; state = p.state; message = m }) o) None → o ≡ None
+    (option_map (λ m. record {
+      format = p.format;
+      name = p.name;
+      state = p.state;
+      message = m;
+    }) o) None → o ≡ None
 silence_by p None h = refl
 silence_by p (Some m) h = cc
 

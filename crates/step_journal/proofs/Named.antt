@@ -313,7 +313,12 @@ named_all rows fs ns n sized past h = record {
         → names_in fs ≡ ns
     names fs ns sized each =
         let d : Name = record { from = 0; to = 0; round = 0; copy = 0 } in
-        let f : Frame = record { name = d; state = []; message = [] } in
+        let f : Frame = record {
+          format = record { nodes = 0; values = 0; period = 0; blocks = [] };
+          name = d;
+          state = [];
+          message = [];
+        } in
         ext_get_or d (names_in fs) ns (length-map fs (λ (z : Frame). z.name) ∙ sized)
         (λ k l. (let m = length-map fs (λ (z : Frame). z.name) in
         get_or-map (λ (z : Frame). z.name) fs k f d (omega arith) ∙ each k f d (omega arith)))

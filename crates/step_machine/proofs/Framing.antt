@@ -72,7 +72,12 @@ sealed_copy s state old new k read h writes =
     let w = frame_at s old in
     let r = read new (record w { copy = k }) (writes w h.frame.spelled h.second) in (
       record { frame = r.0; second = ap (λ (x : Written). x.version) r.1 ∙ h.second },
-      ap (λ (x : Written). record { name = name_in x; state = state; message = x.message }) r.1,
+      ap (λ (x : Written). record {
+        format = s;
+        name = name_in x;
+        state = state;
+        message = x.message;
+      }) r.1,
     )
 
 -- one of the frames to all

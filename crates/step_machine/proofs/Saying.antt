@@ -59,20 +59,27 @@ alone_says d e =
 -- bytes under a name say their message under it
 pub named_frame : (s : Format) (state : List Value) (n : Name) (m : List Value) (bytes : List ℕ)
     → IsNamed s n bytes → message_at s bytes ≡ m
-    → frame_in s state bytes ≡ record { name = n; state = state; message = m }
+    → frame_in s state bytes ≡ record { format = s; name = n; state = state; message = m }
 named_frame s state n m bytes h e =
     let under : Name → Frame = λ x. record {
+      format = s;
       name = x;
       state = state;
       message = message_at s bytes;
     } in
-    let saying : List Value → Frame = λ x. record { name = n; state = state; message = x } in
+    let saying : List Value → Frame = λ x. record {
+      format = s;
+      name = n;
+      state = state;
+      message = x;
+    } in
     ap under h.name_is ∙ ap saying e
 
 -- bytes that are written under a name
 pub written_is : (s : Format) (state : List Value) (n : Name) (m : List Value) (bytes new : List ℕ)
     → SpelledIsRead s → bytes ≡ new → Spells s new (written_as n m)
-    → IsSealed s bytes × (frame_in s state bytes ≡ record { name = n; state = state; message = m })
+    → IsSealed s bytes
+    × (frame_in s state bytes ≡ record { format = s; name = n; state = state; message = m })
 written_is s state n m bytes new read same h =
     let r = spelled_named s read n m bytes
     (subst (λ (b : List ℕ). Spells s b (written_as n m)) (sym same) h) in
@@ -114,6 +121,7 @@ pub lies_to : (n : Name) (d : Said) (m : Option (List Value))
     → (h : IsToAll n.from n.round m d)
     → IsFrameFrom d (n.to * d.size)
     × (frame_from d (n.to * d.size) ≡ record {
+      format = layout_in (arc_value d.origin);
       name = n;
       state = (arc_value d.origin).state;
       message = h.said;
@@ -140,12 +148,18 @@ pub lies_shared : (n : Name) (d owned sized : Said) (s : Format) (m : Option (Li
     → n.to < (layout_in (arc_value d.origin)).nodes → n.copy ≡ 0 → (h : IsToAll n.from n.round m d)
     → IsFrameFrom owned (n.to * sized.size)
     × (frame_from owned (n.to * sized.size) ≡ record {
+      format = layout_in (arc_value d.origin);
       name = n;
       state = (arc_value d.origin).state;
       message = h.said;
     })
 lies_shared n d owned sized s m same sizes layout read within original h =
-    let said : Frame = record { name = n; state = (arc_value d.origin).state; message = h.said } in
+    let said : Frame = record {
+      format = layout_in (arc_value d.origin);
+      name = n;
+      state = (arc_value d.origin).state;
+      message = h.said;
+    } in
     let lies = lies_to n d m (subst SpelledIsRead layout read) within original h in
     let here : IsFrameFrom owned (n.to * d.size) × (frame_from owned (n.to * d.size) ≡ said) =
     subst (λ (x : Said). IsFrameFrom x (n.to * d.size) × (frame_from x (n.to * d.size) ≡ said))

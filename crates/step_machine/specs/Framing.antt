@@ -24,10 +24,9 @@ written_as n message = record {
 abbrev pub wire : Frame → Written
 wire f = written_as f.name f.message
 
--- the bytes are those of the frame
-pub record IsSpelling (f : Frame) (bytes : List ℕ) : Type 0 where
-  pub layout : Format
-  pub spells : Spells layout bytes (wire f)
+-- the bytes spell the frame in its format
+abbrev pub IsSpelling : Frame → List ℕ → Type 0
+IsSpelling f bytes = Spells f.format bytes (wire f)
 
 -- the name that a frame's header says
 abbrev pub name_in : Written → Name
@@ -36,6 +35,7 @@ name_in w = record { from = w.from; to = w.to; round = w.round; copy = w.copy }
 -- the message that bytes spell, under its name, with its sender's state
 abbrev pub frame_in : Format → List Value → List ℕ → Frame
 frame_in s state bytes = record {
+  format = s;
   name = name_in (frame_at s bytes);
   state = state;
   message = (frame_at s bytes).message;

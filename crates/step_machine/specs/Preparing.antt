@@ -4,12 +4,23 @@ use Rattle.std.specs.Arc.{arc_value}
 use Rattle.run_events.specs.declared.name.Name.{Name}
 use Rattle.step_machine.specs.declared.prepared.Sending.{Sending}
 use Rattle.step_machine.specs.declared.prepared.Sending.TheVariants.{Message, Silence}
+use Rattle.step_machine.specs.Saying.{layout_in}
 use Rattle.step_machine.specs.Sealed.{Ready}
 
 -- the message or silence, under its name, with its sender's state
 abbrev pub ready_as : Name → Sending → Ready
-ready_as n (Message f) = record { name = n; state = f.state; message = Some f.message }
-ready_as n (Silence o) = record { name = n; state = (arc_value o).state; message = None }
+ready_as n (Message f) = record {
+  format = f.format;
+  name = n;
+  state = f.state;
+  message = Some f.message;
+}
+ready_as n (Silence o) = record {
+  format = layout_in (arc_value o);
+  name = n;
+  state = (arc_value o).state;
+  message = None;
+}
 
 -- the message is one of this name, or there is none
 abbrev pub IsSentAs : Name → Sending → Type 0

@@ -3,12 +3,14 @@ use Rattle.std.specs.Prelude.{◌≡◌, ℕ, List, Option, Some, None, option_m
 use Rattle.round_lang.specs.declared.value.Value.{Value}
 use Rattle.round_lang.specs.Syntax.{ProgramTree}
 use Rattle.round_meaning.specs.declared.setup.Setup.{Setup}
+use Rattle.frame_format.specs.Formats.{Format}
 use Rattle.round_meaning.specs.Rounds.{Algorithm, algorithm_of}
 use Rattle.round_meaning.specs.Typed.{EndsAreStates, IsStateOf, SendsAreMessages, StartsAreStates}
 use Rattle.run_events.specs.declared.name.Name.{Name}
 
--- a message under its name, with its sender's state
+-- a message under its name, with its sender's state, and the format of its bytes
 pub record Frame : Type 0 where
+  pub format : Format
   pub name : Name
   pub state : List Value
   pub message : List Value
@@ -17,15 +19,21 @@ pub record Frame : Type 0 where
 abbrev pub copied_as : ℕ → Frame → Frame
 copied_as k f = record f { name = record f.name { copy = k } }
 
--- a message or silence under its name, with its sender's state
+-- a message or silence under its name, with its sender's state, and the format of its bytes
 pub record Ready : Type 0 where
+  pub format : Format
   pub name : Name
   pub state : List Value
   pub message : Option (List Value)
 
 -- the frame of a message, none for silence
 abbrev pub frame_of : Ready → Option Frame
-frame_of p = option_map (λ m. record { name = p.name; state = p.state; message = m }) p.message
+frame_of p = option_map (λ m. record {
+  format = p.format;
+  name = p.name;
+  state = p.state;
+  message = m;
+}) p.message
 
 -- what a state sends under a name
 abbrev pub sent_under : Algorithm → Name → List Value → Option (List Value)

@@ -149,6 +149,7 @@ impl Node {
         requires dest { dest < self.old.setup.nodes }
         requires last { self.old.round ≤ self.old.setup.rounds }
         ensures ready { IfOk result (λ p. p ≡ record {
+          format = format_in self.old;
           name = record { from = self.old.me; to = dest; round = self.old.round; copy = 0 };
           state = self.old.state;
           message = (algorithm_in self.old).send self.old.round self.old.state self.old.me dest;
@@ -183,6 +184,7 @@ impl Node {
         requires to { name.to < self.old.setup.nodes }
         requires last { self.old.round ≤ self.old.setup.rounds }
         ensures ready { IfOk result (λ p. p ≡ record {
+          format = format_in self.old;
           name = name;
           state = self.old.state;
           message = sent_to self.old name.to;

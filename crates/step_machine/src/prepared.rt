@@ -57,6 +57,7 @@ impl Prepared {
         requires kinds { ForSome message (AreOf (layout_in (arc_value origin)).values
             (kinds_at (layout_in (arc_value origin)) name.round)) }
         ensures { IfOk result (λ p. p ≡ record {
+          format = layout_in (arc_value origin);
           name = name;
           state = (arc_value origin).state;
           message = message;
@@ -74,6 +75,7 @@ impl Prepared {
         requires original { name.copy ≡ 0 }
         requires named { frame.name ≡ name }
         ensures { result ≡ record {
+          format = frame.format;
           name = name;
           state = frame.state;
           message = Some frame.message;
@@ -88,6 +90,7 @@ impl Prepared {
     pub(crate) fn silent(name: Name, origin: Arc<Origin>) -> Prepared
         requires original { name.copy ≡ 0 }
         ensures { result ≡ record {
+          format = layout_in (arc_value origin);
           name = name;
           state = (arc_value origin).state;
           message = None;

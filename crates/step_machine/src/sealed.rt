@@ -66,6 +66,7 @@ impl Sealed {
         requires kinds { AreOf (layout_in (arc_value origin)).values
             (kinds_at (layout_in (arc_value origin)) name.round) message.now }
         ensures { IfOk result (λ frame. frame ≡ record {
+          format = layout_in (arc_value origin);
           name = name;
           state = (arc_value origin).state;
           message = message.now;

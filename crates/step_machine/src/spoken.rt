@@ -58,6 +58,7 @@ impl Spoken {
         ensures { (message : Option (List Value))
             → AreSpoken name.from name.round message self.now
             → IfOk result (λ p. p ≡ record {
+              format = layout_in (origin_of self.now);
               name = name;
               state = (origin_of self.now).state;
               message = message;

@@ -4,7 +4,7 @@ ghost use Rattle.std.specs.Prelude.{◌≡◌, ◌<◌, ◌≤◌, IfSome};
 ghost use Rattle.run_tests.specs.declared.journal.act.Network.TheVariants as Network;
 ghost use Rattle.step_book.specs.Names.{IsName};
 ghost use Rattle.step_machine.specs.Sealed.{IsPrepared};
-ghost use Rattle.step_machine.specs.Nodes.{algorithm_in};
+ghost use Rattle.step_machine.specs.Nodes.{algorithm_in, format_in};
 
 use crate::journal::act::{Deed, Network};
 use crate::journal::sealing::seal;
@@ -24,6 +24,7 @@ pub fn prepare(node: &mut Node, to: u32) -> Option<Prepared>
     requires to { to < node.old.setup.nodes }
     requires last { node.old.round ≤ node.old.setup.rounds }
     ensures ready { IfSome result (λ p. p ≡ record {
+      format = format_in node.old;
       name = record { from = node.old.me; to = to; round = node.old.round; copy = 0 };
       state = node.old.state;
       message = (algorithm_in node.old).send node.old.round node.old.state node.old.me to;

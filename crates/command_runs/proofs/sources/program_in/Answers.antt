@@ -1,30 +1,27 @@
-use Rattle.std.proofs.Common.{◌≡◌, List, subst, sym, true, ℕ}
-use Rattle.std.proofs.lemmas.Result.{IfErr-weaker, IfOk-weaker}
+use Rattle.std.proofs.Common.{◌≡◌, List, subst, sym, ℕ}
 use Rattle.std.specs.Prelude.{string_bytes}
-use Rattle.command_runs.proofs.Refusing.{err_then, file_program, no_file_program, no_source_text}
+use Rattle.command_runs.proofs.Refusing.{err_then, no_file_program, no_source_text}
 use Rattle.command_runs.proofs.sources.program_in.Goals as goal
 use Rattle.command_runs.specs.Refused.{IsNoProgram}
+use Rattle.command_runs.specs.Sources.{SpellsTyped}
 use Rattle.command_runs.specs.Stages.{IsNoProgramOf}
-use Rattle.round_check.specs.Causes.{is_typed}
-use Rattle.round_lang.specs.Source.{IsSource}
 
-pub returns-clause-program : goal.returns-clause-program
-returns-clause-program g c =
+pub returns-clause-spelled : goal.returns-clause-spelled
+returns-clause-spelled g c =
+    subst (λ (t : List ℕ). SpellsTyped t c.in_ok-program.program) c.as_str.ensures.value
+    c.in_ok-program.ensures.program
+
+pub returns-in_err-program-clause-refused : goal.returns-in_err-program-clause-refused
+returns-in_err-program-clause-refused g c =
     let file = g.D.Desk.files c.args.desk.now c.args.name.now in
     let text = string_bytes c.in_ok-text.text in
-    IfOk-weaker c.checked.result _ _
-    (λ p is. file_program file text p c.in_ok-text.ensures.held
-    (subst (λ (t : List ℕ). IsSource t p × (is_typed p ≡ true)) c.as_str.ensures.value is))
-    c.checked.ensures.program
-
-pub returns-clause-refused : goal.returns-clause-refused
-returns-clause-refused g c =
-    let file = g.D.Desk.files c.args.desk.now c.args.name.now in
-    let text = string_bytes c.in_ok-text.text in
-    IfErr-weaker c.checked.result _ (IsNoProgram file)
-    (λ r none. no_file_program file text r c.in_ok-text.ensures.held
-    (subst (λ (t : List ℕ). IsNoProgramOf t r) c.as_str.ensures.value none))
-    c.checked.ensures.refused
+    let fault = c.in_err-program.field-0.0 in
+    err_then c.from_residual-in_err-program.result (λ r. r ≡ fault) (IsNoProgram file)
+    c.from_residual-in_err-program.ensures.1
+    (λ r is. subst (IsNoProgram file) (sym is)
+    (no_file_program file text fault c.in_ok-text.ensures.held
+    (subst (λ (t : List ℕ). IsNoProgramOf t fault) c.as_str.ensures.value
+    c.in_err-program.ensures.refused)))
 
 pub returns-in_err-text-clause-refused : goal.returns-in_err-text-clause-refused
 returns-in_err-text-clause-refused g c =

@@ -9,7 +9,7 @@ use Rattle.omission_explainer.specs.InRounds.{IsOfRounds, printed_omits}
 use Rattle.omission_explainer.specs.Reported.{IsReported, declared_names, declared_types}
 use Rattle.omission_explainer.specs.declared.report.Report.{Report}
 use Rattle.round_lang.specs.Syntax.{ProgramTree}
-use Rattle.round_meaning.specs.Agreement.{RunsAlgorithm1}
+use Rattle.round_meaning.specs.Agreement.{AgreesIn, IsValidIn}
 use Rattle.round_meaning.specs.Rounds.{algorithm_of}
 use Rattle.round_meaning.specs.declared.setup.Setup.{Setup}
 use Rattle.schedule_text.specs.declared.pace.Stop.{Stop}
@@ -89,12 +89,12 @@ returns-clause-explained g c =
       },
     )
 
--- what a report of its own run says of Algorithm 1
+-- what a report says of the decisions of its own run
 abbrev Agrees : Report → ProgramTree → Setup → Type 0
-Agrees report p s = RunsAlgorithm1 p s → AreAgreed report.rows
+Agrees report p s = AgreesIn p s (printed_omits report.rows) → AreAgreed report.rows
 
 abbrev Inputs : Report → ProgramTree → Setup → Type 0
-Inputs report p s = RunsAlgorithm1 p s → AreInputs s report.rows
+Inputs report p s = IsValidIn p s (printed_omits report.rows) → AreInputs s report.rows
 
 pub returns-clause-agreement : goal.returns-clause-agreement
 returns-clause-agreement g c =

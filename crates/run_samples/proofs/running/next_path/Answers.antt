@@ -27,7 +27,7 @@ loop-me-preserved g c =
     record {
       machine = c.end_node.ensures.machine ∙ c.loop-me.invariant.machine;
       part = part_next w run c.args.done n missed c.loop-me.part c.end_node.new.part
-          c.requires.path c.in-Some.ensures
+          c.requires.path c.in-Some.ensures.allowed
           (subst (λ x. EndsWithout w x (c.args.done + 1) n missed c.loop-me.part
           c.end_node.new.part) before c.in_ok-end_node.ensures.part) c.loop-me.invariant.part;
       kinds = c.in_ok-end_node.ensures.kinds;

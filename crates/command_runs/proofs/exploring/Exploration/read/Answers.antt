@@ -1,8 +1,8 @@
-use Rattle.std.proofs.Common.{◌≡◌, ◌∙◌, inr, sym, subst}
+use Rattle.std.proofs.Common.{◌≡◌, inr, sym, subst}
 use Rattle.std.specs.Prelude.{IfSome}
 use Rattle.command_runs.specs.Refused.{IsUnexplored}
 use Rattle.command_runs.specs.Served.{IsHeader}
-use Rattle.command_runs.proofs.Heads.{head_refused, head_same, unshown_same}
+use Rattle.command_runs.proofs.Heads.{head_refused, headed}
 use Rattle.command_runs.proofs.Refusing.{err_then}
 use Rattle.command_runs.proofs.Serving.{program_of}
 use Rattle.command_runs.proofs.Telling.{opened_is}
@@ -50,23 +50,21 @@ returns-in_err-head-clause-refused g c =
     let k = c.in_ok-setup.plan in
     let read = subst (λ file. IfSome file (λ text. IsHeader text s k))
     (c.open.ensures.files asked.header.now) c.in_ok-setup.ensures.header in
-    let opened = opened_is asked.source files c.in_ok-opened.opened
-    c.in_ok-opened.ensures.opened in
+    let opens = c.in_ok-opened.ensures.opened in
+    let opened = opened_is asked.source files c.in_ok-opened.opened opens in
     let fault = c.in_err-head.field-0.0 in
-    let later = g.D.Desk.files c.header_in.new.desk in
-    let unshown = unshown_same files later
-    (λ name. c.header_in.ensures.files name ∙ c.open.ensures.files name) asked.source fault
-    c.in_err-head.ensures.refused in
     let cause = IsUnexplored asked.source files (files asked.header.now) asked.exploring in
     err_then c.from_residual-in_err-head.result (λ r. r ≡ fault) cause
     c.from_residual-in_err-head.ensures.1 (λ r same. subst cause (sym same)
-    (head_refused asked.source files (files asked.header.now) asked.exploring s k opened read fault
-    unshown))
+    (head_refused asked.source files (files asked.header.now) asked.exploring s k
+    c.in_ok-opened.opened c.in_ok-program.text opened read opens c.in_ok-program.ensures.text fault
+    c.in_err-head.ensures.refused))
 
 pub returns-clause-headed : goal.returns-clause-headed
 returns-clause-headed g c =
     let asked = c.args.self.now in
     let files = g.D.Desk.files c.args.desk.now in
-    head_same files (g.D.Desk.files c.header_in.new.desk)
-    (λ name. c.header_in.ensures.files name ∙ c.open.ensures.files name) asked.source
-    c.in_ok-setup.setup asked.exploring c.in_ok-head.head c.in_ok-head.ensures.headed
+    let s = c.in_ok-setup.setup in
+    headed asked.source files c.in_ok-opened.opened c.in_ok-program.text s.nodes s.faults
+    c.in_ok-program.program c.in_ok-opened.ensures.opened c.in_ok-program.ensures.program
+    c.in_ok-program.ensures.text s asked.exploring c.in_ok-head.head c.in_ok-head.ensures.headed

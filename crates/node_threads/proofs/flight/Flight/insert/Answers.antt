@@ -11,7 +11,7 @@ returns-clause-ok c =
     let le : k + i ≤ length xs = omega (
       arith,
       length-drop k xs,
-      c.self.invariant,
+      c.self.invariant.there,
       ap length c.self.view_is,
       c.requires,
     ) in

@@ -1,8 +1,8 @@
-use Rattle.std.proofs.Common.{◌≡◌, ap, sym, subst, ◌∙◌}
+use Rattle.std.proofs.Common.{ap, sym, subst, ◌≡◌, ◌∙◌}
+use Rattle.std.specs.Arc.{arc_value}
 use Rattle.run_events.specs.declared.name.Name.{Name}
-use Rattle.step_machine.specs.declared.origin.Origin.{Origin}
-use Rattle.step_machine.specs.Nodes.{NodeView}
-use Rattle.step_machine.specs.NodeInside.{node_seen}
+use Rattle.step_machine.specs.Nodes.{NodeView, format_in}
+use Rattle.step_machine.specs.NodeInside.{IsOrigin, node_seen}
 use Rattle.step_machine.specs.Saying.{AreSpoken, origin_of}
 use Rattle.step_machine.specs.Sealed.{Ready}
 use Rattle.step_machine.proofs.Preparing.{ready_first, ready_in, ready_is}
@@ -21,13 +21,14 @@ returns-clause-ready c =
     subst (λ (x : NodeView). AreSpoken x.me x.round m a) seen c.in_ok-spoken.ensures.spoken in
     let named : AreSpoken name.from name.round m a =
     subst (λ (x : Name). AreSpoken x.from x.round m a) (sym c.requires.named) spoken in
-    let state : (origin_of a).state ≡ n.state =
-    ap (λ (o : Origin). o.state) c.in_ok-spoken.ensures.origin
-    ∙ c.in_ok-origin.ensures.origin.state_is
-    ∙ ap (λ (x : NodeView). x.state) c.in_ok-message.ensures.same in
-    let ready = ready_first s n name a m c.in_ok-prepared.prepared seen c.requires.named state
+    let origin : IsOrigin n.state (format_in n) (origin_of a) =
+    subst (IsOrigin n.state (format_in n)) (sym c.in_ok-spoken.ensures.origin)
+    (subst (λ (x : NodeView). IsOrigin x.state (format_in x) (arc_value c.in_ok-origin.origin))
+    c.in_ok-message.ensures.same c.in_ok-origin.ensures.origin) in
+    let ready = ready_first s n name a m c.in_ok-prepared.prepared seen c.requires.named origin
     c.in_ok-message.ensures.says (c.in_ok-prepared.ensures m named) in
     let under : Name → Ready = λ x. record {
+      format = format_in n;
       name = x;
       state = n.state;
       message = (ready_in n name.to).message;
@@ -47,10 +48,10 @@ returns-clause-prepared c =
     subst (λ (x : NodeView). AreSpoken x.me x.round m a) seen c.in_ok-spoken.ensures.spoken in
     let named : AreSpoken name.from name.round m a =
     subst (λ (x : Name). AreSpoken x.from x.round m a) (sym c.requires.named) spoken in
-    let state : (origin_of a).state ≡ n.state =
-    ap (λ (o : Origin). o.state) c.in_ok-spoken.ensures.origin
-    ∙ c.in_ok-origin.ensures.origin.state_is
-    ∙ ap (λ (x : NodeView). x.state) c.in_ok-message.ensures.same in
-    let ready = ready_first s n name a m c.in_ok-prepared.prepared seen c.requires.named state
+    let origin : IsOrigin n.state (format_in n) (origin_of a) =
+    subst (IsOrigin n.state (format_in n)) (sym c.in_ok-spoken.ensures.origin)
+    (subst (λ (x : NodeView). IsOrigin x.state (format_in x) (arc_value c.in_ok-origin.origin))
+    c.in_ok-message.ensures.same c.in_ok-origin.ensures.origin) in
+    let ready = ready_first s n name a m c.in_ok-prepared.prepared seen c.requires.named origin
     c.in_ok-message.ensures.says (c.in_ok-prepared.ensures m named) in
     ready_is s n name.to c.in_ok-prepared.prepared seen c.self.invariant.state.types ready

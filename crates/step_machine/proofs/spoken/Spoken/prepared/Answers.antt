@@ -74,16 +74,23 @@ returns-in_ok-try_clone-in-Frames c =
     subst (λ (a : Spoken). n.to < (layout_in (origin_of a)).nodes) c.in-Frames.is
     c.requires.to in
     let under : Frame → Ready = λ f. record {
+      format = f.format;
       name = n;
       state = f.state;
       message = Some f.message;
     } in
     let saying : Option (List Value)
-    → Ready = λ m. record { name = n; state = (arc_value d.origin).state; message = m } in
+    → Ready = λ m. record {
+      format = layout_in (arc_value d.origin);
+      name = n;
+      state = (arc_value d.origin).state;
+      message = m;
+    } in
     λ m spoken.
     let all : IsToAll n.from n.round m d =
     subst (AreSpoken n.from n.round m) c.in-Frames.is spoken in
     let from : Spoken → Ready = λ a. record {
+      format = layout_in (origin_of a);
       name = n;
       state = (origin_of a).state;
       message = m;

@@ -1,0 +1,7 @@
+pub mod EveryReport
+pub mod Shown
+pub mod Asked
+pub mod Read
+pub mod Answered
+pub mod Parts
+pub mod OneQuestion

@@ -1,0 +1,2 @@
+pub mod ClosedRows
+pub mod RowsInTime

@@ -1,0 +1,14 @@
+pub mod MachineRuns
+pub mod Safe
+pub mod Counting
+pub mod SetSizes
+pub mod Choices
+pub mod Explored
+pub mod Meeting
+pub mod CountedTexts
+pub mod ClearRounds
+pub mod Deciding
+pub mod CrashRounds
+pub mod Gaining
+pub mod Turns
+pub mod CrashRuns

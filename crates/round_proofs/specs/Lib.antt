@@ -1,0 +1,9 @@
+pub mod Machines
+pub mod Safety
+pub mod Predicates
+pub mod Explored
+pub mod Asking
+pub mod Progress
+pub mod Terminating
+pub mod Texts
+pub mod FewDecisions

@@ -1,0 +1,13 @@
+pub mod OneThirdRule
+pub mod UniformVoting
+pub mod LastVoting
+pub mod Flooding
+pub mod FloodMin
+pub mod TwoPhaseCommit
+pub mod Bounds
+pub mod Commits
+pub mod EagerAlgorithm1
+pub mod Early
+pub mod EarlyFlooding
+pub mod RotatingCoordinator
+pub mod HalfVoting
