@@ -65,6 +65,11 @@ impl<'w, 'a> AskedCommand<'w, 'a> {
         let mut printed = Vec::new(self.alloc);
         match serve(rt, self.alloc, self.words, &mut held, &mut printed) {
             Ok(_) => self.tell_served(desk, printed.as_slice(), out),
+            // If the trace can be written, there was no memory for what is printed.
+            Err(Refusal::Write) => match tell_unwritable(self.command, self.files, desk, out)? {
+                true => Ok(()),
+                false => Err(Refusal::NoMemory),
+            },
             Err(refusal) => self.tell_refusal(&refusal, out),
         }
     }

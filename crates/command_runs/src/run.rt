@@ -43,11 +43,11 @@ use std::thread::Threads;
 /// Runs the command that the words name, and answers the exit status: 0 done, 1 refused (the input,
 /// an output or a file that can't be written, or a thread that can't be started), 2 a bad command
 /// line, 3 no memory, 5 done, and a property that `explore` was asked about fails. A refusal is
-/// printed on `err`, in one line, or for a bad command line in `clap`'s own text. Nothing is written
-/// to `out` then, but for three cases. If `out` fails it may have a part; if the trace of `explore`
-/// isn't written after the search it has the answers; and if the thread of a node had no memory it
-/// has the report of what was recorded. If the words ask for help or the version, `out` gets that
-/// text.
+/// printed on `err`, in one line, or for a bad command line in `clap`'s own text. Nothing is
+/// written to `out` then, but for three cases. If `out` fails it may have a part; if the trace of
+/// `explore` isn't written after the search it has the answers; and if the thread of a node had no
+/// memory it has the report of what was recorded. If the words ask for help or the version, `out`
+/// gets that text.
 ///
 /// With `threads` it waits for its threads, and needn't return.
 pub fn run_words<'a, R: Threads + Wait + Sync, D: Desk, O: Write, E: Write>(

@@ -173,7 +173,8 @@ fn run_by<R: Threads + Wait + Sync>(
 /// The report and the trace of a run in which a thread for each node takes its steps, and another
 /// one is the network, which releases each message as soon as it can. What holds of all decisions
 /// of the program under the omissions that the report prints holds of the decisions in it. The
-/// journal of the run is handed out too: whoever is done with it may leave its memory to the system.
+/// journal of the run is returned too: a caller that is done with it may leave its memory to the
+/// system.
 ///
 /// Refusals are those of `run_threads`. Like it, this needn't return.
 pub fn explained_threads<R: Threads + Wait + Sync, P: Plan + Send + Sync>(

@@ -29,9 +29,9 @@ use std::sync::Arc;
 use step_book::{Book, Mark, earliest, is_within};
 use step_journal::Journal;
 
-/// The report of a journal: its closed rounds, as rounds with omissions. What holds of all decisions
-/// of the program under these omissions holds of the decisions in the report. For Algorithm 1,
-/// `decisions_agree` of `round_meaning` gives both premises.
+/// The report of a journal: its closed rounds, as rounds with omissions. What holds of all
+/// decisions of the program under these omissions holds of the decisions in the report. For
+/// Algorithm 1, `decisions_agree` of `round_meaning` gives both premises.
 pub fn explain<P: Plan>(alloc: Global, journal: &Journal<P>) -> Result<Report, NoMemory>
     ensures values { IfOk result (λ report. report.values ≡ journal.now.log.program.values) }
     ensures names { IfOk result (λ report. report.names ≡ declared_names journal.now.log.program) }

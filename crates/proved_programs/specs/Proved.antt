@@ -47,7 +47,7 @@ own_of x = family_of x (own_values x)
 abbrev pub with_values : ProgramTree → (k : ℕ) → ProgramTree
 with_values p k = record p { values = k }
 
--- the program is the algorithm's over some number of values; two-phase commit has the values 0 and 1
+-- the program is the algorithm's over some number of values; two-phase commit has just 0 and 1
 abbrev pub IsOf : Algorithm → ProgramTree → Type 0
 IsOf a.TwoPhaseCommit p = p ≡ two_phase_commit_tree 2
 IsOf x p = p ≡ family_of x p.values

@@ -50,7 +50,7 @@ impl Algorithm {
             }
             Algorithm::UniformVoting => " where each node hears more than half of the nodes",
             Algorithm::Flooding | Algorithm::EarlyFlooding | Algorithm::FloodMin => {
-                " where t nodes crash and no other message is lost"
+                " where up to t nodes crash and no other message is lost"
             }
             _ => "",
         }

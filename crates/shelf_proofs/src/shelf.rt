@@ -180,7 +180,7 @@ pub fn early_flooding() -> &'static str
     EARLY_FLOODING
 }
 
-/// LastVoting with a wrong majority, which is half of the nodes where their number is even. It keeps
+/// LastVoting with a wrong majority: half of the nodes, where their number is even. It keeps
 /// agreement, validity and finality for every odd number of nodes, whoever fails and whatever is
 /// omitted.
 pub fn half_voting() -> &'static str
