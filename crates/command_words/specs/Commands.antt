@@ -125,12 +125,12 @@ explore_by_search_app =
     (optional_rule (codes "part"))) (optional_rule (codes "jobs")))
     (optional_rule (codes "sample"))) (optional_rule (codes "seed"))
 
--- the same with `[--check LIST] [--always EXPR] [--trace FILE] [--format FORMAT]`
+-- the same with `[--check LIST] [--always EXPR] [--trace FILE] [--format FORMAT] [--brief]`
 abbrev pub explore_app : App
 explore_app =
-    with_rule (with_rule (with_rule (with_rule explore_by_search_app
+    with_rule (with_rule (with_rule (with_rule (with_rule explore_by_search_app
     (optional_rule (codes "check"))) (optional_rule (codes "always")))
-    (optional_rule (codes "trace"))) format_rule
+    (optional_rule (codes "trace"))) format_rule) (flag_rule (codes "brief"))
 
 -- `FILE..`, one or more words of their own
 abbrev pub files_rule : Rule

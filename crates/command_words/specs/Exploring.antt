@@ -1,6 +1,6 @@
 -- The options of `explore`: what is asked, and of which runs.
-use Rattle.std.specs.Prelude.{◌≡◌, ◌≤◌, ◌⊎◌, ◌||◌, ◌∷◌, [], ℕ, Bool, List, None, Option, Some}
-use Rattle.std.specs.Prelude.{codes, false, option_map, true}
+use Rattle.std.specs.Prelude.{◌≡◌, ◌≤◌, ◌⊎◌, ◌||◌, ◌↔◌, ◌∷◌, [], ℕ, Bool, List, None, Option}
+use Rattle.std.specs.Prelude.{IsTrue, Some, codes, false, option_map, true}
 use Rattle.std.specs.List.{list_all, slice_split}
 use Rattle.std.specs.Str.{bytes_eq}
 use Rattle.clap.specs.Words.{Row, Text, first_of}
@@ -82,6 +82,10 @@ GivesClear rows None = first_of (codes "clear") rows ≡ None
 GivesClear rows (Some n) =
     (text : Text) × (first_of (codes "clear") rows ≡ Some text) × ClearText text n
 
+-- the flag of this name is there
+abbrev pub HasFlag : Text → List Row → Type 0
+HasFlag name rows = first_of name rows ≡ Some (codes "true")
+
 -- what the options say
 pub record GivesExploring (rows : List Row) (e : Exploring) : Type 0 where
   pub inputs : GivesInputs rows e.inputs
@@ -94,6 +98,7 @@ pub record GivesExploring (rows : List Row) (e : Exploring) : Type 0 where
   pub checks : GivesOr usual_checks (codes "check") ChecksText rows e.checks
   pub always : first_of (codes "always") rows ≡ option_map (λ text. text.now) e.always
   pub trace : first_of (codes "trace") rows ≡ option_map (λ name. name.now) e.trace
+  pub brief : IsTrue e.brief ↔ HasFlag (codes "brief") rows
 
 -- the fault of such an option: it has a text that is that of no value
 abbrev pub FailsByExploring : List Row → WordsFault → Type 0

@@ -11,7 +11,8 @@ use Rattle.clap.specs.declared.error.kind.ErrorKind.TheVariants.{OutOfMemory}
 use Rattle.run_events.specs.Limits.{max_delta}
 use Rattle.command_words.specs.Changes.{FailsByChanges, GivesChanges}
 use Rattle.command_words.specs.Commands.{roundc_app}
-use Rattle.command_words.specs.Exploring.{FailsByExploring, GivesExploring, GivesOr, HasNoValue}
+use Rattle.command_words.specs.Exploring.{FailsByExploring, GivesExploring, GivesOr, HasFlag}
+use Rattle.command_words.specs.Exploring.{HasNoValue}
 use Rattle.command_words.specs.Inputs.{FailsByInputs, ReadsInputTwice}
 use Rattle.command_words.specs.Values.{AnswerFormatText, BlocksText, FormatText, IsNoList}
 use Rattle.command_words.specs.Values.{ListText, NumberText, RangeText, SourceText, is_negative}
@@ -64,10 +65,6 @@ GivesTicks rows (Some n) =
 abbrev pub GivesTerms : List Row → List ℕ → ℕ → ℕ → Type 0
 GivesTerms rows correct delta gst =
     GivesList (codes "correct") rows correct × GivesDelta rows delta × GivesGst rows gst
-
--- the flag of this name stands there
-abbrev pub HasFlag : Text → List Row → Type 0
-HasFlag name rows = first_of name rows ≡ Some (codes "true")
 
 -- `--decided` stands there
 abbrev pub IsDecidedAsked : List Row → Type 0

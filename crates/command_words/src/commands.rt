@@ -449,7 +449,7 @@ fn explore_by_search<'a>(alloc: Global) -> Result<Command<'a>, AllocError>
         ))
 }
 
-/// The same with the options that say what is asked, and where a run is written.
+/// The same with the options that say what is asked, and what is printed or written.
 fn explore_command<'a>(alloc: Global) -> Result<Command<'a>, AllocError>
     ensures { IfOk result (IsCommandOf explore_app) }
 {
@@ -472,7 +472,12 @@ fn explore_command<'a>(alloc: Global) -> Result<Command<'a>, AllocError>
             "FILE",
             "The file that a run's schedule is written to if a property fails",
         ))?
-        .arg(format_arg(alloc, "text (by default) or json"))
+        .arg(format_arg(alloc, "text (by default) or json"))?
+        .arg(flag_arg(
+            alloc,
+            "brief",
+            "Prints the answers alone, without the runs in which properties fail",
+        ))
 }
 
 /// `together FILE..`.

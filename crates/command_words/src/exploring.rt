@@ -13,7 +13,7 @@ ghost use Rattle.command_words.specs.declared.exploring.FaultChoice.TheVariants 
 use crate::headers::has_header_numbers;
 use crate::searching::{PartChoice, SampleChoice, jobs_of, part_of, sample_of};
 use crate::values::read_number;
-use crate::words::{WordsFault, optional_text};
+use crate::words::{WordsFault, has_flag, optional_text};
 use clap::ArgMatches;
 
 /// Whose inputs are asked about.
@@ -62,6 +62,8 @@ pub struct Exploring<'a> {
     pub always: Option<&'a str>,
     /// The FILE of a schedule as it was written, if it isn't left out.
     pub trace: Option<&'a str>,
+    /// Whether the answers are printed alone, without the runs in which properties fail.
+    pub brief: bool,
 }
 
 impl Checks {
@@ -212,5 +214,6 @@ pub(crate) fn exploring_of<'a>(matches: &ArgMatches<'a>) -> Result<Exploring<'a>
         checks: checks_of(matches)?,
         always: optional_text(matches, "always"),
         trace: optional_text(matches, "trace"),
+        brief: has_flag(matches, "brief"),
     })
 }

@@ -15,7 +15,7 @@
 //!     [--vars LIST] [--changed]
 //! roundc explore SOURCE --header FILE [--inputs INPUTS] [--faults FAULTS] [--clear C]
 //!     [--hears M] [--part I/N] [--jobs J] [--sample COUNT] [--seed S] [--check LIST]
-//!     [--always EXPR] [--trace FILE] [--format FORMAT]
+//!     [--always EXPR] [--trace FILE] [--format FORMAT] [--brief]
 //! roundc together FILE..
 //! ```
 //!

@@ -10,7 +10,8 @@ ghost use Rattle.command_words.specs.Given.{FailsByOmissions, FailsByReport, Fai
 ghost use Rattle.command_words.specs.Given.{FailsBySource, FailsByTable, FailsByThreads};
 ghost use Rattle.command_words.specs.Given.{FailsByFiles, FailsByTicks, GivesFiles};
 ghost use Rattle.command_words.specs.Given.{FailsByValue, Gives, GivesDelta, GivesGst, GivesList};
-ghost use Rattle.command_words.specs.Given.{GivesSource, GivesTable, GivesTicks, HasFlag};
+ghost use Rattle.command_words.specs.Exploring.{HasFlag};
+ghost use Rattle.command_words.specs.Given.{GivesSource, GivesTable, GivesTicks};
 ghost use Rattle.command_words.specs.Given.{IsDecidedAsked, IsMistake, Means};
 ghost use Rattle.command_words.specs.Given.{begins_negative, has_negative, has_negative_list};
 ghost use Rattle.command_words.specs.Values.{is_negative};
@@ -105,7 +106,8 @@ pub enum Words<'a> {
     },
     /// `explore SOURCE --header FILE [--inputs INPUTS] [--faults FAULTS] [--clear C] [--hears M]
     /// [--part I/N] [--jobs J] [--sample COUNT] [--seed S] [--check LIST] [--always EXPR]
-    /// [--trace FILE] [--format FORMAT]`; `header` is FILE as it was written, `-` included.
+    /// [--trace FILE] [--format FORMAT] [--brief]`; `header` is FILE as it was written, `-`
+    /// included.
     Explore {
         source: Source<'a>,
         header: &'a str,

@@ -10,6 +10,8 @@ returns c =
     c.optional_arg-2.ensures.local in
     let third = arg_added _ _ _ _ _ c.in_ok-arg-3.ensures second c.optional_arg-3.ensures.rule
     c.optional_arg-3.ensures.local in
-    IfOk-weaker c.arg-4.result _ _
-    (λ r h. arg_added _ _ _ _ _ h third c.format_arg.ensures.rule c.format_arg.ensures.local)
-    c.arg-4.ensures
+    let fourth = arg_added _ _ _ _ _ c.in_ok-arg-4.ensures third c.format_arg.ensures.rule
+    c.format_arg.ensures.local in
+    IfOk-weaker c.arg-5.result _ _
+    (λ r h. arg_added _ _ _ _ _ h fourth c.flag_arg.ensures.rule c.flag_arg.ensures.local)
+    c.arg-5.ensures
