@@ -5,25 +5,23 @@ use crate::before_threads::refused_before_threads;
 use crate::columns::{has_unknown_column, tell_columns};
 use crate::condition::tell_condition;
 use crate::files::{CommandFiles, FileKind, TellingDesk, source_of};
-use crate::found_runs::tell_answers;
 use crate::held_desk::HeldDesk;
 use crate::library::LibrarySource;
 use crate::located::unwritten;
 use crate::options::tell_option;
 use crate::parts::tell_together;
-use crate::program::{program_for, program_of};
+use crate::program::program_of;
 use crate::refusals::unless_refused;
 use crate::round_reasons::tell_rounds;
 use crate::run_causes::{tell_correct_crash, tell_unknown};
 use crate::run_reasons::{RunQuestion, tell_run};
-use crate::search_notes::{tell_notes, tell_proved};
+use crate::search_notes::{tell_proved, tell_untraced};
 use crate::source::{tell_check, tell_source};
 use crate::trace_faults::tell_unwritable;
 use adversary::RunFault;
 use algorithm_library::LibraryFault;
-use command_runs::{Refusal, Terms, Unwatched, serve};
+use command_runs::{Outcome, Refusal, Terms, TraceFault, serve};
 use command_words::{Source, Words};
-use exploration_texts::answer_all;
 use round_lang::parse;
 use std::alloc::Global;
 use std::io::Write;
@@ -58,19 +56,24 @@ impl<'w, 'a> AskedCommand<'w, 'a> {
                 Err(refusal) => self.tell_refusal(&refusal, out),
             };
         }
-        if self.tell_reasons(out)? || self.tell_found(rt, desk, out)? {
+        if self.tell_reasons(out)? {
             return Ok(());
         }
         let mut held = HeldDesk::new(self.alloc, self.files)?;
         let mut printed = Vec::new(self.alloc);
         match serve(rt, self.alloc, self.words, &mut held, &mut printed) {
-            Ok(_) => self.tell_served(desk, printed.as_slice(), out),
+            Ok(outcome) => self.tell_served(desk, printed.as_slice(), outcome, out),
             // If the trace can be written, there was no memory for what is printed.
             Err(Refusal::Write) => match tell_unwritable(self.command, self.files, desk, out)? {
                 true => Ok(()),
                 false => Err(Refusal::NoMemory),
             },
-            Err(refusal) => self.tell_refusal(&refusal, out),
+            Err(Refusal::Trace(TraceFault::NoMemory)) => Err(Refusal::NoMemory),
+            Err(refusal) => {
+                // A search whose trace isn't written has answered.
+                out.write_all(printed.as_slice()).map_err(unwritten)?;
+                self.tell_refusal(&refusal, out)
+            }
         }
     }
 
@@ -94,6 +97,7 @@ impl<'w, 'a> AskedCommand<'w, 'a> {
         &self,
         desk: &mut D,
         printed: &[u8],
+        outcome: Outcome,
         out: &mut O,
     ) -> Result<(), Refusal>
         ensures written { D.written desk.new ≡ D.written desk.old }
@@ -102,20 +106,22 @@ impl<'w, 'a> AskedCommand<'w, 'a> {
             return Ok(());
         }
         let mut note = Vec::new(self.alloc);
-        if let Words::Check { .. } = self.command {
-            // What is written to memory fails only for want of it.
-            if self.tell_known(&mut note).is_err() {
-                return Err(Refusal::NoMemory);
-            }
+        // What is written to memory fails only for want of it.
+        if self.tell_notes(outcome, &mut note).is_err() {
+            return Err(Refusal::NoMemory);
         }
         out.write_all(printed).map_err(unwritten)?;
         out.write_all(note.as_slice()).map_err(unwritten)
     }
 
-    /// Tells what is proved of the program of a source that is served, for every number of nodes.
-    fn tell_known<O: Write>(&self, out: &mut O) -> Result<(), Refusal> {
-        let program = program_of(self.alloc, self.command, self.files)?;
-        tell_proved(self.alloc, program.program(), out)
+    /// Tells of `check` what is proved of the source's program for every number of nodes, and of
+    /// `explore` that its trace isn't written.
+    fn tell_notes<O: Write>(&self, outcome: Outcome, out: &mut O) -> Result<(), Refusal> {
+        if let Words::Check { .. } = self.command {
+            let program = program_of(self.alloc, self.command, self.files)?;
+            return tell_proved(self.alloc, program.program(), out);
+        }
+        tell_untraced(self.command, outcome, out)
     }
 
     /// Tells what a run came to and why, if that is asked and the run is served.
@@ -146,59 +152,6 @@ impl<'w, 'a> AskedCommand<'w, 'a> {
             _ => return Ok(false),
         };
         tell_run(self.alloc, source, self.files, question, out)
-    }
-
-    /// Tells what is found in all runs, and of a property that fails in which run it does, if that
-    /// is asked and the question isn't refused.
-    fn tell_found<R: Threads + Sync, D: TellingDesk, O: Write>(
-        &self,
-        rt: &R,
-        desk: &mut D,
-        out: &mut O,
-    ) -> Result<bool, Refusal>
-        ensures written { D.written desk.new ≡ D.written desk.old }
-    {
-        let Words::Explore {
-            source,
-            exploring,
-            ..
-        } = self.command
-        else {
-            return Ok(false);
-        };
-        let Some(header) = self.files.header(self.alloc)? else {
-            return Ok(false);
-        };
-        let setup = &header.setup;
-        let program = program_for(self.alloc, *source, self.files, setup.nodes, setup.faults);
-        let Some(program) = unless_refused(program)? else {
-            return Ok(false);
-        };
-        if !setup.is_lawful(&program) || exploring.hears > setup.nodes || exploring.part.is_some() {
-            return Ok(false);
-        }
-        let told = answer_all(rt, self.alloc, &program, setup, exploring, &Unwatched);
-        let Some(told) = unless_refused(told)? else {
-            return Ok(false);
-        };
-        let mut text = Vec::new(self.alloc);
-        let plan = header.plan;
-        match tell_answers(self.alloc, &program, setup, plan, &told, &mut text) {
-            Ok(true) => {}
-            Ok(false) => return Ok(false),
-            // What is written to memory fails only for want of it.
-            Err(_) => return Err(Refusal::NoMemory),
-        }
-        if tell_notes(exploring, &told, &mut text).is_err()
-            || tell_proved(self.alloc, program.program(), &mut text).is_err()
-        {
-            return Err(Refusal::NoMemory);
-        }
-        if tell_unwritable(self.command, self.files, desk, out)? {
-            return Ok(true);
-        }
-        out.write_all(text.as_slice()).map_err(unwritten)?;
-        Ok(true)
     }
 
     /// Tells why the command is refused, or the line of its refusal if no more is known.

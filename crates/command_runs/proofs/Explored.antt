@@ -3,13 +3,13 @@ use Rattle.std.proofs.Common.{◌≡◌, ◌∙◌, ◌⊎◌, ◌++◌, ◌∷�
 use Rattle.std.proofs.Common.{Bor, List, [], Option, Some, None, ap, arith, false}
 use Rattle.std.proofs.Common.{append_assoc, codes, length, length-append, map, refl}
 use Rattle.std.proofs.Common.{subst, sym, true}
-use Rattle.std.specs.Prelude.{IfSome, filter, slice_index}
+use Rattle.std.specs.Prelude.{IfSome, filter, is_some, slice_index}
 use Rattle.std.specs.Fmt.{decimal}
 use Rattle.std.specs.List.{AllZip, range_with_len}
 use Rattle.std.specs.Str.Lines.{lines}
 use Rattle.std.proofs.lemmas.List.FromFn.{get_or-map-range_with_len}
 use Rattle.command_runs.specs.Desks.{WritesTrace}
-use Rattle.command_runs.specs.InParts.{IsHeadOf, explored_as}
+use Rattle.command_runs.specs.InParts.{IsHeadOf, explored_with, has_details}
 use Rattle.command_runs.specs.InRounds.{IsFound, IsMade, IsTrace, ShowsFailure, code_of}
 use Rattle.command_runs.specs.InRounds.{outcome_of, shown_by, trace_of}
 use Rattle.command_runs.specs.Refused.{IsRefusedCommand}
@@ -207,16 +207,18 @@ module _ (source : Source) (files : Files) (header : Bor (List ℕ)) (e : Explor
     (format : AnswerFormat) where
   -- nothing was written, though there was something to write
   pub explore_unwritten : (x : Explored) (r : Refusal)
-      → FindsIn source files (files header.now) e x → r ≡ refusal.Write
-      → IsRefusedCommand (words.Explore source header e format) files r
-  explore_unwritten x r h same =
+      → FindsIn source files (files header.now) e x → is_some x.found.details ≡ has_details e
+      → r ≡ refusal.Write → IsRefusedCommand (words.Explore source header e format) files r
+  explore_unwritten x r h shown same =
       subst (IsRefusedCommand (words.Explore source header e format) files) (sym same) (inr (
         (λ name. None),
-        explored_as format x.head x.found.told.items,
+        explored_with format x.head x.found.told.items x.found.details,
         (
           x.head,
           x.found.told.items,
+          x.found.details,
           tells_at_first source files e x (files header.now) h,
+          shown,
           refl,
         ),
       ))

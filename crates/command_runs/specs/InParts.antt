@@ -1,10 +1,13 @@
 -- Parts of a search: what is told of one, and what all of them make together.
 use Rattle.std.specs.Borrow.{Bor}
-use Rattle.std.specs.Prelude.{◌≡◌, ◌≢◌, ◌<◌, ◌⊎◌, ◌++◌, ⊤, ℕ, Bool, IfSome, List, None, Option}
-use Rattle.std.specs.Prelude.{Some, [], codes, false, get_or, if◌then◌else◌, length, map, true}
+use Rattle.std.specs.Prelude.{◌≡◌, ◌≢◌, ◌<◌, ◌⊎◌, ◌++◌, ◌&&◌, ⊤, ℕ, Bool, IfSome, List, None}
+use Rattle.std.specs.Prelude.{Option, Some, [], codes, false, get_or, if◌then◌else◌, is_none}
+use Rattle.std.specs.Prelude.{length, map, not, true}
 use Rattle.std.specs.Fmt.{decimal}
 use Rattle.std.specs.Io.KnownBytes.{Appends}
 use Rattle.std.specs.List.{AllZip, list_all}
+use Rattle.answer_details.specs.Texts.{detailed_text}
+use Rattle.answer_details.specs.declared.details.Details.{Details}
 use Rattle.command_runs.specs.Sources.{ShowsSource, SpellsTyped}
 use Rattle.command_runs.specs.Texts.{Files}
 use Rattle.command_runs.specs.declared.outcome.Outcome.{Outcome}
@@ -81,6 +84,17 @@ head_as format.Json head = head_data head
 abbrev pub explored_as : AnswerFormat → Option PartHead → List Told → List ℕ
 explored_as f None told = answers_as f told
 explored_as f (Some head) told = head_as f head ++ answers_as f told
+
+-- the runs in which properties fail and the notes are printed too, unless the answers are of a part
+-- or are to be brief
+abbrev pub has_details : Exploring → Bool
+has_details e = not e.brief && is_none e.part
+
+-- what is printed of answers and of their details, which are words
+abbrev pub explored_with :
+    AnswerFormat → Option PartHead → List Told → Option Details → List ℕ
+explored_with format.Text None told (Some details) = detailed_text told details
+explored_with f head told details = explored_as f head told
 
 -- the file has the answers of this part
 abbrev pub HoldsPart : Option (List ℕ) → PartAnswers → Type 0

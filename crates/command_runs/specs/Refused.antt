@@ -1,6 +1,6 @@
 -- Why a command is refused: the cause of each refusal, and the order in which they are told.
 use Rattle.std.specs.Prelude.{◌≡◌, ◌<◌, ◌⊎◌, ⊤, ℕ, All, Err, List, [], Option, IfSome, Some}
-use Rattle.std.specs.Prelude.{Bool, IsSome, None, codes, false}
+use Rattle.std.specs.Prelude.{Bool, IsSome, None, codes, false, is_some}
 use Rattle.std.specs.Borrow.{Bor}
 use Rattle.std.specs.Io.KnownBytes.{Appends, Keeps}
 use Rattle.adversary.specs.Driving.{IsUnknownAt}
@@ -13,7 +13,8 @@ use Rattle.algorithm_library.specs.declared.fault.LibraryFault.{LibraryFault}
 use Rattle.algorithm_library.specs.declared.fault.LibraryFault.TheVariants as library
 use Rattle.command_runs.specs.InChanges.{AreFitChanges, Terms}
 use Rattle.command_runs.specs.InLockstep.{AreTerms}
-use Rattle.command_runs.specs.InParts.{HasNoPartText, MakesNoWhole, MakesWhole, explored_as}
+use Rattle.command_runs.specs.InParts.{HasNoPartText, MakesNoWhole, MakesWhole, explored_with}
+use Rattle.command_runs.specs.InParts.{has_details}
 use Rattle.command_runs.specs.InRounds.{IsTraceFault, trace_of}
 use Rattle.command_runs.specs.Lines.{status_of}
 use Rattle.command_runs.specs.Served.{AsksForHelp, FindsIn, IsCheckedSource, IsHeader, IsOfKind}
@@ -532,7 +533,8 @@ abbrev pub LeftBySearch : Source → Files → Option (List ℕ) → Exploring �
     → (old new : Option (List ℕ)) → Refusal → Type 0
 LeftBySearch source files file e f old new (refusal.Trace fault) =
     (x : Explored) × FindsIn source files file e x
-    × Appends old new (explored_as f x.head x.found.told.items)
+    × (is_some x.found.details ≡ has_details e)
+    × Appends old new (explored_with f x.head x.found.told.items x.found.details)
 LeftBySearch source files file e f old new r = IsSilent old new r
 
 -- what a refused command leaves

@@ -1,7 +1,7 @@
 -- What the program writes, as a relation of its words to the files on the desk.
 use Rattle.std.specs.Borrow.{Bor}
 use Rattle.std.specs.Prelude.{◌≡◌, ◌<◌, ◌≤◌, ◌++◌, ◌⊎◌, ⊤, ℕ, All, Bool, List, None, Option, Some}
-use Rattle.std.specs.Prelude.{IfSome, IsSome, [], codes, false, length, string_bytes, true}
+use Rattle.std.specs.Prelude.{IfSome, IsSome, [], codes, false, is_some, length, string_bytes, true}
 use Rattle.std.specs.Global.{Vec}
 use Rattle.std.specs.Prelude.{if◌then◌else◌}
 use Rattle.std.specs.Fmt.{decimal}
@@ -14,6 +14,7 @@ use Rattle.schedule_text.specs.declared.kind.Kind.{Kind}
 use Rattle.schedule_text.specs.declared.kind.Kind.TheVariants as kinds
 use Rattle.schedule_text.specs.declared.pace.Pace.{Pace}
 use Rattle.schedule_text.specs.declared.pace.Stop.{Stop}
+use Rattle.answer_details.specs.declared.details.Details.{Details}
 use Rattle.command_runs.specs.declared.asking.Answer.{Answer}
 use Rattle.command_runs.specs.declared.asking.Answer.TheVariants as answer
 use Rattle.command_runs.specs.declared.asking.Question.{Question}
@@ -30,7 +31,8 @@ use Rattle.command_runs.specs.Explained.{IsReportOf, IsVerdictOf}
 use Rattle.command_runs.specs.InChanges.{Terms}
 use Rattle.command_runs.specs.InLockstep.{IsLockstepText, IsWritten}
 use Rattle.command_runs.specs.InOmissions.{ShowsOmitting, realised_by}
-use Rattle.command_runs.specs.InParts.{IsHeadOf, MakesWhole, TellsWhole, explored_as}
+use Rattle.command_runs.specs.InParts.{IsHeadOf, MakesWhole, TellsWhole, explored_with}
+use Rattle.command_runs.specs.InParts.{has_details}
 use Rattle.command_runs.specs.InRounds.{IsFound, ShowsFailure, outcome_of}
 use Rattle.command_runs.specs.Library.{Offers}
 pub use Rattle.command_runs.specs.Sources.{ShowsSource, SpellsTyped, file_name}
@@ -390,8 +392,9 @@ Prints (Rounds source header omissions form) files after text =
     × IsReportText form report text
 Prints (Explore source header exploring f) files after text =
     (head : Option PartHead) × (told : List Told)
+    × (details : Option Details)
     × TellsOfAll source files after (files header.now) exploring head told
-    × (text ≡ explored_as f head told)
+    × (is_some details ≡ has_details exploring) × (text ≡ explored_with f head told details)
 Prints (Together names) files after text =
     (whole : List PartAnswer) × MakesWhole files names.items whole × (text ≡ answers_text whole)
 
@@ -402,9 +405,10 @@ Serves w files after old new = (text : List ℕ) × Prints w files after text ×
 -- and it ends so: `explore` and `together` say by that whether a failure is told
 abbrev pub Ends : Words → (files after : Files) → Outcome → (old new : Option (List ℕ)) → Type 0
 Ends (Explore source header exploring f) files after o old new =
-    (head : Option PartHead) × (told : List Told)
+    (head : Option PartHead) × (told : List Told) × (details : Option Details)
     × TellsOfAll source files after (files header.now) exploring head told
-    × (o ≡ outcome_of told) × Appends old new (explored_as f head told)
+    × (is_some details ≡ has_details exploring) × (o ≡ outcome_of told)
+    × Appends old new (explored_with f head told details)
 Ends (Together names) files after o old new = TellsWhole files names.items o old new
 Ends w files after o old new = (o ≡ Done) × Serves w files after old new
 

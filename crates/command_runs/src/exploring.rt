@@ -1,8 +1,8 @@
 //! What is found by going through all runs in rounds.
 ghost use Rattle.std.specs.Prelude.{◌≡◌, ◌↔◌, ℕ, All, IfErr, IfOk, IsTrue, List, OnOk, option_map};
-ghost use Rattle.std.specs.Prelude.{string_bytes};
+ghost use Rattle.std.specs.Prelude.{is_some, string_bytes};
 ghost use Rattle.command_runs.specs.Apart.{IsApartIfNamed};
-ghost use Rattle.command_runs.specs.InParts.{IsDigestOf, IsHeadFor, IsHeadOf};
+ghost use Rattle.command_runs.specs.InParts.{IsDigestOf, IsHeadFor, IsHeadOf, has_details};
 ghost use Rattle.command_runs.specs.InRounds.{IsFound, IsMade, IsShown, IsTrace, ShowsFirst};
 ghost use Rattle.command_runs.specs.InRounds.{trace_of};
 ghost use Rattle.command_runs.specs.Refused.{IsNotExplored, IsUnexplored};
@@ -21,6 +21,7 @@ use crate::refusal::Refusal;
 use crate::sources::{Opened, SourceText};
 use crate::traces::try_trace_if_named;
 use adversary::RunFault;
+use answer_details::{Details, SearchedRuns, details_of};
 use command_words::{Exploring, Source};
 use exploration_texts::{
     Failed, Told, answer_all, commented, first_failure, question_digest, read_condition, stops_of,
@@ -44,12 +45,13 @@ pub(crate) struct Exploration<'a> {
     pub exploring: Exploring<'a>,
 }
 
-/// What is told of the properties, and if a trace is asked for and one fails, the schedule that
-/// shows the first that does.
+/// What is told of the properties; if a trace is asked for and one fails, the schedule that shows
+/// the first that does; and the details that are printed with the answers, if they are.
 #[derive(Drop)]
 pub(crate) struct Found {
     pub told: Vec<Told>,
     pub trace: Option<String>,
+    pub details: Option<Details>,
 }
 
 /// What is found, and which part of which question it answers, if only a part was asked about.
@@ -71,6 +73,8 @@ impl<'a> Exploration<'a> {
             (D.files desk.old self.now.header.now) self.now.exploring) }
         ensures made { IfOk result (λ explored. IsMade self.now.exploring.trace
             explored.found.told.items (trace_of explored.found)) }
+        ensures detailed { IfOk result (λ explored.
+            is_some explored.found.details ≡ has_details self.now.exploring) }
         ensures apart { OnOk result (IsApartIfNamed self.now.exploring.trace self.now.source
             self.now.header.now) }
         ensures refused { IfErr result (IsRefusedSearch self.now.source (D.files desk.old)
@@ -171,6 +175,8 @@ fn found_by<R: Threads + Sync, W: Watch + Sync>(
         program.now setup.now kind exploring.now) }
     ensures made { IfOk result (λ found.
         IsMade exploring.now.trace found.told.items (trace_of found)) }
+    ensures detailed { IfOk result (λ found.
+        is_some found.details ≡ has_details exploring.now) }
     ensures refused { IfErr result (IsNotExplored program.now setup.now kind exploring.now) }
 {
     let Some(plan) = NamedPlan::new(kind, setup.nodes) else {
@@ -178,7 +184,35 @@ fn found_by<R: Threads + Sync, W: Watch + Sync>(
     };
     let told = answer_all(rt, alloc, program, setup, exploring, watch)?;
     let trace = trace_for(alloc, setup, kind, plan, exploring.trace, &told)?;
-    Ok(Found { told, trace })
+    let runs = SearchedRuns {
+        program,
+        setup,
+        plan,
+    };
+    let details = details_for(alloc, &runs, exploring, &told)?;
+    Ok(Found {
+        told,
+        trace,
+        details,
+    })
+}
+
+/// The details of what is told, unless a part is asked about or the answers are to be brief.
+fn details_for<P: Plan>(
+    alloc: Global,
+    runs: &SearchedRuns<'_, P>,
+    exploring: &Exploring<'_>,
+    told: &[Told],
+) -> Result<Option<Details>, NoMemory>
+    requires plan { P.nodes runs.now.plan ≡ runs.now.setup.now.nodes }
+    requires setup { IsSetup runs.now.setup.now }
+    requires showable { All (IsToldToShow runs.now.setup.now) told.now }
+    ensures { IfOk result (λ details. is_some details ≡ has_details exploring.now) }
+{
+    if exploring.brief || exploring.part.is_some() {
+        return Ok(None);
+    }
+    Ok(Some(details_of(alloc, runs, exploring, told)?))
 }
 
 /// Whether the numbers are within their limits.

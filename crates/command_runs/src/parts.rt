@@ -1,8 +1,9 @@
 //! Parts of a search: what is told of one, and what all of them make together.
-ghost use Rattle.std.specs.Prelude.{◌≡◌, ◌<◌, ◌++◌, ◌∷◌, [], ℕ, IfErr, IfOk, List, OnOk, length};
+ghost use Rattle.std.specs.Prelude.{◌≡◌, ◌<◌, ◌++◌, ◌∷◌, [], ℕ, IfErr, IfOk, List, None, OnOk};
+ghost use Rattle.std.specs.Prelude.{length};
 ghost use Rattle.std.specs.Io.KnownBytes.{Appends};
 ghost use Rattle.std.specs.List.{list_all};
-ghost use Rattle.command_runs.specs.InParts.{HoldParts, HoldsPart, TellsWhole, explored_as};
+ghost use Rattle.command_runs.specs.InParts.{HoldParts, HoldsPart, TellsWhole, explored_with};
 ghost use Rattle.command_runs.specs.InParts.{head_as, is_yes, name_at, outcome_of_whole};
 ghost use Rattle.command_runs.specs.Refused.{IsNotTogether, IsRefusedTogether, IsSilent};
 ghost use Rattle.command_runs.specs.Stages.{IsBadPart, IsNoWhole, IsPartless};
@@ -15,6 +16,7 @@ use crate::part_refusal::PartRefusal;
 use crate::refusal::Refusal;
 use crate::run::written;
 use crate::texts::{Unfit, read_whole};
+use answer_details::{Details, write_detailed};
 use command_words::AnswerFormat;
 use exploration_texts::{Told, write_answers};
 use part_answers::{
@@ -26,23 +28,41 @@ use std::alloc::Global;
 use std::io;
 use std::io::Write;
 
-/// Writes what is told of the properties, of a part behind its first line. The first fault of the
-/// writer is answered as it came.
+/// Writes what is told of the properties, with the details if there are any, or of a part after its
+/// first line. The first fault of the writer is answered as it came.
 pub(crate) fn write_explored<O: Write>(
     head: &Option<PartHead>,
     told: &[Told],
+    details: &Option<Details>,
     format: AnswerFormat,
     out: &mut O,
 ) -> io::Result<()>
     ensures { OnOk result (Appends (O.contents out.old) (O.contents out.new)
-        (explored_as format head.now told.now)) }
+        (explored_with format head.now told.now details.now)) }
 {
     match head {
-        None => write_answers(told, format, out),
+        None => write_whole(told, details, format, out),
         Some(head) => {
             write_first(head, format, out)?;
             write_answers(told, format, out)
         }
+    }
+}
+
+/// Writes the answers about all inputs that were asked about, with their details if there are any.
+fn write_whole<O: Write>(
+    told: &[Told],
+    details: &Option<Details>,
+    format: AnswerFormat,
+    out: &mut O,
+) -> io::Result<()>
+    ensures { OnOk result (Appends (O.contents out.old) (O.contents out.new)
+        (explored_with format None told.now details.now)) }
+{
+    match (format, details) {
+        (AnswerFormat::Text, Some(details)) => write_detailed(told, details, out),
+        (AnswerFormat::Text, None) => write_answers(told, AnswerFormat::Text, out),
+        (AnswerFormat::Json, _) => write_answers(told, AnswerFormat::Json, out),
     }
 }
 

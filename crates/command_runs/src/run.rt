@@ -418,7 +418,7 @@ fn run_rounds<'a, D: Desk, O: Write>(
     tell_report(alloc, &report, form, out)
 }
 
-/// Prints what is found in all runs, and then writes the schedule that shows a property failing,
+/// Prints what is found in all runs with its details, and then writes the schedule that shows a property failing,
 /// also if `out` took no more.
 fn explore<'a, R: Threads + Sync, D: Desk, O: Write>(
     rt: &R,
@@ -445,8 +445,12 @@ fn explore<'a, R: Threads + Sync, D: Desk, O: Write>(
         (D.written desk.old) (D.written desk.new)) }
 {
     let Explored { head, found } = exploration.find(rt, alloc, desk)?;
-    let Found { told, trace } = found;
-    let printed = written(write_explored(&head, &told, format, out), out);
+    let Found {
+        told,
+        trace,
+        details,
+    } = found;
+    let printed = written(write_explored(&head, &told, &details, format, out), out);
     let traced = write_shown(exploration.exploring.trace, &trace, desk);
     printed?;
     match traced {

@@ -14,6 +14,13 @@ trace_for-requires-clause-showable g c =
     (answers_shown c.args.program.now s c.args.exploring.now c.in_ok-told.told.items
     c.requires.explorable.0.sized c.in_ok-told.ensures.told)
 
+pub details_for-requires-clause-showable : goal.details_for-requires-clause-showable
+details_for-requires-clause-showable g c =
+    let s = c.args.setup.now in
+    subst (All (IsToldToShow s)) (sym c.deref-2.ensures.value)
+    (answers_shown c.args.program.now s c.args.exploring.now c.in_ok-told.told.items
+    c.requires.explorable.0.sized c.in_ok-told.ensures.told)
+
 pub returns-clause-made : goal.returns-clause-made
 returns-clause-made g c =
     let plan = c.in-Some.plan in
@@ -29,7 +36,11 @@ returns-clause-found g c =
     let e = c.args.exploring.now in
     let made = c.in-Some.ensures.made in
     let plan = c.in-Some.plan in
-    let found : Found = record { told = c.in_ok-told.told; trace = c.in_ok-trace.trace } in
+    let found : Found = record {
+      told = c.in_ok-told.told;
+      trace = c.in_ok-trace.trace;
+      details = c.in_ok-details.details;
+    } in
     let is : IsFound (receives_of (kind_of plan)) (start_of (kind_of plan) (nodes_of plan)) p s k
     e found = record {
       answers = c.in_ok-told.ensures.told;

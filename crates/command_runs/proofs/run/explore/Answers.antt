@@ -1,7 +1,7 @@
 use Rattle.std.proofs.Common.{◌≡◌, ◌∙◌, ap, subst, sym}
 use Rattle.std.specs.Io.KnownBytes.{Appends}
 use Rattle.command_words.specs.declared.words.Words.TheVariants.{Explore}
-use Rattle.command_runs.specs.InParts.{explored_as}
+use Rattle.command_runs.specs.InParts.{explored_with}
 use Rattle.command_runs.specs.InRounds.{outcome_of}
 use Rattle.command_runs.specs.Refused.{IsRefusedCommand}
 use Rattle.command_runs.proofs.Explored.{explore_unwritten, tells_of_all}
@@ -30,7 +30,7 @@ returns-in_err-printed-clause-refused g c =
     err_then c.from_residual-in_err-printed.result (λ r. r ≡ fault) cause
     c.from_residual-in_err-printed.ensures.1 (λ r is. subst cause (sym is)
     (explore_unwritten x.source files x.header x.exploring c.args.format c.in_ok-head.field-0 fault
-    c.in_ok-head.ensures.found c.in_err-printed.ensures.refused))
+    c.in_ok-head.ensures.found c.in_ok-head.ensures.detailed c.in_err-printed.ensures.refused))
 
 pub returns-in-Ok-clause-served : goal.returns-in-Ok-clause-served
 returns-in-Ok-clause-served g c =
@@ -42,14 +42,17 @@ returns-in-Ok-clause-served g c =
     let told = explored.found.told.items in (
       explored.head,
       told,
+      explored.found.details,
       tells_of_all x.source files x.exploring explored (files x.header.now) after
           c.in-Ok.ensures.held c.in_ok-head.ensures.found,
+      c.in_ok-head.ensures.detailed,
       c.of.ensures ∙ ap outcome_of c.deref-in-Ok.ensures.value,
       subst (λ ts. Appends (out c.args.out.now) (out c.written-printed.new.out)
-          (explored_as c.args.format explored.head ts)) c.deref.ensures.value
+          (explored_with c.args.format explored.head ts explored.found.details))
+          c.deref.ensures.value
           (written_whole c.write_explored.result (out c.args.out.now)
           (out c.write_explored.new.out) (out c.written-printed.new.out)
-          (explored_as c.args.format explored.head c.deref.result.now)
+          (explored_with c.args.format explored.head c.deref.result.now explored.found.details)
           c.in_ok-printed.ensures.done c.write_explored.ensures c.in_ok-printed.ensures.kept),
     )
 
@@ -59,10 +62,12 @@ returns-clause-left g c =
     let explored = c.in_ok-head.field-0 in (
       explored,
       c.in_ok-head.ensures.found,
+      c.in_ok-head.ensures.detailed,
       subst (λ ts. Appends (out c.args.out.now) (out c.written-printed.new.out)
-          (explored_as c.args.format explored.head ts)) c.deref.ensures.value
+          (explored_with c.args.format explored.head ts explored.found.details))
+          c.deref.ensures.value
           (written_whole c.write_explored.result (out c.args.out.now)
           (out c.write_explored.new.out) (out c.written-printed.new.out)
-          (explored_as c.args.format explored.head c.deref.result.now)
+          (explored_with c.args.format explored.head c.deref.result.now explored.found.details)
           c.in_ok-printed.ensures.done c.write_explored.ensures c.in_ok-printed.ensures.kept),
     )

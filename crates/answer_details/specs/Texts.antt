@@ -1,0 +1,27 @@
+-- Answers as they are printed with their details.
+use Rattle.std.specs.Prelude.{◌++◌, ◌∷◌, [], ℕ, List, codes, map, string_bytes}
+use Rattle.std.specs.List.{flat_map}
+use Rattle.std.specs.Str.Lines.{lines}
+use Rattle.answer_details.specs.declared.details.Details.{Details}
+use Rattle.exploration_texts.specs.Lines.{answers_text, told_line}
+use Rattle.exploration_texts.specs.declared.told.Told.{Told}
+
+-- the lines of a text, each after a mark
+abbrev pub marked_lines : (mark text : List ℕ) → List ℕ
+marked_lines mark text = flat_map (λ line. mark ++ line ++ codes "\n") (lines text)
+
+-- the lines of a run, each of which begins with four blanks
+abbrev pub run_lines : (text : List ℕ) → List ℕ
+run_lines text = marked_lines (codes "    ") text
+
+-- each answer, and after it the lines of its run
+abbrev pub answers_with : List Told → (runs : List (List ℕ)) → List ℕ
+answers_with [] runs = []
+answers_with (t ∷ ts) [] = answers_text (t ∷ ts)
+answers_with (t ∷ ts) (run ∷ runs) = told_line t ++ run_lines run ++ answers_with ts runs
+
+-- the answers with their runs, and then the notes, each of which begins with `note: `
+abbrev pub detailed_text : List Told → Details → List ℕ
+detailed_text told d =
+    answers_with told (map (λ run. string_bytes run) d.runs.items)
+    ++ marked_lines (codes "note: ") (string_bytes d.notes)
