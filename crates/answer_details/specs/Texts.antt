@@ -6,9 +6,13 @@ use Rattle.answer_details.specs.declared.details.Details.{Details}
 use Rattle.exploration_texts.specs.Lines.{answers_text, told_line}
 use Rattle.exploration_texts.specs.declared.told.Told.{Told}
 
+-- a line after a mark
+abbrev pub marked_line : (mark line : List ℕ) → List ℕ
+marked_line mark line = mark ++ line ++ codes "\n"
+
 -- the lines of a text, each after a mark
 abbrev pub marked_lines : (mark text : List ℕ) → List ℕ
-marked_lines mark text = flat_map (λ line. mark ++ line ++ codes "\n") (lines text)
+marked_lines mark text = flat_map (marked_line mark) (lines text)
 
 -- the lines of a run, each of which begins with four blanks
 abbrev pub run_lines : (text : List ℕ) → List ℕ

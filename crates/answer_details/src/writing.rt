@@ -1,12 +1,12 @@
 //! Answers with their details.
-ghost use Rattle.std.specs.Prelude.{◌≡◌, OnOk, codes, map, string_bytes};
+ghost use Rattle.std.specs.Prelude.{OnOk, map, string_bytes};
 ghost use Rattle.std.specs.Io.KnownBytes.{Appends};
-ghost use Rattle.std.specs.Str.Lines.{lines};
-ghost use Rattle.answer_details.specs.Texts.{answers_with, detailed_text, marked_lines};
+ghost use Rattle.answer_details.specs.Texts.{answers_with, detailed_text, marked_line};
+ghost use Rattle.answer_details.specs.Texts.{marked_lines};
 
 use crate::details::Details;
-use exploration_texts::{Told, write_answers};
 use command_words::AnswerFormat;
+use exploration_texts::{Told, write_answers};
 use std::io;
 use std::io::Write;
 
@@ -35,7 +35,7 @@ fn write_with_runs<W: Write>(told: &[Told], runs: &[String], out: &mut W) -> io:
         ([], _) => Ok(()),
         (_, []) => write_answers(told, AnswerFormat::Text, out),
         ([first, told @ ..], [run, runs @ ..]) => {
-            write!(out, "{first}\n")?;
+            writeln!(out, "{first}")?;
             write_lines(OF_RUN, run.as_str(), out)?;
             write_with_runs(told, runs, out)
         }
@@ -55,7 +55,7 @@ fn write_lines<W: Write>(mark: &str, text: &str, out: &mut W) -> io::Result<()>
 
 fn write_line<W: Write>(mark: &str, line: &str, out: &mut W) -> io::Result<()>
     ensures { OnOk result (Appends (W.contents out.old) (W.contents out.new)
-        (mark.now ++ line.now ++ codes "\n")) }
+        (marked_line mark.now line.now)) }
 {
     writeln!(out, "{mark}{line}")
 }

@@ -16,3 +16,5 @@ mod Found
 mod PartsRead
 mod PartsTogether
 mod SameQuestions
+mod Marks
+mod AnswerLines

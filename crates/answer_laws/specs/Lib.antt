@@ -5,3 +5,4 @@ pub mod Read
 pub mod Answered
 pub mod Parts
 pub mod OneQuestion
+pub mod AnswerLines

@@ -4,6 +4,7 @@
 
 mod answered;
 mod asked;
+mod lines;
 mod parts;
 mod read;
 mod reports;
@@ -14,6 +15,7 @@ pub use asked::{
     clear_runs_are_asked, open_runs_are_asked, stopped_runs_are_asked, yes_is_of_asked_reports,
     yes_is_of_every_report,
 };
+pub use lines::answers_are_the_lines;
 pub use parts::{one_question, parts_are_read, parts_tell_the_whole};
 pub use read::{omissions_are_read, realised_omits_just_that, runs_report_rounds};
 pub use reports::one_report;

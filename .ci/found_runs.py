@@ -1,0 +1,120 @@
+"""The run that `roundc explore` prints after a `no`, checked by a second reading in Python: that the
+question covers it, that the property fails in it in that round and not before, and that the table
+and the decisions are those of the run.
+"""
+import collections
+import re
+
+import exploring
+import reading
+import reading_data
+
+BLANKS = "    "  # what the lines of a run begin with
+MISSES = re.compile(r"node (\d+) misses (node \d+(?: and node \d+)*) in round (\d+)")
+CRASHES = re.compile(r"node (\d+) crashes in round (\d+)")
+OMITS = re.compile(r"node (\d+) may omit what it sends")
+DECIDED = re.compile(r"node (\d+) decided (\d+) in round (\d+)")
+MANY = "and more messages are missed"
+LEFT_OUT = re.compile(r"\((\d+) rows are left out\)")
+
+
+class FoundRun:
+    """What the lines of a run say, without their blanks."""
+
+    def __init__(self, lines, nodes):
+        self.lines = lines
+        self.inputs = [int(it) for it in lines[0].removeprefix("inputs ").split()]
+        self.pattern = [None] * nodes
+        self.missed = collections.defaultdict(set)
+        for line in lines:
+            if found := CRASHES.fullmatch(line):
+                self.pattern[int(found[1])] = int(found[2])
+            elif found := OMITS.fullmatch(line):
+                self.pattern[int(found[1])] = "omits"
+            elif found := MISSES.fullmatch(line):
+                self.missed[int(found[1]), int(found[3])] |= set(map(int, re.findall(r"\d+", found[2])))
+        heads = [at for at, it in enumerate(lines) if re.match(r"round +node +heard", it)]
+        self.table = lines[heads[0]:] if heads else []
+
+    def is_whole(self):
+        """Returns whether nothing of the run is left out."""
+        return MANY not in self.lines and not any(map(LEFT_OUT.fullmatch, self.lines))
+
+    def misses(self, node, number):
+        """Returns whom a node misses in a round, with those that have crashed before."""
+        gone = {j for j, it in enumerate(self.pattern) if isinstance(it, int) and it < number}
+        return frozenset(self.missed[node, number] | gone)
+
+    def omissions(self, nodes):
+        """Returns the run's omissions as lines of an omission file."""
+        omitted = [reading.Omission("omit", str(node), str(number), str(sender))
+                   for (node, number), senders in self.missed.items() for sender in senders]
+        for node, it in enumerate(self.pattern):
+            if isinstance(it, int):
+                heard = [to for to in range(nodes) if node not in self.missed[to, it]]
+                omitted.append(reading.Omission("crash", str(node), str(it),
+                                                ",".join(map(str, heard)) or "-"))
+        return omitted
+
+
+def lines_of(wanted):
+    """Yields each answer that is `no` in what is printed, as its name and round, with its run."""
+    for at, line in enumerate(wanted):
+        if found := re.fullmatch(r"(\w+) no in round (\d+)", line):
+            after = at + 1
+            while after < len(wanted) and wanted[after].startswith(BLANKS):
+                after += 1
+            yield found[1], int(found[2]), [it[len(BLANKS):] for it in wanted[at + 1:after]]
+
+
+def covers_and_fails(checked, setup, asked, name, run):
+    """Returns what is wrong with a run as one in which the property fails, or nothing."""
+    if sum(it is not None for it in run.pattern) > setup.faults:
+        return "too many nodes fail"
+    level = exploring.Level(reading.Algorithm(checked, setup), run.pattern, asked.formula)
+    for number in range(1, setup.rounds + 1):
+        row = [run.misses(node, number) for node in range(setup.nodes)]
+        allowed = exploring.rows(setup, asked.question, run.pattern, number)
+        if not set(row) <= set(allowed):
+            return f"the question allows no such round {number}"
+        (states, *_seen), = level.runs.values()
+        after = [level.ends(states, [missed], node)[0] for node, missed in enumerate(row)]
+        level.ends = lambda states, choices, node, after=after: [after[node]]
+        level.follow(None)
+        del level.ends
+        if level.broken(name) != (number == setup.rounds):
+            return f"it's another round in which it fails than {setup.rounds}"
+    return ""
+
+
+def is_told_as_run(checked, setup, run):
+    """Returns what is wrong with the table and the decisions of a run, or nothing."""
+    made = reading.Rounds(reading.Algorithm(checked, setup), run.omissions(setup.nodes))
+    report = reading_data.report_of(made.report())
+    table = reading_data.table_text(report, changed=True).splitlines()
+    rows = [it for it in table if it and it != table[0]]
+    if run.table != table[:1] + rows:
+        return "\n    ".join(["the table is", *table[:1], *rows])
+    decided = {(row.node, row.round): row.decision for row in report.rows}
+    for line in run.lines:
+        for node, value, number in DECIDED.findall(line):
+            if decided.get((int(node), int(number))) != value:
+                return f"{line}: it has {decided.get((int(node), int(number)))}"
+    return ""
+
+
+def fault(checked, header, asked, runs):
+    """Returns what is wrong with the runs of answers, or nothing."""
+    for name, number, lines in runs:
+        if not lines:
+            continue
+        run = FoundRun(lines, header.nodes)
+        if not asked.is_any and run.inputs != list(header.inputs):
+            return f"{name}: other inputs"
+        setup = header._replace(inputs=run.inputs, rounds=number)
+        if run.is_whole():
+            wrong = (covers_and_fails(checked, setup, asked, name, run)
+                     or is_told_as_run(checked, setup, run))
+            if wrong:
+                return f"{name}: {wrong}"
+    return ""
