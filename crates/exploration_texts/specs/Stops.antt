@@ -37,5 +37,6 @@ CanBeShown s HoldsInAllRounds = ⊤
 CanBeShown s (NotFound n) = ⊤
 CanBeShown s (Fails c) = IsShowable s c
 
+-- what is told of a property can be shown by a schedule, if it's a failure
 abbrev pub IsToldToShow : Setup → Told → Type 0
 IsToldToShow s t = CanBeShown s t.answer
