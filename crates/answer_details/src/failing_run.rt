@@ -80,7 +80,14 @@ impl<P: Plan> SearchedRuns<'_, P> {
             rounds: found.round,
         };
         let stops = stops_of(alloc, &setup, &found.failures, self.plan)?;
-        rounds_report(alloc, self.program, &setup, self.plan, &found.omissions, &stops)
+        rounds_report(
+            alloc,
+            self.program,
+            &setup,
+            self.plan,
+            &found.omissions,
+            &stops,
+        )
     }
 
     /// Writes what shows in the report of the run that the property fails.
@@ -140,7 +147,11 @@ fn write_missed<W: Write>(found: &Counterexample, nodes: u32, out: &mut W) -> io
                 return writeln!(out, "and more messages are missed");
             }
             listed = listed.saturating_add(1);
-            writeln!(out, "node {node} misses {} in round {round}", Senders(missed))?;
+            writeln!(
+                out,
+                "node {node} misses {} in round {round}",
+                Senders(missed)
+            )?;
         }
     }
     if listed > 0 {
