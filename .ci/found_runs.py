@@ -1,5 +1,5 @@
-"""The run that `roundc explore` prints after a `no`, checked by a second reading in Python: that the
-question covers it, that the property fails in it in that round and not before, and that the table
+"""The run that `roundc explore` prints after a `no`, checked by a second reading in Python: that
+the question covers it, that the property fails in it in that round and not before, and that the table
 and the decisions are those of the run.
 """
 import collections
@@ -32,7 +32,8 @@ class FoundRun:
             elif found := OMITS.fullmatch(line):
                 self.pattern[int(found[1])] = "omits"
             elif found := MISSES.fullmatch(line):
-                self.missed[int(found[1]), int(found[3])] |= set(map(int, re.findall(r"\d+", found[2])))
+                senders = set(map(int, re.findall(r"\d+", found[2])))
+                self.missed[int(found[1]), int(found[3])] |= senders
         heads = [at for at, it in enumerate(lines) if re.match(r"round +node +heard", it)]
         self.table = lines[heads[0]:] if heads else []
 
