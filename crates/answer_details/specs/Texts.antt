@@ -20,8 +20,8 @@ run_lines text = marked_lines (codes "    ") text
 
 -- each answer, and after it the lines of its run
 abbrev pub answers_with : List Told → (runs : List (List ℕ)) → List ℕ
-answers_with [] runs = []
-answers_with (t ∷ ts) [] = answers_text (t ∷ ts)
+answers_with told [] = answers_text told
+answers_with [] (run ∷ runs) = []
 answers_with (t ∷ ts) (run ∷ runs) = told_line t ++ run_lines run ++ answers_with ts runs
 
 -- the answers with their runs, and then the notes, each of which begins with `note: `

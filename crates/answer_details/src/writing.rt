@@ -31,14 +31,16 @@ fn write_with_runs<W: Write>(told: &[Told], runs: &[String], out: &mut W) -> io:
     ensures { OnOk result (Appends (W.contents out.old) (W.contents out.new)
         (answers_with told.now (map (λ run. string_bytes run) runs.now))) }
 {
-    match (told, runs) {
-        ([], _) => Ok(()),
-        (_, []) => write_answers(told, AnswerFormat::Text, out),
-        ([first, told @ ..], [run, runs @ ..]) => {
-            writeln!(out, "{first}")?;
-            write_lines(OF_RUN, run.as_str(), out)?;
-            write_with_runs(told, runs, out)
-        }
+    match runs {
+        [] => write_answers(told, AnswerFormat::Text, out),
+        [run, runs @ ..] => match told {
+            [] => Ok(()),
+            [first, told @ ..] => {
+                writeln!(out, "{first}")?;
+                write_lines(OF_RUN, run.as_str(), out)?;
+                write_with_runs(told, runs, out)
+            }
+        },
     }
 }
 

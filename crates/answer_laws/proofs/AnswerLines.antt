@@ -89,8 +89,8 @@ alone (t ∷ ts) rest h =
 -- and with runs
 with_runs : (told : List Told) (runs : List (List ℕ)) (rest : List ℕ) → Small told
     → answer_lines (answers_with told runs ++ rest) ≡ map told_text told ++ answer_lines rest
-with_runs [] runs rest h = refl
-with_runs (t ∷ ts) [] rest h = alone (t ∷ ts) rest h
+with_runs told [] rest h = alone told rest h
+with_runs [] (run ∷ runs) rest h = refl
 with_runs (t ∷ ts) (run ∷ runs) rest h =
     let shown = marked_lines (codes "    ") run in
     let others = answers_with ts runs in
