@@ -39,10 +39,17 @@ pub(crate) fn write_notes(
     }
 }
 
-/// Whether each of the properties holds as long as no node decides.
+/// Whether a property is asked that holds as long as no node decides, and nobody asks whether nodes
+/// decide.
 fn hold_undecided(told: &[Told]) -> bool {
-    told.iter().all(|one| match one.name {
-        Property::Agreement | Property::Validity | Property::Final => true,
-        Property::Termination | Property::Always => false,
-    })
+    told.iter().any(|one| is_safety(one.name))
+        && told.iter().all(|one| !matches!(one.name, Property::Termination))
+}
+
+/// Whether the property is about the decisions that nodes make, and not whether they make any.
+fn is_safety(property: Property) -> bool {
+    matches!(
+        property,
+        Property::Agreement | Property::Validity | Property::Final
+    )
 }
