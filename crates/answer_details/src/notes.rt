@@ -43,7 +43,9 @@ pub(crate) fn write_notes(
 /// decide.
 fn hold_undecided(told: &[Told]) -> bool {
     told.iter().any(|one| is_safety(one.name))
-        && told.iter().all(|one| !matches!(one.name, Property::Termination))
+        && told
+            .iter()
+            .all(|one| !matches!(one.name, Property::Termination))
 }
 
 /// Whether the property is about the decisions that nodes make, and not whether they make any.
