@@ -1,5 +1,5 @@
 -- The answers among the lines that are printed.
-use Rattle.std.proofs.Common.{◌≡◌, ◌∙◌, ◌++◌, ◌∷◌, [], ℕ, All, List, All-head, All-tail, ap, arith}
+use Rattle.std.proofs.Common.{◌≡◌, ◌∙◌, ◌++◌, ◌∷◌, [], ℕ, All, List, ap, arith}
 use Rattle.std.proofs.Common.{append_assoc, codes, eqb, false, inl, inr, leb, map, not, refl, sym}
 use Rattle.std.proofs.Common.{true, ◌||◌}
 use Rattle.std.specs.Fmt.{decimal}
@@ -7,6 +7,7 @@ use Rattle.std.specs.List.{flat_map, list_all}
 use Rattle.std.specs.Prelude.{string_bytes}
 use Rattle.std.proofs.lemmas.Bool.{and_from, and_parts, leb-true, ne_eqb}
 use Rattle.std.proofs.lemmas.List.{append-nil}
+use Rattle.std.proofs.lemmas.List.Elements.{All-head, All-tail}
 use Rattle.answer_details.specs.Texts.{answers_with, marked_lines}
 use Rattle.answer_laws.specs.AnswerLines.{AnswersAreTheLines, HasSmallNumber, answer_lines}
 use Rattle.answer_laws.specs.AnswerLines.{is_aside}
