@@ -13,7 +13,8 @@ proofs/Invariant.antt, with a hole for each of the seven obligations; docs/PROVI
 on it. To check the crate takes the kit, whose command is `rt`.
 
 The program that reads SOURCE first is dist/roundc, or the file that ROUNDC_PROGRAM names. If
-something is refused, nothing is written; the status then is 1, or 2 for a bad command line.
+something is refused, nothing is written; the status then is 1, or 2 for a bad command line. Where
+SOURCE doesn't check, what `roundc why check` says of it goes to standard error.
 """
 import glob
 import os
@@ -77,20 +78,28 @@ def check_name(name, top):
         raise Refused(f"there is a crate {name}")
 
 
+def run(words):
+    """Returns how the program ended, and what it printed."""
+    roundc = os.environ.get("ROUNDC_PROGRAM") or f"{TOP}/dist/roundc"
+    try:
+        return subprocess.run([roundc, *words], stdin=subprocess.DEVNULL, stdout=subprocess.PIPE,
+                              stderr=subprocess.PIPE, check=False)
+    except OSError as why:
+        raise Refused(f"can't run {roundc}: {why.strerror}") from None
+
+
 def read_source(path):
     """Returns the source's text, once the program has said that it's one."""
     if not os.path.isfile(path):
         shown = f"; roundc show {path} prints a text for one" if path.startswith("@") else ""
         raise Refused(f"there is no file {path}{shown}")
-    roundc = os.environ.get("ROUNDC_PROGRAM") or f"{TOP}/dist/roundc"
-    try:
-        ran = subprocess.run([roundc, "check", os.path.abspath(path)], stdin=subprocess.DEVNULL,
-                             stdout=subprocess.PIPE, stderr=subprocess.PIPE, check=False)
-    except OSError as why:
-        raise Refused(f"can't run {roundc}: {why.strerror}") from None
-    if ran.returncode != 0:
-        sys.stderr.write(ran.stderr.decode(errors="replace"))
-        raise Refused("", ran.returncode)
+    # (a SOURCE that begins with @ would be a program of the library)
+    place = f"./{path}" if path.startswith("@") else path
+    checked = run(["check", place])
+    if checked.returncode != 0:
+        words = run(["why", "check", place]).stdout or checked.stderr
+        sys.stderr.write(words.decode(errors="replace"))
+        raise Refused("", checked.returncode)
     return read_text(path)
 
 
@@ -178,5 +187,5 @@ def main(words, top=TOP):
         return 1
     print(f"crates/{name} is drafted, and crates.txt has its line\n"
           f"to write: crates/{name}/proofs/Invariant.antt, as docs/PROVING.md says\n"
-          f"to check: cd crates/{name}; rt fmt; rt check --allow-holes")
+          f"to check: cd crates/{name}; rt check --allow-holes")
     return 0
