@@ -102,7 +102,7 @@ _roundc_options() {
         'rounds' | \
         'why rounds') options='--header --omissions --decided --format --by --vars --changed -h --help -V --version' ;;
         'explore' | \
-        'why explore') options='--header --inputs --faults --clear --hears --part --jobs --sample --seed --check --always --trace --format -h --help -V --version' ;;
+        'why explore') options='--header --inputs --faults --clear --hears --part --jobs --sample --seed --check --always --trace --format --brief -h --help -V --version' ;;
         'help' | \
         'why') options='' ;;
         *) return 1 ;;
