@@ -5,13 +5,30 @@ use crate::asked::AskedCommand;
 use crate::files::{CommandFiles, TellingDesk};
 use crate::help::HELP;
 use crate::located::unwritten;
-use command_runs::Refusal;
+use command_runs::{Refusal, run_words};
 use command_words::{WordsFault, read_words};
 use std::alloc::Global;
 use std::fmt;
 use std::io::Write;
 use std::sync::Wait;
 use std::thread::Threads;
+
+/// Runs the command that the words name, or after `why` says why it's refused, and answers the exit
+/// status.
+pub fn run_or_explain<'a, R: Threads + Wait + Sync, D: TellingDesk, O: Write, E: Write>(
+    rt: &R,
+    alloc: Global,
+    words: &'a [&'a str],
+    desk: &mut D,
+    out: &mut O,
+    err: &mut E,
+) -> u8 {
+    match words {
+        ["help", "why"] => explain_words(rt, alloc, &["help"], desk, out, err),
+        ["why", command @ ..] => explain_words(rt, alloc, command, desk, out, err),
+        command => run_words(rt, alloc, command, desk, out, err),
+    }
+}
 
 /// Says why the command that the words name is refused, and answers the exit status: 0 if it could
 /// be told, else that of the command. No file is written, and `threads` starts no thread.

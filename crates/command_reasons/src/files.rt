@@ -3,7 +3,7 @@ ghost use Rattle.std.specs.Prelude.{◌≡◌};
 
 use crate::header::Header;
 use command_runs::{Desk, DeskFault, Refusal};
-use command_words::{Source, Words};
+use command_words::{Source, Words, read_words};
 use round_lang::MAX_TEXT as MAX_SOURCE;
 use run_events::NoMemory;
 use schedule_text::{MAX_TEXT as MAX_SCHEDULE, ScheduleFault};
@@ -159,6 +159,19 @@ fn read_file<D: Desk>(
         Err(DeskFault::Failed) => Ok(None),
         Err(DeskFault::NoMemory) => Err(Refusal::NoMemory),
     }
+}
+
+/// The names of the files that the command which the words name reads, in the order in which it
+/// does; none if the words name no command.
+pub fn files_read_by<'a>(alloc: Global, words: &'a [&'a str]) -> Result<Vec<&'a str>, NoMemory> {
+    let Ok(command) = read_words(alloc, words) else {
+        return Ok(Vec::new(alloc));
+    };
+    let mut names = Vec::new(alloc);
+    for file in names_of(alloc, &command)? {
+        names.push(file.name)?;
+    }
+    Ok(names)
 }
 
 /// The names of the files that a command reads, in the order in which it does.

@@ -35,5 +35,5 @@ mod trace_faults;
 mod verdict_lines;
 mod word_fault;
 
-pub use explain::explain_words;
-pub use files::TellingDesk;
+pub use explain::{explain_words, run_or_explain};
+pub use files::{TellingDesk, files_read_by};

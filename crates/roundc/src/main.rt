@@ -7,8 +7,7 @@ mod terminal;
 mod tip;
 mod unread;
 
-use command_reasons::explain_words;
-use command_runs::run_words;
+use command_reasons::run_or_explain;
 use host_desk::HostDesk;
 use std::alloc::{AllocError, Global};
 use std::env;
@@ -17,6 +16,7 @@ use std::process::ExitCode;
 use std::sync::Wait;
 use std::thread::Threads;
 use tip::tell_of_why;
+use transcripts::test_words;
 use unread::Unread;
 
 /// How many bytes of what is printed go out at once.
@@ -44,14 +44,14 @@ fn run<R: Threads + Wait + Sync>(
     let mut desk = HostDesk::new(rt, err, alloc);
     let mut out = BufWriter::with_capacity(alloc, PRINTED_AT_ONCE, rt.stdout())?;
     let status = match words.as_slice() {
-        ["help", "why"] => {
-            explain_words(starter, alloc, &["help"], &mut desk, &mut out, &mut err)
+        ["help", "test"] => {
+            test_words(starter, alloc, &["--help"], &mut desk, &mut out, &mut err)
         }
-        ["why", command @ ..] => {
-            explain_words(starter, alloc, command, &mut desk, &mut out, &mut err)
+        ["test", words @ ..] => {
+            test_words(starter, alloc, words, &mut desk, &mut out, &mut err)
         }
         command => {
-            let status = run_words(starter, alloc, command, &mut desk, &mut out, &mut err);
+            let status = run_or_explain(starter, alloc, command, &mut desk, &mut out, &mut err);
             tell_of_why(alloc, status, command, &mut err);
             status
         }

@@ -26,7 +26,7 @@ pub(crate) fn tell_of_why<E: Write + IsTerminal>(
     let [command, ..] = words else {
         return;
     };
-    if !err.is_terminal() {
+    if *command == "why" || !err.is_terminal() {
         return;
     }
     // If standard error fails there is nobody left to tell.
