@@ -3,7 +3,8 @@ use Rattle.std.specs.Prelude.{◌++◌, ◌∷◌, [], ℕ, List, codes, map, st
 use Rattle.std.specs.List.{flat_map}
 use Rattle.std.specs.Str.Lines.{lines}
 use Rattle.answer_details.specs.declared.details.Details.{Details}
-use Rattle.exploration_texts.specs.Lines.{answers_text, told_line}
+use Rattle.exploration_texts.specs.Lines.{answers_data, answers_text, told_data, told_line}
+use Rattle.exploration_texts.specs.Lines.{told_members}
 use Rattle.exploration_texts.specs.declared.told.Told.{Told}
 
 -- a line after a mark
@@ -23,6 +24,17 @@ abbrev pub answers_with : List Told → (runs : List (List ℕ)) → List ℕ
 answers_with told [] = answers_text told
 answers_with [] (run ∷ runs) = []
 answers_with (t ∷ ts) (run ∷ runs) = told_line t ++ run_lines run ++ answers_with ts runs
+
+-- the object of an answer, with its run as one more member if there is one
+abbrev pub object_with : Told → (run : List ℕ) → List ℕ
+object_with t [] = told_data t
+object_with t (c ∷ run) = told_members t ++ codes ",\"run\":" ++ (c ∷ run) ++ codes "}\n"
+
+-- the objects of the answers, each with its run
+abbrev pub detailed_data : List Told → (runs : List (List ℕ)) → List ℕ
+detailed_data told [] = answers_data told
+detailed_data [] (run ∷ runs) = []
+detailed_data (t ∷ ts) (run ∷ runs) = object_with t run ++ detailed_data ts runs
 
 -- the answers with their runs, and then the notes, each of which begins with `note: `
 abbrev pub detailed_text : List Told → Details → List ℕ

@@ -6,19 +6,19 @@ ghost use Rattle.round_meaning.specs.Setups.{IsSetup};
 use crate::failing_run::SearchedRuns;
 use crate::notes::write_notes;
 use crate::text::text_of;
-use command_words::Exploring;
+use command_words::{AnswerFormat, Exploring};
 use exploration_texts::{Answered, Told};
 use run_events::NoMemory;
 use slot_plans::Plan;
 use std::alloc::Global;
 
-/// What is printed of a search besides its answers.
+/// What is printed of a search besides its answers: words, or data in the format of objects.
 #[derive(Drop)]
 pub struct Details {
     /// The run in which each property fails, by the order of the answers; an empty text for a
     /// property that doesn't fail.
     pub runs: Vec<String>,
-    /// The notes, a line each.
+    /// The notes, a line each; none for the format of objects.
     pub notes: String,
 }
 
@@ -27,6 +27,7 @@ pub fn details_of<P: Plan>(
     alloc: Global,
     runs: &SearchedRuns<'_, P>,
     exploring: &Exploring<'_>,
+    format: AnswerFormat,
     told: &[Told],
 ) -> Result<Details, NoMemory>
     requires plan { P.nodes runs.now.plan ≡ runs.now.setup.now.nodes }
@@ -34,9 +35,11 @@ pub fn details_of<P: Plan>(
     requires showable { All (IsToldToShow runs.now.setup.now) told.now }
 {
     let mut notes = Vec::new(alloc);
-    write_notes(alloc, runs.program.program(), exploring, told, &mut notes)?;
+    if format == AnswerFormat::Text {
+        write_notes(alloc, runs.program.program(), exploring, told, &mut notes)?;
+    }
     Ok(Details {
-        runs: runs_of(alloc, runs, told)?,
+        runs: runs_of(alloc, runs, format, told)?,
         notes: text_of(alloc, notes),
     })
 }
@@ -45,6 +48,7 @@ pub fn details_of<P: Plan>(
 fn runs_of<P: Plan>(
     alloc: Global,
     runs: &SearchedRuns<'_, P>,
+    format: AnswerFormat,
     told: &[Told],
 ) -> Result<Vec<String>, NoMemory>
     requires plan { P.nodes runs.now.plan ≡ runs.now.setup.now.nodes }
@@ -53,7 +57,7 @@ fn runs_of<P: Plan>(
 {
     let mut texts = Vec::new(alloc);
     for one in told {
-        texts.push(run_of(alloc, runs, one)?)?;
+        texts.push(run_of(alloc, runs, format, one)?)?;
     }
     Ok(texts)
 }
@@ -62,6 +66,7 @@ fn runs_of<P: Plan>(
 fn run_of<P: Plan>(
     alloc: Global,
     runs: &SearchedRuns<'_, P>,
+    format: AnswerFormat,
     told: &Told,
 ) -> Result<String, NoMemory>
     requires plan { P.nodes runs.now.plan ≡ runs.now.setup.now.nodes }
@@ -69,7 +74,10 @@ fn run_of<P: Plan>(
     requires showable { IsToldToShow runs.now.setup.now told.now }
 {
     match &told.answer {
-        Answered::Fails(found) => runs.failing_run(alloc, told.name, found),
+        Answered::Fails(found) => match format {
+            AnswerFormat::Text => runs.failing_run(alloc, told.name, found),
+            AnswerFormat::Json => runs.failing_data(alloc, found),
+        },
         Answered::Holds | Answered::HoldsInAllRounds | Answered::NotFound(_) => {
             Ok(String::new(alloc))
         }

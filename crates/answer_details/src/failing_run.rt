@@ -6,6 +6,7 @@ ghost use Rattle.exploration_texts.specs.Stops.{IsShowable};
 ghost use Rattle.round_meaning.specs.Setups.{IsSetup};
 
 use crate::decisions::{write_split, write_taken_back};
+use crate::missed::{Missed, missed_messages};
 use crate::table::write_changes;
 use crate::text::{full, text_of};
 use adversary::RunFault;
@@ -24,7 +25,7 @@ use std::str::from_utf8;
 use std::{fmt, io};
 
 /// How many lines of missed messages are written at most.
-const MAX_LISTED: u32 = 100;
+const MAX_LISTED: usize = 100;
 
 /// A program, a setup and a plan, of whose runs a search found something.
 #[derive(Clone, Copy)]
@@ -51,7 +52,8 @@ impl<P: Plan> SearchedRuns<'_, P> {
         let mut text = Vec::new(alloc);
         write_inputs(found.inputs.as_slice(), &mut text).map_err(full)?;
         write_failing(&found.failures, found.round, &mut text).map_err(full)?;
-        write_missed(found, self.setup.nodes, &mut text).map_err(full)?;
+        let missed = missed_messages(alloc, found, self.setup.nodes)?;
+        write_missed(found, missed.as_slice(), &mut text).map_err(full)?;
         match self.report_of(alloc, found) {
             Ok(report) => {
                 self.write_outcome(alloc, name, found, &report, &mut text)?;
@@ -134,27 +136,27 @@ fn write_failing<W: Write>(failures: &[Failure], last: u32, out: &mut W) -> io::
 }
 
 /// Writes who misses whom in which round.
-fn write_missed<W: Write>(found: &Counterexample, nodes: u32, out: &mut W) -> io::Result<()> {
-    let mut listed = 0u32;
-    for before in 0..found.round {
-        for node in 0..nodes {
-            let round = before + 1;
-            let missed = missed_by(found, nodes, node, round);
-            if missed == NodeSet::empty() {
-                continue;
-            }
-            if listed >= MAX_LISTED {
-                return writeln!(out, "and more messages are missed");
-            }
-            listed = listed.saturating_add(1);
-            writeln!(
-                out,
-                "node {node} misses {} in round {round}",
-                Senders(missed)
-            )?;
+fn write_missed<W: Write>(
+    found: &Counterexample,
+    missed: &[Missed],
+    out: &mut W,
+) -> io::Result<()> {
+    for (place, one) in missed.iter().enumerate() {
+        if place >= MAX_LISTED {
+            return writeln!(out, "and more messages are missed");
         }
+        let Missed {
+            round,
+            node,
+            senders,
+        } = *one;
+        writeln!(
+            out,
+            "node {node} misses {} in round {round}",
+            Senders(senders)
+        )?;
     }
-    if listed > 0 {
+    if !missed.is_empty() {
         return Ok(());
     }
     if has_any_crashed(found) {
@@ -163,36 +165,12 @@ fn write_missed<W: Write>(found: &Counterexample, nodes: u32, out: &mut W) -> io
     writeln!(out, "no message is missed")
 }
 
-/// Whose messages of a round a node misses. The silence of nodes that crashed before isn't listed,
-/// nor what a node misses that has crashed itself or crashes in the round.
-fn missed_by(found: &Counterexample, nodes: u32, node: u32, round: u32) -> NodeSet {
-    let mut missed = NodeSet::empty();
-    if has_crashed(&found.failures, node, round) {
-        return missed;
-    }
-    for from in 0..nodes {
-        let is_silent = has_crashed(&found.failures, from, round.saturating_sub(1));
-        if !is_silent && found.omissions.is_omitted(node, round, from) {
-            missed = missed.with(from);
-        }
-    }
-    missed
-}
-
 /// Whether a node crashes up to the round in which the property fails.
 fn has_any_crashed(found: &Counterexample) -> bool {
     found.failures.iter().any(|failure| match failure {
         Failure::Crashes(round) => *round <= found.round,
         _ => false,
     })
-}
-
-/// Whether the node crashes in this round or an earlier one.
-fn has_crashed(failures: &[Failure], node: u32, round: u32) -> bool {
-    match failures.get(node as usize) {
-        Some(Failure::Crashes(crash)) => *crash <= round,
-        _ => false,
-    }
 }
 
 /// Writes the first decision that is no node's input.

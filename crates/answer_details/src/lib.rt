@@ -4,7 +4,9 @@
 
 mod decisions;
 mod details;
+mod failing_data;
 mod failing_run;
+mod missed;
 mod notes;
 mod table;
 mod text;
@@ -13,4 +15,4 @@ mod writing;
 pub use decisions::{write_split, write_taken_back};
 pub use details::{Details, details_of};
 pub use failing_run::SearchedRuns;
-pub use writing::write_detailed;
+pub use writing::{write_detailed, write_detailed_data};

@@ -1,12 +1,12 @@
 //! Answers with their details.
 ghost use Rattle.std.specs.Prelude.{OnOk, map, string_bytes};
 ghost use Rattle.std.specs.Io.KnownBytes.{Appends};
-ghost use Rattle.answer_details.specs.Texts.{answers_with, detailed_text, marked_line};
-ghost use Rattle.answer_details.specs.Texts.{marked_lines};
+ghost use Rattle.answer_details.specs.Texts.{answers_with, detailed_data, detailed_text};
+ghost use Rattle.answer_details.specs.Texts.{marked_line, marked_lines, object_with};
 
 use crate::details::Details;
 use command_words::AnswerFormat;
-use exploration_texts::{Told, write_answers};
+use exploration_texts::{Told, write_answers, write_members};
 use std::io;
 use std::io::Write;
 
@@ -42,6 +42,46 @@ fn write_with_runs<W: Write>(told: &[Told], runs: &[String], out: &mut W) -> io:
             }
         },
     }
+}
+
+/// Writes the object of each answer, with its run as a member if it has one.
+pub fn write_detailed_data<W: Write>(
+    told: &[Told],
+    details: &Details,
+    out: &mut W,
+) -> io::Result<()>
+    ensures { OnOk result (Appends (W.contents out.old) (W.contents out.new)
+        (detailed_data told.now (map (λ run. string_bytes run) details.now.runs.items))) }
+{
+    write_objects(told, &details.runs, out)
+}
+
+fn write_objects<W: Write>(told: &[Told], runs: &[String], out: &mut W) -> io::Result<()>
+    ensures { OnOk result (Appends (W.contents out.old) (W.contents out.new)
+        (detailed_data told.now (map (λ run. string_bytes run) runs.now))) }
+{
+    match runs {
+        [] => write_answers(told, AnswerFormat::Json, out),
+        [run, runs @ ..] => match told {
+            [] => Ok(()),
+            [first, told @ ..] => {
+                write_object(first, run.as_str(), out)?;
+                write_objects(told, runs, out)
+            }
+        },
+    }
+}
+
+/// Writes the object of an answer with its run, which may be empty.
+fn write_object<W: Write>(told: &Told, run: &str, out: &mut W) -> io::Result<()>
+    ensures { OnOk result (Appends (W.contents out.old) (W.contents out.new)
+        (object_with told.now run.now)) }
+{
+    write_members(told, out)?;
+    if run.is_empty() {
+        return writeln!(out, "}}");
+    }
+    writeln!(out, ",\"run\":{run}}}")
 }
 
 /// Writes the lines of a text, each after a mark.

@@ -2,11 +2,11 @@
 use Rattle.std.specs.Borrow.{Bor}
 use Rattle.std.specs.Prelude.{◌≡◌, ◌≢◌, ◌<◌, ◌⊎◌, ◌++◌, ◌&&◌, ⊤, ℕ, Bool, IfSome, List, None}
 use Rattle.std.specs.Prelude.{Option, Some, [], codes, false, get_or, if◌then◌else◌, is_none}
-use Rattle.std.specs.Prelude.{length, map, not, true}
+use Rattle.std.specs.Prelude.{length, map, not, string_bytes, true}
 use Rattle.std.specs.Fmt.{decimal}
 use Rattle.std.specs.Io.KnownBytes.{Appends}
 use Rattle.std.specs.List.{AllZip, list_all}
-use Rattle.answer_details.specs.Texts.{detailed_text}
+use Rattle.answer_details.specs.Texts.{detailed_data, detailed_text}
 use Rattle.answer_details.specs.declared.details.Details.{Details}
 use Rattle.command_runs.specs.Sources.{ShowsSource, SpellsTyped}
 use Rattle.command_runs.specs.Texts.{Files}
@@ -90,10 +90,12 @@ explored_as f (Some head) told = head_as f head ++ answers_as f told
 abbrev pub has_details : Exploring → Bool
 has_details e = not e.brief && is_none e.part
 
--- what is printed of answers and of their details, which are words
+-- what is printed of answers and of their details
 abbrev pub explored_with :
     AnswerFormat → Option PartHead → List Told → Option Details → List ℕ
 explored_with format.Text None told (Some details) = detailed_text told details
+explored_with format.Json None told (Some details) =
+    detailed_data told (map (λ run. string_bytes run) details.runs.items)
 explored_with f head told details = explored_as f head told
 
 -- the file has the answers of this part

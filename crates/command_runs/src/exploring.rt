@@ -22,7 +22,7 @@ use crate::sources::{Opened, SourceText};
 use crate::traces::try_trace_if_named;
 use adversary::RunFault;
 use answer_details::{Details, SearchedRuns, details_of};
-use command_words::{Exploring, Source};
+use command_words::{AnswerFormat, Exploring, Source};
 use exploration_texts::{
     Failed, Told, answer_all, commented, first_failure, question_digest, read_condition, stops_of,
 };
@@ -37,12 +37,13 @@ use slot_plans::{NamedPlan, Plan};
 use std::alloc::Global;
 use std::thread::Threads;
 
-/// A source, the file of a header, and what is asked of all runs.
+/// A source, the file of a header, what is asked of all runs, and in which format it's answered.
 #[derive(Clone, Copy)]
 pub(crate) struct Exploration<'a> {
     pub source: Source<'a>,
     pub header: &'a str,
     pub exploring: Exploring<'a>,
+    pub format: AnswerFormat,
 }
 
 /// What is told of the properties; if a trace is asked for and one fails, the schedule that shows
@@ -84,7 +85,7 @@ impl<'a> Exploration<'a> {
         let (program, setup, plan, head) = self.read(alloc, desk)?;
         try_trace_if_named(self.exploring.trace, self.source, self.header, desk)?;
         let watch = desk.watch();
-        let found = found_by(rt, alloc, &program, &setup, plan, &self.exploring, &watch)?;
+        let found = found_by(rt, alloc, &program, &setup, plan, self, &watch)?;
         Ok(Explored { head, found })
     }
 
@@ -167,21 +168,23 @@ fn found_by<R: Threads + Sync, W: Watch + Sync>(
     program: &Checked,
     setup: &Setup,
     kind: PlanKind,
-    exploring: &Exploring<'_>,
+    exploration: &Exploration<'_>,
     watch: &W,
 ) -> Result<Found, Refusal>
-    requires explorable { IsExplorable program.now setup.now exploring.now }
+    requires explorable { IsExplorable program.now setup.now exploration.now.exploring }
     ensures found { IfOk result (IsFound (receives_of kind) (start_of kind setup.now.nodes)
-        program.now setup.now kind exploring.now) }
+        program.now setup.now kind exploration.now.exploring) }
     ensures made { IfOk result (λ found.
-        IsMade exploring.now.trace found.told.items (trace_of found)) }
+        IsMade exploration.now.exploring.trace found.told.items (trace_of found)) }
     ensures detailed { IfOk result (λ found.
-        is_some found.details ≡ has_details exploring.now) }
-    ensures refused { IfErr result (IsNotExplored program.now setup.now kind exploring.now) }
+        is_some found.details ≡ has_details exploration.now.exploring) }
+    ensures refused { IfErr result
+        (IsNotExplored program.now setup.now kind exploration.now.exploring) }
 {
     let Some(plan) = NamedPlan::new(kind, setup.nodes) else {
         return Err(Refusal::Run(RunFault::BadSetup));
     };
+    let exploring = &exploration.exploring;
     let told = answer_all(rt, alloc, program, setup, exploring, watch)?;
     let trace = trace_for(alloc, setup, kind, plan, exploring.trace, &told)?;
     let runs = SearchedRuns {
@@ -189,7 +192,7 @@ fn found_by<R: Threads + Sync, W: Watch + Sync>(
         setup,
         plan,
     };
-    let details = details_for(alloc, &runs, exploring, &told)?;
+    let details = details_for(alloc, &runs, exploring, exploration.format, &told)?;
     Ok(Found {
         told,
         trace,
@@ -202,6 +205,7 @@ fn details_for<P: Plan>(
     alloc: Global,
     runs: &SearchedRuns<'_, P>,
     exploring: &Exploring<'_>,
+    format: AnswerFormat,
     told: &[Told],
 ) -> Result<Option<Details>, NoMemory>
     requires plan { P.nodes runs.now.plan ≡ runs.now.setup.now.nodes }
@@ -212,7 +216,7 @@ fn details_for<P: Plan>(
     if exploring.brief || exploring.part.is_some() {
         return Ok(None);
     }
-    Ok(Some(details_of(alloc, runs, exploring, told)?))
+    Ok(Some(details_of(alloc, runs, exploring, format, told)?))
 }
 
 /// Whether the numbers are within their limits.

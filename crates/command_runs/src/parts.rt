@@ -16,7 +16,7 @@ use crate::part_refusal::PartRefusal;
 use crate::refusal::Refusal;
 use crate::run::written;
 use crate::texts::{Unfit, read_whole};
-use answer_details::{Details, write_detailed};
+use answer_details::{Details, write_detailed, write_detailed_data};
 use command_words::AnswerFormat;
 use exploration_texts::{Told, write_answers};
 use part_answers::{
@@ -61,8 +61,8 @@ fn write_whole<O: Write>(
 {
     match (format, details) {
         (AnswerFormat::Text, Some(details)) => write_detailed(told, details, out),
-        (AnswerFormat::Text, None) => write_answers(told, AnswerFormat::Text, out),
-        (AnswerFormat::Json, _) => write_answers(told, AnswerFormat::Json, out),
+        (AnswerFormat::Json, Some(details)) => write_detailed_data(told, details, out),
+        (_, None) => write_answers(told, format, out),
     }
 }
 

@@ -257,8 +257,9 @@ fn carry_out<'a, R: Threads + Wait + Sync, D: Desk, O: Write>(
                 source,
                 header,
                 exploring,
+                format,
             };
-            explore(rt, alloc, exploration, format, desk, out)
+            explore(rt, alloc, exploration, desk, out)
         }
         Words::Together { files } => put_together(alloc, files.as_slice(), desk, out),
     }
@@ -418,24 +419,24 @@ fn run_rounds<'a, D: Desk, O: Write>(
     tell_report(alloc, &report, form, out)
 }
 
-/// Prints what is found in all runs with its details, and then writes the schedule that shows a property failing,
-/// also if `out` took no more.
+/// Prints what is found in all runs with its details, and then writes the schedule that shows a
+/// property failing, also if `out` took no more.
 fn explore<'a, R: Threads + Sync, D: Desk, O: Write>(
     rt: &R,
     alloc: Global,
     exploration: Exploration<'a>,
-    format: AnswerFormat,
     desk: &mut D,
     out: &mut O,
 ) -> Result<Outcome, Refusal>
     ensures served { IfOk result (λ o. Ends (Words.Explore exploration.entry.source
-        exploration.entry.header exploration.entry.exploring format)
+        exploration.entry.header exploration.entry.exploring exploration.entry.format)
         (D.files desk.old) (D.files desk.new) o (O.contents out.old) (O.contents out.new)) }
     ensures refused { IfErr result (IsRefusedCommand (Words.Explore exploration.entry.source
-        exploration.entry.header exploration.entry.exploring format) (D.files desk.old)) }
+        exploration.entry.header exploration.entry.exploring exploration.entry.format)
+        (D.files desk.old)) }
     ensures left { IfErr result (LeftBySearch exploration.entry.source (D.files desk.old)
-        (D.files desk.old exploration.entry.header.now) exploration.entry.exploring format
-        (O.contents out.old) (O.contents out.new)) }
+        (D.files desk.old exploration.entry.header.now) exploration.entry.exploring
+        exploration.entry.format (O.contents out.old) (O.contents out.new)) }
     ensures written { MayWriteTrace exploration.entry.exploring.trace
         (D.written desk.old) (D.written desk.new) }
     ensures apart { (D.written desk.new ≡ D.written desk.old)
@@ -444,6 +445,7 @@ fn explore<'a, R: Threads + Sync, D: Desk, O: Write>(
     ensures traced { IfOk result (λ o. WritesTrace exploration.entry.exploring.trace o
         (D.written desk.old) (D.written desk.new)) }
 {
+    let format = exploration.format;
     let Explored { head, found } = exploration.find(rt, alloc, desk)?;
     let Found {
         told,

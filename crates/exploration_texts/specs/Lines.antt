@@ -43,11 +43,14 @@ answer_data HoldsInAllRounds = codes "true,\"round\":null,\"rounds\":\"all\""
 answer_data (Fails c) = codes "false,\"round\":" ++ decimal c.round
 answer_data (NotFound n) = codes "null,\"round\":null,\"runs\":" ++ decimal n
 
--- the property and its answer as an object, `{"property":"final","holds":false,"round":2}`
+-- the property and its answer as an object without its end
+abbrev pub told_members : Told → List ℕ
+told_members t =
+    codes "{\"property\":\"" ++ name_text t.name ++ codes "\",\"holds\":" ++ answer_data t.answer
+
+-- the whole object, `{"property":"final","holds":false,"round":2}`
 abbrev pub told_data : Told → List ℕ
-told_data t =
-    codes "{\"property\":\"" ++ name_text t.name ++ codes "\",\"holds\":"
-    ++ answer_data t.answer ++ codes "}\n"
+told_data t = told_members t ++ codes "}\n"
 
 -- an object a line for each property
 abbrev pub answers_data : List Told → List ℕ

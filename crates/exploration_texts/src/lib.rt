@@ -14,5 +14,5 @@ pub use asking::{inputs_of, question_of};
 pub use condition::{ConditionFault, read_condition};
 pub use question::question_digest;
 pub use stops::stops_of;
-pub use told::{Answered, Failed, Told, first_failure, write_answers};
+pub use told::{Answered, Failed, Told, first_failure, write_answers, write_members};
 pub use trace::commented;

@@ -2,7 +2,7 @@
 ghost use Rattle.std.specs.Prelude.{◌≡◌, IfNone, IfSome, OnOk, true};
 ghost use Rattle.std.specs.Io.KnownBytes.{Appends};
 ghost use Rattle.exploration_texts.specs.Lines.{answers_as, answers_data, answers_text, told_data};
-ghost use Rattle.exploration_texts.specs.Lines.{told_line};
+ghost use Rattle.exploration_texts.specs.Lines.{told_line, told_members};
 ghost use Rattle.exploration_texts.specs.Told.{IsFirstNo, all_hold, name_of};
 
 use command_words::AnswerFormat;
@@ -158,31 +158,40 @@ fn write_object<W: Write>(told: &Told, out: &mut W) -> io::Result<()>
     ensures { OnOk result
         (Appends (W.contents out.old) (W.contents out.new) (told_data told.now)) }
 {
+    write_members(told, out)?;
+    writeln!(out, "}}")
+}
+
+/// Writes the object of a property and its answer, but for its end: more members may follow.
+pub fn write_members<W: Write>(told: &Told, out: &mut W) -> io::Result<()>
+    ensures { OnOk result
+        (Appends (W.contents out.old) (W.contents out.new) (told_members told.now)) }
+{
     let name = told.name.as_str();
     match &told.answer {
         Answered::Holds => {
-            writeln!(
+            write!(
                 out,
-                "{{\"property\":\"{name}\",\"holds\":true,\"round\":null}}"
+                "{{\"property\":\"{name}\",\"holds\":true,\"round\":null"
             )
         }
         Answered::HoldsInAllRounds => {
-            writeln!(
+            write!(
                 out,
-                "{{\"property\":\"{name}\",\"holds\":true,\"round\":null,\"rounds\":\"all\"}}"
+                "{{\"property\":\"{name}\",\"holds\":true,\"round\":null,\"rounds\":\"all\""
             )
         }
         Answered::NotFound(runs) => {
-            writeln!(
+            write!(
                 out,
-                "{{\"property\":\"{name}\",\"holds\":null,\"round\":null,\"runs\":{runs}}}"
+                "{{\"property\":\"{name}\",\"holds\":null,\"round\":null,\"runs\":{runs}"
             )
         }
         Answered::Fails(found) => {
             let round = found.round;
-            writeln!(
+            write!(
                 out,
-                "{{\"property\":\"{name}\",\"holds\":false,\"round\":{round}}}"
+                "{{\"property\":\"{name}\",\"holds\":false,\"round\":{round}"
             )
         }
     }

@@ -47,9 +47,7 @@ fn run<R: Threads + Wait + Sync>(
         ["help", "test"] => {
             test_words(starter, alloc, &["--help"], &mut desk, &mut out, &mut err)
         }
-        ["test", words @ ..] => {
-            test_words(starter, alloc, words, &mut desk, &mut out, &mut err)
-        }
+        ["test", words @ ..] => { test_words(starter, alloc, words, &mut desk, &mut out, &mut err) }
         command => {
             let status = run_or_explain(starter, alloc, command, &mut desk, &mut out, &mut err);
             tell_of_why(alloc, status, command, &mut err);

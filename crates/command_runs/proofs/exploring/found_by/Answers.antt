@@ -11,21 +11,21 @@ pub trace_for-requires-clause-showable : goal.trace_for-requires-clause-showable
 trace_for-requires-clause-showable g c =
     let s = c.args.setup.now in
     subst (All (IsToldToShow s)) (sym c.deref.ensures.value)
-    (answers_shown c.args.program.now s c.args.exploring.now c.in_ok-told.told.items
+    (answers_shown c.args.program.now s c.args.exploration.now.exploring c.in_ok-told.told.items
     c.requires.explorable.0.sized c.in_ok-told.ensures.told)
 
 pub details_for-requires-clause-showable : goal.details_for-requires-clause-showable
 details_for-requires-clause-showable g c =
     let s = c.args.setup.now in
     subst (All (IsToldToShow s)) (sym c.deref-2.ensures.value)
-    (answers_shown c.args.program.now s c.args.exploring.now c.in_ok-told.told.items
+    (answers_shown c.args.program.now s c.args.exploration.now.exploring c.in_ok-told.told.items
     c.requires.explorable.0.sized c.in_ok-told.ensures.told)
 
 pub returns-clause-made : goal.returns-clause-made
 returns-clause-made g c =
     let plan = c.in-Some.plan in
     trace_made (receives_of (kind_of plan)) (start_of (kind_of plan) (nodes_of plan))
-    c.args.setup.now c.args.kind c.args.exploring.now.trace c.in_ok-told.told.items _
+    c.args.setup.now c.args.kind c.args.exploration.now.exploring.trace c.in_ok-told.told.items _
     (rw (← c.deref.ensures.value) c.in_ok-trace.ensures)
 
 pub returns-clause-found : goal.returns-clause-found
@@ -33,7 +33,7 @@ returns-clause-found g c =
     let p = c.args.program.now in
     let s = c.args.setup.now in
     let k = c.args.kind in
-    let e = c.args.exploring.now in
+    let e = c.args.exploration.now.exploring in
     let made = c.in-Some.ensures.made in
     let plan = c.in-Some.plan in
     let found : Found = record {
