@@ -146,8 +146,10 @@ class Program:
             else self.command([*path, name])
             for name, told in entries(lists.pop("Commands", []))
         ]
-        if not path and "why" not in [it.name for it in commands]:
-            commands += self.why()
+        if not path:
+            listed = [it.name for it in commands]
+            commands += [] if "why" in listed else self.why()
+            commands += [] if "test" in listed else self.test()
         options = [option_of(*it, usage) for them in lists.values() for it in entries(them)]
         return Command(path, about, arguments, options, commands)
 
@@ -159,3 +161,11 @@ class Program:
         except BadHelp:
             return []
         return [Command(["why"], about, [Argument("COMMAND", "", [], True, True)], [], [])]
+
+    def test(self):
+        """Returns the command that runs transcripts and that `help` doesn't list, if the program
+        has it."""
+        try:
+            return [self.command(["test"])]
+        except BadHelp:
+            return []

@@ -512,7 +512,8 @@ fn bare_command<'a>(alloc: Global) -> Result<Command<'a>, AllocError>
             .propagate_version(true)
             .about(
                 "Runs algorithms written in rounds, step by step. roundc why COMMAND .. says why \
-                 COMMAND is refused, and where",
+                 COMMAND is refused, and where. roundc test FILE .. runs transcripts of commands, \
+                 and compares what they print",
             )
             .no_binary_name(true)
             .subcommand_required(true),
