@@ -8,7 +8,6 @@
 mod case_desk;
 mod common_lines;
 mod difference;
-mod escaped;
 mod finding;
 mod options;
 mod printed;

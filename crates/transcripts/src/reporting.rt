@@ -1,8 +1,8 @@
 //! Printing what became of the commands of a transcript.
 use crate::difference::Difference;
-use crate::escaped::Escaped;
 use crate::options::Format;
 use crate::tested::{Tested, TestedFile};
+use run_picture::Escaped;
 use serde_json::Value;
 use std::alloc::{AllocError, Global};
 use std::io;
