@@ -10,11 +10,12 @@ use crate::condition::{ConditionFault, read_condition};
 use crate::told::{Answered, Told, name_of};
 use command_words::{Checks, Exploring, SampleChoice};
 use round_check::Checked;
-use round_explorer::{AskedInputs, Property, Question, Watch, explore_by_jobs};
+use round_explorer::{AskedInputs, Property, Question, Watch};
 use round_lang::Formula;
 use round_meaning::Setup;
 use run_events::NoMemory;
 use run_samples::{Sampled, Sampling, sample as sample_runs, shrink};
+use set_search::explore_by_sets;
 use std::alloc::Global;
 use std::thread::Threads;
 
@@ -210,7 +211,7 @@ impl<'a> Search<'a> {
         requires all { self.now.sample ≡ None }
         ensures { IfOk result (IsAnswerOf self.now property.entry) }
     {
-        let answer = explore_by_jobs(
+        let answer = explore_by_sets(
             rt,
             self.jobs,
             alloc,
