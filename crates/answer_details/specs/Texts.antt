@@ -1,9 +1,10 @@
 -- Answers as they are printed with their details.
-use Rattle.std.specs.Prelude.{◌++◌, ◌∷◌, [], ℕ, List, codes, map, string_bytes}
+use Rattle.std.specs.Prelude.{◌++◌, ◌∷◌, ◌==◌, [], ℕ, List, codes, length, map, string_bytes}
+use Rattle.std.specs.Prelude.{if◌then◌else◌}
 use Rattle.std.specs.List.{flat_map}
 use Rattle.std.specs.Str.Lines.{lines}
 use Rattle.answer_details.specs.declared.details.Details.{Details}
-use Rattle.exploration_texts.specs.Lines.{answers_data, answers_text, told_data, told_line}
+use Rattle.exploration_texts.specs.Lines.{answers_data, answers_text, told_line}
 use Rattle.exploration_texts.specs.Lines.{told_members}
 use Rattle.exploration_texts.specs.declared.told.Told.{Told}
 
@@ -25,10 +26,13 @@ answers_with told [] = answers_text told
 answers_with [] (run ∷ runs) = []
 answers_with (t ∷ ts) (run ∷ runs) = told_line t ++ run_lines run ++ answers_with ts runs
 
--- the object of an answer, with its run as one more member if there is one
+-- the run as one more member of an object, if there is one
+abbrev pub run_member : (run : List ℕ) → List ℕ
+run_member run = if length run == 0 then [] else codes ",\"run\":" ++ run
+
+-- the object of an answer with its run
 abbrev pub object_with : Told → (run : List ℕ) → List ℕ
-object_with t [] = told_data t
-object_with t (c ∷ run) = told_members t ++ codes ",\"run\":" ++ (c ∷ run) ++ codes "}\n"
+object_with t run = told_members t ++ run_member run ++ codes "}\n"
 
 -- the objects of the answers, each with its run
 abbrev pub detailed_data : List Told → (runs : List (List ℕ)) → List ℕ

@@ -2,7 +2,7 @@
 ghost use Rattle.std.specs.Prelude.{OnOk, map, string_bytes};
 ghost use Rattle.std.specs.Io.KnownBytes.{Appends};
 ghost use Rattle.answer_details.specs.Texts.{answers_with, detailed_data, detailed_text};
-ghost use Rattle.answer_details.specs.Texts.{marked_line, marked_lines, object_with};
+ghost use Rattle.answer_details.specs.Texts.{marked_line, marked_lines, object_with, run_member};
 
 use crate::details::Details;
 use command_words::AnswerFormat;
@@ -78,10 +78,19 @@ fn write_object<W: Write>(told: &Told, run: &str, out: &mut W) -> io::Result<()>
         (object_with told.now run.now)) }
 {
     write_members(told, out)?;
+    write_run(run, out)?;
+    writeln!(out, "}}")
+}
+
+/// Writes a run as one more member of an object, unless it's empty.
+fn write_run<W: Write>(run: &str, out: &mut W) -> io::Result<()>
+    ensures { OnOk result
+        (Appends (W.contents out.old) (W.contents out.new) (run_member run.now)) }
+{
     if run.is_empty() {
-        return writeln!(out, "}}");
+        return Ok(());
     }
-    writeln!(out, ",\"run\":{run}}}")
+    write!(out, ",\"run\":{run}")
 }
 
 /// Writes the lines of a text, each after a mark.
