@@ -120,10 +120,10 @@ fn write_rows(alloc: Global, report: &Report, out: &mut Vec<u8>) -> Result<(), N
     let Ok(text) = from_utf8(printed.as_slice()) else {
         return Ok(());
     };
-    let mut comma = "";
-    for line in text.lines().take(report.rows.as_slice().len()) {
+    let rows = text.lines().take(report.rows.as_slice().len());
+    for (place, line) in rows.enumerate() {
+        let comma = if place > 0 { "," } else { "" };
         write!(out, "{comma}{line}").map_err(full)?;
-        comma = ",";
     }
     Ok(())
 }
