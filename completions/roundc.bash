@@ -90,7 +90,7 @@ _roundc_options() {
         'run' | \
         'why run') options='--schedule --decided --format --by --vars --changed -h --help -V --version' ;;
         'draw' | \
-        'why draw') options='--schedule --rounds --nodes --html -h --help -V --version' ;;
+        'why draw') options='--schedule --rounds --nodes --grid --html -h --help -V --version' ;;
         'threads' | \
         'why threads') options='--setup --trace --decided -h --help -V --version' ;;
         'judge' | \

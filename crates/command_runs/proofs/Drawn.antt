@@ -1,5 +1,5 @@
 -- From the run of a schedule to its picture, and to why there is none.
-use Rattle.std.proofs.Common.{◌≡◌, ◌⊎◌, inl, inr, ℕ, List, Option, None, Some, refl}
+use Rattle.std.proofs.Common.{◌≡◌, inl, inr, ℕ, List, Option, None, Some, refl}
 use Rattle.std.proofs.Common.{Err, Ok, Result, subst, sym}
 use Rattle.std.specs.Borrow.{Bor}
 use Rattle.std.specs.Prelude.{IfOk, IfSome}
@@ -73,18 +73,11 @@ module _ (p : ProgramTree) (s : Setup) (k : PlanKind) (r : Reading) (d : Drawing
   undrawn_read (read.Run run.NoThread) none = absurd none.1.1
   undrawn_read (read.Run run.Unmatched) none = absurd none.1.1
 
-  -- a run that was made isn't drawn for want of memory, or for its many events
-  pub undrawn_report : (x : Refusal) → IsLawful p.values s
-      → ((events : List Event) × IsScheduleOf s r events)
-      → (x ≡ refusal.NoMemory) ⊎ (x ≡ refusal.TooManyEvents)
-      → StopsSchedule (λ events y. IsNotDrawn p s k events d y) s r x
-  undrawn_report x lawful ran (inl same) =
+  -- a run that was made isn't drawn for want of memory
+  pub undrawn_report : (x : Refusal) → ((events : List Event) × IsScheduleOf s r events)
+      → x ≡ refusal.NoMemory → StopsSchedule (λ events y. IsNotDrawn p s k events d y) s r x
+  undrawn_report x ran same =
       inr (ran.0, ran.1, subst (λ (y : Refusal). IsNotDrawn p s k ran.0 d y) (sym same) tt)
-  undrawn_report x lawful ran (inr same) = inr (
-    ran.0,
-    ran.1,
-    subst (λ (y : Refusal). IsNotDrawn p s k ran.0 d y) (sym same) (drawable lawful),
-  )
 
 -- what holds whatever the answer is
 pub drawn_always : {T E P : Type 0} (r : Result T E) → P → IfOk r (λ _. P)
@@ -166,7 +159,6 @@ module _ (source : Source) (files : Files) (schedule : Bor (List ℕ)) (d : Draw
   draw_refused refusal.NoSuchProgram h = h
   draw_refused (refusal.Run f) h = h
   draw_refused (refusal.Part cause) h = h
-  draw_refused refusal.TooManyEvents h = h
   draw_refused (refusal.Trace f) h = h
   draw_refused refusal.NoVariable h = h
   draw_refused refusal.NoMemory h = h

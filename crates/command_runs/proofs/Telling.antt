@@ -61,7 +61,6 @@ silent_same x (refusal.Library f) = keeps_same x
 silent_same x refusal.NoSuchProgram = keeps_same x
 silent_same x (refusal.Run f) = keeps_same x
 silent_same x (refusal.Part cause) = keeps_same x
-silent_same x refusal.TooManyEvents = keeps_same x
 silent_same x (refusal.Trace f) = keeps_same x
 silent_same x refusal.NoVariable = keeps_same x
 silent_same x refusal.NoMemory = keeps_same x
@@ -274,7 +273,6 @@ run_refused source files schedule told (refusal.Library f) h = inl h
 run_refused source files schedule told refusal.NoSuchProgram h = inl h
 run_refused source files schedule told (refusal.Run f) h = inl h
 run_refused source files schedule told (refusal.Part cause) h = inl h
-run_refused source files schedule told refusal.TooManyEvents h = inl h
 run_refused source files schedule told (refusal.Trace f) h = inl h
 run_refused source files schedule told refusal.NoVariable (named, (answer.Report report shown, h)) =
     inr (named, (report, h.1))
@@ -330,7 +328,6 @@ module _ (source : Source) (files : Files) (schedule : Bor (List ℕ)) (correct 
   judge_refused refusal.NoSuchProgram h = unanswered refusal.NoSuchProgram h
   judge_refused (refusal.Run e) h = unanswered (refusal.Run e) h
   judge_refused (refusal.Part cause) h = unanswered (refusal.Part cause) h
-  judge_refused refusal.TooManyEvents h = unanswered refusal.TooManyEvents h
   judge_refused (refusal.Trace e) h = unanswered (refusal.Trace e) h
   judge_refused refusal.NoVariable h = absurd h.0
   judge_refused refusal.NoMemory h = unanswered refusal.NoMemory h

@@ -134,7 +134,6 @@ together_refused files names (refusal.Library f) h = h
 together_refused files names refusal.NoSuchProgram h = h
 together_refused files names (refusal.Run f) h = h
 together_refused files names (refusal.Part cause) h = h
-together_refused files names refusal.TooManyEvents h = h
 together_refused files names (refusal.Trace f) h = h
 together_refused files names refusal.NoVariable h = h
 together_refused files names refusal.NoMemory h = h

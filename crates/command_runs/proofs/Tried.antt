@@ -105,7 +105,6 @@ module _ (source : Source) (files : Files) (file : Option (List ℕ)) where
   threads_refused (refusal.Library f) h = h
   threads_refused refusal.NoSuchProgram h = h
   threads_refused (refusal.Part cause) h = h
-  threads_refused refusal.TooManyEvents h = h
   threads_refused (refusal.Trace f) h = h
   threads_refused refusal.NoVariable h = h
   threads_refused (refusal.Run f) h = h
@@ -173,7 +172,6 @@ module _ (source : Source) (files : Files) (file : Option (List ℕ)) (e : Explo
   search_refused (refusal.Library f) h = h
   search_refused refusal.NoSuchProgram h = h
   search_refused (refusal.Part cause) h = h
-  search_refused refusal.TooManyEvents h = h
   search_refused (refusal.Trace f) h = h
   search_refused refusal.NoVariable h = h
   search_refused (refusal.Run f) h = h
@@ -217,7 +215,6 @@ module _ (source : Source) (files : Files) (header : Bor (List ℕ)) (e : Explor
   explore_refused (refusal.Library f) h = h
   explore_refused refusal.NoSuchProgram h = h
   explore_refused (refusal.Part cause) h = h
-  explore_refused refusal.TooManyEvents h = h
   explore_refused (refusal.Trace f) h =
       absurd (not_in_turn kinds.Header (λ p s k t r. IsNotExplored p s k e r) source files
       (files header.now) (refusal.Trace f) (last_trace f) (λ p s k t none. none) h)

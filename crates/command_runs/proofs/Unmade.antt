@@ -97,7 +97,6 @@ unmade_told s files header omissions t (refusal.Schedule f) h = h
 unmade_told s files header omissions t (refusal.Library f) h = h
 unmade_told s files header omissions t refusal.NoSuchProgram h = h
 unmade_told s files header omissions t (refusal.Part cause) h = h
-unmade_told s files header omissions t refusal.TooManyEvents h = h
 unmade_told s files header omissions t (refusal.Trace f) h = h
 unmade_told s files header omissions t refusal.NoVariable h = h
 unmade_told s files header omissions t (refusal.Run f) h = h
@@ -150,7 +149,6 @@ module _ (from : Source) (files : Files) (header : Bor (List ℕ)) (correct : Ve
   lockstep_refused (refusal.Library f) h = unmade (refusal.Library f) h
   lockstep_refused refusal.NoSuchProgram h = unmade refusal.NoSuchProgram h
   lockstep_refused (refusal.Part cause) h = unmade (refusal.Part cause) h
-  lockstep_refused refusal.TooManyEvents h = unmade refusal.TooManyEvents h
   lockstep_refused (refusal.Trace f) h = unmade (refusal.Trace f) h
   lockstep_refused refusal.NoVariable h = unmade refusal.NoVariable h
   lockstep_refused (refusal.Run f) h = unmade (refusal.Run f) h

@@ -94,7 +94,6 @@ show_refused s files (refusal.Library f) h = h
 show_refused s files refusal.NoSuchProgram h = h
 show_refused s files (refusal.Run f) h = h
 show_refused s files (refusal.Part cause) h = h
-show_refused s files refusal.TooManyEvents h = h
 show_refused s files (refusal.Trace f) h = h
 show_refused s files refusal.NoVariable h = h
 show_refused s files refusal.NoMemory h = h

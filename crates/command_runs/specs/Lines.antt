@@ -13,8 +13,7 @@ use Rattle.command_runs.specs.declared.refusal.Refusal.TheVariants.{Condition}
 use Rattle.command_runs.specs.declared.refusal.Refusal.TheVariants.{Schedule, Library}
 use Rattle.command_runs.specs.declared.refusal.Refusal.TheVariants.{NoSuchProgram, Run, Write}
 use Rattle.command_runs.specs.declared.refusal.Refusal.TheVariants.{NoMemory, NodeNoMemory}
-use Rattle.command_runs.specs.declared.refusal.Refusal.TheVariants.{NoVariable, Part, TooManyEvents}
-use Rattle.command_runs.specs.declared.refusal.Refusal.TheVariants.{Trace}
+use Rattle.command_runs.specs.declared.refusal.Refusal.TheVariants.{NoVariable, Part, Trace}
 use Rattle.command_runs.specs.declared.trace_fault.TraceFault.{TraceFault}
 use Rattle.command_runs.specs.declared.trace_fault.TraceFault.TheVariants as trace
 use Rattle.command_words.specs.Lines.{words_line}
@@ -79,11 +78,6 @@ run_line run.NoMemory = memory_line
 run_line run.NoThread = codes "refused run 5\n"
 run_line run.Unmatched = codes "refused run 6\n"
 
--- why a run isn't drawn
-abbrev pub many_events : List ℕ
-many_events =
-    codes "a run of more than 400 events is drawn for some rounds only; give --rounds A-B"
-
 -- why a table isn't made
 abbrev pub no_variable : List ℕ
 no_variable = codes "LIST of --vars is names of the program's variables with commas between them"
@@ -131,7 +125,6 @@ line_of (Library fault) = Some (library_line fault)
 line_of NoSuchProgram = Some (codes "refused library 3\n")
 line_of (Run fault) = Some (run_line fault)
 line_of (Part cause) = Some (part_line cause)
-line_of TooManyEvents = Some (codes "refused picture: " ++ many_events ++ codes "\n")
 line_of NoVariable = Some (codes "refused table: " ++ no_variable ++ codes "\n")
 line_of (Trace fault) = Some (trace_line fault)
 line_of Write = Some (codes "refused write\n")

@@ -231,13 +231,11 @@ pub record IsDrawable (p : ProgramTree) (s : Setup) (k : PlanKind) (d : Drawing)
   pub plan : IsPlan k
   pub shown : IsShownOf s d
 
--- why a run isn't drawn: a bad setup, else the first event that names what the setup hasn't; or it
--- has too many events, of whose number nothing more is said
+-- why a run isn't drawn: a bad setup, else the first event that names what the setup hasn't
 abbrev pub IsNotDrawn : ProgramTree → Setup → PlanKind → List Event → Drawing → Refusal → Type 0
 IsNotDrawn p s k events d (refusal.Run run.BadSetup) = ¬ (IsDrawable p s k d)
 IsNotDrawn p s k events d (refusal.Run fault) =
     (¬ ¬ (IsDrawable p s k d)) × IsUnknownAt s events fault
-IsNotDrawn p s k events d refusal.TooManyEvents = IsDrawable p s k d
 IsNotDrawn p s k events d refusal.NoMemory = ⊤
 IsNotDrawn p s k events d _ = ⊥
 

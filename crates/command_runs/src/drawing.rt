@@ -1,5 +1,5 @@
 //! The picture of the run of a schedule.
-ghost use Rattle.std.specs.Prelude.{◌≡◌, ◌≤◌, ◌↔◌, ◌⊎◌, ℕ, IfErr, IfNone, IfOk, IfSome, IsTrue};
+ghost use Rattle.std.specs.Prelude.{◌≡◌, ◌≤◌, ◌↔◌, ℕ, IfErr, IfNone, IfOk, IfSome, IsTrue};
 ghost use Rattle.std.specs.Prelude.{OnOk, Some};
 ghost use Rattle.command_runs.specs.Refused.{IsMissing, IsNotDrawn, IsRefusedCommand, IsSilent};
 ghost use Rattle.command_runs.specs.Refused.{IsUndrawn};
@@ -24,6 +24,7 @@ use omission_explainer::Report;
 use round_check::Checked;
 use round_meaning::Setup;
 use run_events::NoMemory;
+use run_grid::{GridSheet, write_grid};
 use run_picture::{PictureFault, View, write_picture};
 use schedule_text::{ScheduleReader, TextSource};
 use slot_plans::{NamedPlan, Plan};
@@ -176,7 +177,8 @@ fn shown_rounds(rounds: Option<RoundRange>) -> Option<run_picture::RoundRange> {
     }
 }
 
-/// The text of a picture, made whole before any of it goes out.
+/// The text of a picture, made whole before any of it goes out: of the single steps, or of the
+/// rounds if that is asked for or the run has too many events.
 fn draw_report<P: Plan>(
     alloc: Global,
     report: &Report,
@@ -184,24 +186,36 @@ fn draw_report<P: Plan>(
     sheet: Sheet<'_>,
     view: &View,
 ) -> Result<Vec<u8>, Refusal>
-    ensures { IfErr result (λ r. (r ≡ Refusal.NoMemory) ⊎ (r ≡ Refusal.TooManyEvents)) }
+    ensures { IfErr result (λ r. r ≡ Refusal.NoMemory) }
 {
     let title = title_of(alloc, sheet.run)?;
+    let grid = GridSheet {
+        title: title.as_str(),
+        rounds: book.setup().rounds,
+        view: *view,
+        is_instead: !sheet.drawing.grid,
+    };
+    if sheet.drawing.grid {
+        return draw_grid(alloc, report, &grid);
+    }
     let mut text = Vec::new(alloc);
-    match write_picture(
-        alloc,
-        report,
-        book,
-        sheet.text,
-        title.as_str(),
-        view,
-        &mut text,
-    ) {
+    match write_picture(alloc, report, book, sheet.text, grid.title, view, &mut text) {
         Ok(()) => Ok(text),
-        Err(PictureFault::TooManyEvents) => Err(Refusal::TooManyEvents),
-        Err(PictureFault::NoMemory) => Err(Refusal::NoMemory),
+        Err(PictureFault::TooManyEvents) => draw_grid(alloc, report, &grid),
         // What is written to memory fails only for want of it.
-        Err(PictureFault::Write) => Err(Refusal::NoMemory),
+        Err(PictureFault::NoMemory | PictureFault::Write) => Err(Refusal::NoMemory),
+    }
+}
+
+/// The text of a grid.
+fn draw_grid(alloc: Global, report: &Report, sheet: &GridSheet<'_>) -> Result<Vec<u8>, Refusal>
+    ensures { IfErr result (λ r. r ≡ Refusal.NoMemory) }
+{
+    let mut text = Vec::new(alloc);
+    match write_grid(alloc, report, sheet, &mut text) {
+        Ok(()) => Ok(text),
+        // What is written to memory fails only for want of it.
+        Err(_) => Err(Refusal::NoMemory),
     }
 }
 

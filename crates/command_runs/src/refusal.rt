@@ -38,8 +38,6 @@ pub enum Refusal {
     Run(RunFault),
     /// The answers of parts make no whole.
     Part(PartRefusal),
-    /// The run has more events than are drawn at once.
-    TooManyEvents,
     /// A list of a table's variables has a name that is that of none.
     NoVariable,
     /// The answers of a search were printed, and the schedule that shows a failure isn't written.
@@ -50,10 +48,6 @@ pub enum Refusal {
     /// The thread of a node ended out of memory, so that its run isn't whole.
     NodeNoMemory,
 }
-
-/// Why a run isn't drawn.
-const MANY_EVENTS: &str =
-    "a run of more than 400 events is drawn for some rounds only; give --rounds A-B";
 
 /// Why a table isn't made.
 const NO_VARIABLE: &str =
@@ -96,7 +90,6 @@ impl fmt::Display for Refusal {
             Refusal::NoSuchProgram => writeln!(f, "refused library 3"),
             Refusal::Run(fault) => write_run(*fault, f),
             Refusal::Part(cause) => write_part_refusal(*cause, f),
-            Refusal::TooManyEvents => writeln!(f, "refused picture: {}", MANY_EVENTS),
             Refusal::NoVariable => writeln!(f, "refused table: {}", NO_VARIABLE),
             Refusal::Trace(fault) => write_trace_fault(*fault, f),
             Refusal::Write => writeln!(f, "refused write"),

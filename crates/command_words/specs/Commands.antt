@@ -63,12 +63,12 @@ judge_app =
     source_rule) (text_rule (codes "schedule"))) (text_rule (codes "correct")))
     (text_rule (codes "delta"))) (text_rule (codes "gst"))) format_rule
 
--- `draw SOURCE --schedule FILE [--rounds RANGE] [--nodes LIST] [--html]`
+-- `draw SOURCE --schedule FILE [--rounds RANGE] [--nodes LIST] [--grid] [--html]`
 abbrev pub draw_app : App
 draw_app =
-    with_rule (with_rule (with_rule (with_rule (with_rule (new_app (codes "draw")) source_rule)
-    (text_rule (codes "schedule"))) (optional_rule (codes "rounds")))
-    (optional_rule (codes "nodes"))) (flag_rule (codes "html"))
+    with_rule (with_rule (with_rule (with_rule (with_rule (with_rule (new_app (codes "draw"))
+    source_rule) (text_rule (codes "schedule"))) (optional_rule (codes "rounds")))
+    (optional_rule (codes "nodes"))) (flag_rule (codes "grid"))) (flag_rule (codes "html"))
 
 -- `lockstep SOURCE --header FILE --correct LIST --delta D --gst G`
 abbrev pub required_lockstep_app : App

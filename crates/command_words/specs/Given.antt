@@ -80,6 +80,7 @@ GivesRange rows (Some range) =
 pub record GivesDrawing (rows : List Row) (d : Drawing) : Type 0 where
   pub rounds : GivesRange rows d.rounds
   pub nodes : GivesTable (codes "nodes") rows d.nodes.items
+  pub grid : IsTrue d.grid ↔ HasFlag (codes "grid") rows
   pub html : IsTrue d.html ↔ HasFlag (codes "html") rows
 
 -- the format of an answer, which is text without `--format`

@@ -277,7 +277,7 @@ fn run_command<'a>(alloc: Global) -> Result<Command<'a>, AllocError>
     with_form(alloc, command)
 }
 
-/// `draw SOURCE --schedule FILE [--rounds RANGE] [--nodes LIST] [--html]`.
+/// `draw SOURCE --schedule FILE [--rounds RANGE] [--nodes LIST] [--grid] [--html]`.
 fn draw_command<'a>(alloc: Global) -> Result<Command<'a>, AllocError>
     ensures { IfOk result (IsCommandOf draw_app) }
 {
@@ -296,6 +296,11 @@ fn draw_command<'a>(alloc: Global) -> Result<Command<'a>, AllocError>
             "nodes",
             "LIST",
             "The nodes that are drawn, as 0,2,3; all by default",
+        ))?
+        .arg(flag_arg(
+            alloc,
+            "grid",
+            "Draws rounds by nodes, and not the single steps",
         ))?
         .arg(flag_arg(alloc, "html", "Writes an HTML page that has the picture"))
 }

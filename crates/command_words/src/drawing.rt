@@ -26,6 +26,8 @@ pub struct Drawing {
     /// The numbers of LIST in their order, also those that are there twice; empty if it is left
     /// out.
     pub nodes: Vec<u32>,
+    /// A grid of rounds by nodes, and not the single steps.
+    pub grid: bool,
     /// An HTML page that has the picture, and not the picture alone.
     pub html: bool,
 }
@@ -76,6 +78,7 @@ pub(crate) fn drawing_of(alloc: Global, matches: &ArgMatches<'_>) -> Result<Draw
     Ok(Drawing {
         rounds: range_of(matches)?,
         nodes: table_of(alloc, matches, "nodes")?,
+        grid: has_flag(matches, "grid"),
         html: has_flag(matches, "html"),
     })
 }

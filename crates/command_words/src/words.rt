@@ -50,8 +50,8 @@ pub enum Words<'a> {
         schedule: &'a str,
         form: Form<'a>,
     },
-    /// `draw SOURCE --schedule FILE [--rounds RANGE] [--nodes LIST] [--html]`; `schedule` is as in
-    /// `Run`.
+    /// `draw SOURCE --schedule FILE [--rounds RANGE] [--nodes LIST] [--grid] [--html]`; `schedule`
+    /// is as in `Run`.
     Draw {
         source: Source<'a>,
         schedule: &'a str,

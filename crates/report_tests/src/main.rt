@@ -1,7 +1,7 @@
 //! Runs of schedules, and what is told of them.
 //!
 //! ```text
-//! report_tests picture SOURCE [rounds A-B] [nodes N,N..] [title TEXT] [html]
+//! report_tests picture SOURCE [rounds A-B] [nodes N,N..] [title TEXT] [grid] [html]
 //! report_tests data SOURCE FORM [by node] [vars N,N..] [changed] [narrow N]
 //! report_tests reasons | idle SOURCE
 //! ```
@@ -10,8 +10,8 @@
 //! `@gather:K`, `@count_votes:K` or `@dls1:K` for the library's program over K values. Standard
 //! input is a schedule. Standard output is
 //!
-//! - the picture of the run, or `refused` and why there is none; the title is SOURCE if none is
-//!   given;
+//! - the picture of the run, of its rounds with `grid`, or `refused` and why there is none; the
+//!   title is SOURCE if none is given;
 //! - the report in FORM: `json`, `table`, `summary`, `omissions` or `text`, which is the report's
 //!   own. With `narrow` the writer fails behind N bytes, and what it took comes before the fault;
 //! - with `reasons` a line for each copy that a report of the run doesn't show as heard, message by

@@ -1,5 +1,6 @@
 //! Pictures of runs.
-use omission_explainer::explain;
+use omission_explainer::{Report, explain};
+use run_grid::{GridSheet, write_grid};
 use run_picture::{PictureFault, RoundRange, View, write_picture};
 use slot_plans::Plan;
 use std::alloc::Global;
@@ -7,11 +8,12 @@ use std::io::Write;
 use step_journal::Journal;
 use test_kit::{Fault, comma_numbers, nodes, number};
 
-/// The title of a picture, and what it shows.
+/// The title of a picture, what it shows, and whether it's a grid.
 #[derive(Clone, Copy)]
 pub(crate) struct Picture<'a> {
     title: &'a str,
     view: View,
+    is_grid: bool,
 }
 
 impl<'a> Picture<'a> {
@@ -28,6 +30,7 @@ impl<'a> Picture<'a> {
                 nodes: None,
                 html: false,
             },
+            is_grid: false,
         };
         let mut option = "";
         for word in options {
@@ -46,12 +49,35 @@ impl<'a> Picture<'a> {
     ) -> Result<(), Fault> {
         let report = explain(alloc, journal)?;
         let book = journal.book();
+        if self.is_grid {
+            return self.draw_grid(alloc, &report, book.setup().rounds, out);
+        }
         match write_picture(alloc, &report, book, schedule, self.title, &self.view, out) {
             Ok(()) => Ok(()),
             Err(PictureFault::TooManyEvents) => {
                 writeln!(out, "refused: {}", PictureFault::TooManyEvents)?;
                 Ok(())
             }
+            Err(_) => Err(Fault::NoMemory),
+        }
+    }
+
+    /// Draws the rounds of a run of so many rounds.
+    fn draw_grid(
+        &self,
+        alloc: Global,
+        report: &Report,
+        rounds: u32,
+        out: &mut Vec<u8>,
+    ) -> Result<(), Fault> {
+        let sheet = GridSheet {
+            title: self.title,
+            rounds,
+            view: self.view,
+            is_instead: false,
+        };
+        match write_grid(alloc, report, &sheet, out) {
+            Ok(()) => Ok(()),
             Err(_) => Err(Fault::NoMemory),
         }
     }
@@ -67,10 +93,11 @@ fn read_word<'a>(
 ) -> Result<&'a str, Fault> {
     match option {
         "" => {
-            if word != "html" {
-                return Ok(word);
+            match word {
+                "html" => picture.view.html = true,
+                "grid" => picture.is_grid = true,
+                _ => return Ok(word),
             }
-            picture.view.html = true;
         }
         "rounds" => picture.view.rounds = Some(rounds(word)?),
         "nodes" => picture.view.nodes = Some(nodes(&comma_numbers(alloc, word)?)),

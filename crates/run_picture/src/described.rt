@@ -61,8 +61,9 @@ fn write_node<O: Write>(drawing: &Drawing, lane: &Lane, out: &mut O) -> io::Resu
         "node {node}: input {input}, steps {steps}, closed rounds {closed}"
     )?;
     for flag in &drawing.flags {
-        if flag.node == *node {
-            write!(out, "; {flag}")?;
+        let change = &flag.change;
+        if change.node == *node {
+            write!(out, "; {change}")?;
         }
     }
     writeln!(out, ".")

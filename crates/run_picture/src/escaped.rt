@@ -4,7 +4,7 @@ use std::fmt;
 /// A text in XML, in which no character has another meaning. A character that XML hasn't, as most
 /// control characters, prints as the sign of a character that can't be shown.
 #[derive(Clone, Copy)]
-pub(crate) struct Escaped<'a>(pub &'a str);
+pub struct Escaped<'a>(pub &'a str);
 
 impl fmt::Display for Escaped<'_> {
     fn fmt<W: fmt::Write>(&self, f: &mut fmt::Formatter<W>) -> fmt::Result {

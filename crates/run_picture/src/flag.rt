@@ -7,14 +7,36 @@ use run_events::NoMemory;
 use std::alloc::Global;
 use std::fmt;
 
-/// A decision that a node has first, changes or takes back with a round, and where that round ends.
+/// A decision that a node has first, changes or takes back with a round.
 #[derive(Clone, Copy)]
-pub(crate) struct Flag {
+pub struct DecisionChange {
     pub node: u32,
     pub round: u32,
-    pub at: u32,
     pub before: Option<u32>,
     pub value: Option<u32>,
+}
+
+impl DecisionChange {
+    /// The change with the round of a row, if the decision after it is another than before.
+    pub fn of(rows: &Rows<'_>, row: &ReportRow) -> Option<DecisionChange> {
+        let before = decision_before(rows, row);
+        if before == row.decision {
+            return None;
+        }
+        Some(DecisionChange {
+            node: row.node,
+            round: row.round,
+            before,
+            value: row.decision,
+        })
+    }
+}
+
+/// A change of a decision, and where the round ends with which it comes.
+#[derive(Clone, Copy)]
+pub(crate) struct Flag {
+    pub change: DecisionChange,
+    pub at: u32,
 }
 
 /// The flags of the rounds that are drawn, by round and then by node.
@@ -35,19 +57,13 @@ pub(crate) fn flags(
     Ok(flags)
 }
 
-/// The flag of a round, if the decision after it is another than before.
+/// The flag of a round, if the decision changes with it.
 fn flag_of(rows: &Rows<'_>, tracks: &[Track], row: &ReportRow) -> Option<Flag> {
-    let before = decision_before(rows, row);
-    if before == row.decision {
-        return None;
-    }
+    let change = DecisionChange::of(rows, row)?;
     let band = tracks.get(row.node as usize)?.band(row.round)?;
     Some(Flag {
-        node: row.node,
-        round: row.round,
+        change,
         at: band.last.at,
-        before,
-        value: row.decision,
     })
 }
 
@@ -57,10 +73,10 @@ fn decision_before(rows: &Rows<'_>, row: &ReportRow) -> Option<u32> {
     rows.of(row.node, round)?.decision
 }
 
-/// What the flag says.
-impl fmt::Display for Flag {
+/// What its flag says.
+impl fmt::Display for DecisionChange {
     fn fmt<W: fmt::Write>(&self, f: &mut fmt::Formatter<W>) -> fmt::Result {
-        let Flag { node, round, .. } = self;
+        let DecisionChange { node, round, .. } = self;
         match (self.before, self.value) {
             (None, Some(value)) => write!(f, "node {node} decides {value} in round {round}"),
             (Some(before), Some(value)) => write!(

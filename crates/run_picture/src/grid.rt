@@ -19,9 +19,9 @@ const TOP: u32 = 88;
 /// The least width of a picture: that of its heading and of a row of its legend.
 const LEAST_WIDTH: u32 = 720;
 
-/// A place in the picture.
+/// A place in a picture.
 #[derive(Clone, Copy, PartialEq, Eq, Debug)]
-pub(crate) struct Point {
+pub struct Point {
     pub x: u32,
     pub y: u32,
 }

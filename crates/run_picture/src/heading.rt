@@ -13,14 +13,14 @@ const MAX_TITLE: usize = 400;
 
 /// The title of a picture, and behind it which rounds and nodes are shown if these aren't all.
 #[derive(Clone, Copy)]
-pub(crate) struct Heading<'a> {
+pub struct Heading<'a> {
     pub title: &'a str,
     pub view: &'a View,
 }
 
 impl Heading<'_> {
     /// The width, if the characters are as wide as most.
-    pub(crate) fn width(&self) -> u32 {
+    pub fn width(&self) -> u32 {
         let title = self.title.chars().count().min(MAX_TITLE);
         let rounds = if self.view.rounds.is_some() { 22 } else { 0 };
         let nodes = match self.view.nodes {

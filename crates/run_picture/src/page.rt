@@ -6,14 +6,13 @@ use crate::drawing::Drawing;
 use crate::fault::PictureFault;
 use crate::heading::Heading;
 use crate::rows::{ReportText, Rows};
-use crate::svg::write_svg;
+use crate::svg::write_drawing;
 use crate::svg_lanes::Words;
 use crate::view::View;
 use omission_explainer::Report;
 use reason_texts::TextLines;
 use slot_plans::Plan;
 use std::alloc::Global;
-use std::io;
 use std::io::Write;
 use step_book::Book;
 
@@ -127,39 +126,3 @@ impl Asked<'_> {
         Ok(())
     }
 }
-
-fn write_drawing<O: Write>(
-    drawing: &Drawing,
-    words: &Words<'_>,
-    heading: Heading<'_>,
-    out: &mut O,
-) -> io::Result<()> {
-    if heading.view.html {
-        return write_page(drawing, words, heading, out);
-    }
-    writeln!(out, "<?xml version=\"1.0\" encoding=\"UTF-8\"?>")?;
-    write_svg(drawing, words, heading, out)
-}
-
-/// Writes an HTML page, in which a wide picture is scrolled.
-fn write_page<O: Write>(
-    drawing: &Drawing,
-    words: &Words<'_>,
-    heading: Heading<'_>,
-    out: &mut O,
-) -> io::Result<()> {
-    writeln!(out, "<!DOCTYPE html>\n<html lang=\"en\">\n<head>")?;
-    writeln!(out, "<meta charset=\"utf-8\"/>\n<title>{heading}</title>")?;
-    out.write_all(PAGE_STYLE.as_bytes())?;
-    writeln!(out, "</head>\n<body>")?;
-    write_svg(drawing, words, heading, out)?;
-    writeln!(out, "</body>\n</html>")
-}
-
-const PAGE_STYLE: &str = "\
-<meta name=\"color-scheme\" content=\"light dark\"/>
-<style>
-body{margin:0;background:#fff}
-@media (prefers-color-scheme:dark){body{background:#15181d}}
-</style>
-";

@@ -6,12 +6,12 @@ use std::str::from_utf8;
 
 /// The text of a report.
 #[derive(Drop)]
-pub(crate) struct ReportText {
+pub struct ReportText {
     bytes: Vec<u8>,
 }
 
 impl ReportText {
-    pub(crate) fn new(alloc: Global, report: &Report) -> Result<ReportText, NoMemory> {
+    pub fn new(alloc: Global, report: &Report) -> Result<ReportText, NoMemory> {
         let mut bytes = Vec::new(alloc);
         match write_report(report, &mut bytes) {
             Ok(()) => Ok(ReportText { bytes }),
@@ -19,7 +19,7 @@ impl ReportText {
         }
     }
 
-    pub(crate) fn text(&self) -> &str {
+    pub fn text(&self) -> &str {
         match from_utf8(self.bytes.as_slice()) {
             Ok(text) => text,
             Err(_) => "",
@@ -29,7 +29,7 @@ impl ReportText {
 
 /// The rows of a report with the lines of its text, by node and round.
 #[derive(Drop)]
-pub(crate) struct Rows<'a> {
+pub struct Rows<'a> {
     rows: &'a [ReportRow],
     lines: Vec<&'a str>,
     places: Vec<Vec<usize>>,
@@ -37,7 +37,7 @@ pub(crate) struct Rows<'a> {
 
 impl<'a> Rows<'a> {
     /// The rows of the report of a run with so many nodes, whose text this is.
-    pub(crate) fn new(
+    pub fn new(
         alloc: Global,
         nodes: u32,
         report: &'a Report,
@@ -62,17 +62,17 @@ impl<'a> Rows<'a> {
         Ok(rows)
     }
 
-    pub(crate) fn all(&self) -> &'a [ReportRow] {
+    pub fn all(&self) -> &'a [ReportRow] {
         self.rows
     }
 
     /// The row of a round of a node, if that is closed.
-    pub(crate) fn of(&self, node: u32, round: u32) -> Option<&'a ReportRow> {
+    pub fn of(&self, node: u32, round: u32) -> Option<&'a ReportRow> {
         self.rows.get(self.place(node, round)?)
     }
 
     /// The line of the report's text for that row.
-    pub(crate) fn line(&self, node: u32, round: u32) -> Option<&'a str> {
+    pub fn line(&self, node: u32, round: u32) -> Option<&'a str> {
         self.lines.get(self.place(node, round)?).copied()
     }
 

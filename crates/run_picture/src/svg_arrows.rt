@@ -1,9 +1,8 @@
-//! Arrows and flags in SVG.
+//! Arrows in SVG.
 use crate::arrow::{Arrow, Ending, Standing};
 use crate::arrow_title::ArrowTitle;
 use crate::drawing::Drawing;
-use crate::flag::Flag;
-use crate::grid::{BAND, Point};
+use crate::grid::Point;
 use crate::path::ArrowPath;
 use reason_texts::TextLines;
 use run_events::Name;
@@ -113,42 +112,4 @@ fn write_ring<O: Write>(to: u32, end: Point, out: &mut O) -> io::Result<()> {
         "<circle class=\"ring\" cx=\"{x}\" cy=\"{y}\" r=\"7\"/>\
          <text class=\"to\" x=\"{x}\" y=\"{low}\">{to}</text>"
     )
-}
-
-pub(crate) fn write_flags<O: Write>(drawing: &Drawing, out: &mut O) -> io::Result<()> {
-    let grid = &drawing.grid;
-    for flag in &drawing.flags {
-        if let Some(y) = grid.y(flag.node) {
-            let x = grid.x(flag.at).saturating_add(grid.half());
-            write_flag(flag, Point { x, y }, out)?;
-        }
-    }
-    Ok(())
-}
-
-/// Writes a flag, which stands on the bar at the end of a round of the lane with this height.
-fn write_flag<O: Write>(flag: &Flag, end: Point, out: &mut O) -> io::Result<()> {
-    let Flag { node, round, .. } = flag;
-    let x = end.x.saturating_sub(1);
-    let foot = end.y.saturating_sub(BAND);
-    let top = foot.saturating_sub(17);
-    writeln!(
-        out,
-        "<g class=\"flag\" data-decision=\"{node} {round}\"><title>{flag}</title>"
-    )?;
-    write!(out, "<path d=\"M{x} {foot}V{top}h21l-4 8l4 8h-21\"/>")?;
-    write_value(
-        flag.value,
-        end.x.saturating_add(8),
-        top.saturating_add(12),
-        out,
-    )?;
-    writeln!(out, "</g>")
-}
-
-fn write_value<O: Write>(value: Option<u32>, x: u32, y: u32, out: &mut O) -> io::Result<()> {
-    match value {
-        Some(value) => write!(out, "<text x=\"{x}\" y=\"{y}\">{value}</text>"),
-        None => write!(out, "<text x=\"{x}\" y=\"{y}\">\u{2013}</text>"),
-    }
 }

@@ -25,7 +25,7 @@ pub struct View {
 
 impl View {
     /// The same of a run with so many rounds: its range ends with the last one at the latest.
-    pub(crate) fn within(&self, last_round: u32) -> View {
+    pub fn within(&self, last_round: u32) -> View {
         let rounds = match self.rounds {
             Some(RoundRange { first, last }) => Some(RoundRange {
                 first,
@@ -36,7 +36,7 @@ impl View {
         View { rounds, ..*self }
     }
 
-    pub(crate) fn shows_round(&self, round: u32) -> bool {
+    pub fn shows_round(&self, round: u32) -> bool {
         self.shows_number(u64::from(round))
     }
 
@@ -48,7 +48,7 @@ impl View {
         }
     }
 
-    pub(crate) fn shows_node(&self, node: u32) -> bool {
+    pub fn shows_node(&self, node: u32) -> bool {
         match self.nodes {
             Some(nodes) => nodes.contains(node),
             None => true,
@@ -56,7 +56,7 @@ impl View {
     }
 
     /// The first round that can be shown.
-    pub(crate) fn first_round(&self) -> u32 {
+    pub fn first_round(&self) -> u32 {
         match self.rounds {
             Some(rounds) => rounds.first.max(1),
             None => 1,

@@ -80,5 +80,5 @@ returns-clause-refused g c =
     let plan = (c.in-Some.ensures.within_limits.0 refl).1 in
     let said = c.in_ok-report.ensures in
     IfErr-weaker c.draw_report-picture.result _ _
-    (λ x is. undrawn_report p s k r d plan c.in-Some-view_of.ensures.some x said.lawful
+    (λ x is. undrawn_report p s k r d plan c.in-Some-view_of.ensures.some x
     (c.in_ok-report.journal.log.trace, said.read) is) c.draw_report-picture.ensures

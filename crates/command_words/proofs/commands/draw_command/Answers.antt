@@ -15,6 +15,8 @@ returns c =
     c.optional_arg.ensures.local in
     let fourth = arg_added _ _ _ _ _ c.in_ok-arg-4.ensures third c.optional_arg-2.ensures.rule
     c.optional_arg-2.ensures.local in
-    IfOk-weaker c.arg-5.result _ _
-    (λ r h. arg_added _ _ _ _ _ h fourth c.flag_arg.ensures.rule c.flag_arg.ensures.local)
-    c.arg-5.ensures
+    let fifth = arg_added _ _ _ _ _ c.in_ok-arg-5.ensures fourth c.flag_arg.ensures.rule
+    c.flag_arg.ensures.local in
+    IfOk-weaker c.arg-6.result _ _
+    (λ r h. arg_added _ _ _ _ _ h fifth c.flag_arg-2.ensures.rule c.flag_arg-2.ensures.local)
+    c.arg-6.ensures
