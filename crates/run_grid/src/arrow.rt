@@ -30,14 +30,14 @@ impl Arrow {
             Hearing::Omitted => false,
             Hearing::Silent | Hearing::Gone => return None,
         };
-        let column = grid.column(cell.row.round)?;
-        let receiver = grid.lane(cell.row.node)?;
+        let column = grid.column(cell.round)?;
+        let receiver = grid.lane(cell.node)?;
         let before = if is_heard { HEAD } else { CROSS };
         let middle = grid.lane_places.middle(receiver.place);
         Some(Arrow {
             from: sender.node,
-            to: cell.row.node,
-            round: cell.row.round,
+            to: cell.node,
+            round: cell.round,
             is_heard,
             start: Point {
                 x: column.start,

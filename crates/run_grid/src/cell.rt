@@ -7,10 +7,13 @@ use run_events::NoMemory;
 use run_picture::{DecisionChange, Rows, View};
 use std::alloc::Global;
 
-/// A round that a node closed: its row and its line of the report, what changed in its state, and
-/// how its decision changed.
+/// A round that a node closed: whether the node then has a decision, its row and its line of the
+/// report, what changed in its state, and how its decision changed.
 #[derive(Drop)]
 pub(crate) struct Cell<'a> {
+    pub node: u32,
+    pub round: u32,
+    pub is_decided: bool,
     pub row: &'a ReportRow,
     pub line: &'a str,
     pub text: CellText<'a>,
@@ -26,6 +29,9 @@ impl<'a> Cell<'a> {
     ) -> Result<Cell<'a>, NoMemory> {
         let entries = changed_entries(alloc, rows, row)?;
         Ok(Cell {
+            node: row.node,
+            round: row.round,
+            is_decided: row.decision.is_some(),
             row,
             line: rows.line(row.node, row.round).unwrap_or(""),
             text: CellText::new(alloc, form, entries.as_slice())?,

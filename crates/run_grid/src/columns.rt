@@ -61,7 +61,7 @@ pub(crate) fn rounds_in(range: RoundRange) -> u32 {
 fn width_of(form: &Form, round: u32, cells: &[Cell<'_>]) -> u32 {
     let mut width = form.least_width();
     for cell in cells {
-        if cell.row.round == round {
+        if cell.round == round {
             let text = Form::width_of(cell.text.letters()).saturating_add(MARGIN);
             width = text.max(width);
         }

@@ -92,7 +92,7 @@ fn is_shown(sign: Sign, grid: &Grid<'_>) -> bool {
         Sign::Heard => has(grid, Hearing::Heard),
         Sign::Omitted => has(grid, Hearing::Omitted),
         Sign::Silent => grid.form.marks == Marks::Dots && has(grid, Hearing::Silent),
-        Sign::Decided => grid.cells.iter().any(|cell| cell.row.decision.is_some()),
+        Sign::Decided => grid.cells.iter().any(|cell| cell.is_decided),
         Sign::Decision => grid.cells.iter().any(|cell| cell.change.is_some()),
         Sign::Stop => grid.lanes.iter().any(|lane| lane.stops),
     }

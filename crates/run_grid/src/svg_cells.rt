@@ -15,10 +15,7 @@ const MARGIN: u32 = 6;
 /// Writes the cells, and then their flags.
 pub(crate) fn write_cells<O: Write>(grid: &Grid<'_>, out: &mut O) -> io::Result<()> {
     for cell in &grid.cells {
-        if let (Some(lane), Some(column)) = (
-            grid.lane(cell.row.node),
-            grid.column(cell.row.round),
-        ) {
+        if let (Some(lane), Some(column)) = (grid.lane(cell.node), grid.column(cell.round)) {
             let corner = Point {
                 x: column.left,
                 y: grid.top(lane),
@@ -43,8 +40,8 @@ fn write_cell<O: Write>(
     corner: Point,
     out: &mut O,
 ) -> io::Result<()> {
-    let (node, round) = (cell.row.node, cell.row.round);
-    let class = if cell.row.decision.is_some() {
+    let (node, round) = (cell.node, cell.round);
+    let class = if cell.is_decided {
         "cell decided"
     } else {
         "cell"
