@@ -1,4 +1,5 @@
 //! The run in which a property fails, as data.
+ghost use Rattle.std.specs.Prelude.{◌≡◌};
 ghost use Rattle.exploration_texts.specs.Stops.{IsShowable};
 ghost use Rattle.round_meaning.specs.Setups.{IsSetup};
 
