@@ -2,7 +2,7 @@
 ghost use Rattle.std.specs.Prelude.{◌≡◌};
 
 use command_reasons::TellingDesk;
-use command_runs::{Desk, DeskFault, MemoryFile, Unwatched, Written};
+use command_runs::{Desk, DeskFault, SourceFault, TextSource, Unwatched, Written};
 use run_events::NoMemory;
 use std::alloc::Global;
 use std::collections::BTreeMap;
@@ -36,7 +36,9 @@ impl CaseDesk {
     }
 
     /// Puts a file on the desk, in the place of one of the same name.
-    pub(crate) fn give(&mut self, name: &str, bytes: Vec<u8>) -> Result<(), NoMemory> {
+    pub(crate) fn give(&mut self, name: &str, bytes: Vec<u8>) -> Result<(), NoMemory>
+        ensures { self.new.written ≡ self.old.written }
+    {
         let name = String::from_str(self.alloc, name)?;
         match self.held.insert(name, bytes) {
             Ok(_) => Ok(()),
@@ -51,11 +53,6 @@ impl CaseDesk {
             Ok(_) => Ok(()),
             Err(_) => Err(NoMemory),
         }
-    }
-
-    /// Takes a file from the desk.
-    pub(crate) fn take(&mut self, name: &str) {
-        self.held.remove(name);
     }
 
     /// A copy of a file's bytes, up to so many.
@@ -81,8 +78,29 @@ impl CaseDesk {
     }
 }
 
+/// A copy of a file, and how many of its bytes were taken.
+#[derive(Drop)]
+pub(crate) struct CaseFile {
+    bytes: Vec<u8>,
+    taken: usize,
+}
+
+impl TextSource for CaseFile {
+    fn add_next(&mut self, most: usize, bytes: &mut Vec<u8>) -> Result<(), SourceFault> {
+        let start = self.taken.min(self.bytes.len());
+        let end = start + most.min(self.bytes.len() - start);
+        match bytes.extend_from_slice(&self.bytes[start..end]) {
+            Ok(()) => {
+                self.taken = end;
+                Ok(())
+            }
+            Err(_) => Err(SourceFault::NoMemory),
+        }
+    }
+}
+
 impl Desk for CaseDesk {
-    type File = MemoryFile;
+    type File = CaseFile;
 
     type Watch = Unwatched;
 
@@ -96,9 +114,9 @@ impl Desk for CaseDesk {
         self.copy(alloc, name, limit.saturating_add(1))
     }
 
-    fn open(&mut self, alloc: Global, name: &str) -> Result<MemoryFile, DeskFault> {
+    fn open(&mut self, alloc: Global, name: &str) -> Result<CaseFile, DeskFault> {
         let bytes = self.copy(alloc, name, usize::MAX)?;
-        Ok(MemoryFile::new(bytes))
+        Ok(CaseFile { bytes, taken: 0 })
     }
 
     fn try_write(&mut self, _name: &str) -> Result<(), DeskFault> {

@@ -85,7 +85,7 @@ impl<'r, R: Threads + Wait + Sync> Runner<'r, R> {
             command => command,
         };
         let names = files_read_by(self.alloc, command)?;
-        for name in names {
+        for name in names.as_slice() {
             if !self.files.has(name) {
                 self.fetch_one(name, desk)?;
             }

@@ -100,10 +100,9 @@ impl<'a> Transcript<'a> {
 
     /// The lines of a block.
     pub(crate) fn block(&self, block: Block) -> &[&'a str] {
-        self.lines
-            .as_slice()
-            .get(block.first..block.end)
-            .unwrap_or(&[])
+        let end = block.end.min(self.lines.len());
+        let first = block.first.min(end);
+        &self.lines[first..end]
     }
 
     /// The first line of an entry.

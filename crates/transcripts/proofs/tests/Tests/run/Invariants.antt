@@ -1,0 +1,6 @@
+use Rattle.std.proofs.Common.{◌≡◌}
+use Rattle.transcripts.proofs.tests.Tests.run.Given as goal
+
+-- nothing was written to the desk
+abbrev pub invariant-loop-name : goal.invariant-loop-name
+invariant-loop-name g l = g.D.Desk.written l.desk ≡ g.D.Desk.written l.initial.desk
