@@ -324,9 +324,9 @@ def files_are_the_commands(lab):
         settle(page)
         page.run("window.saved = {}; download = (name, text) => { saved[name] = text; };"
                  "openShare()")
-        for kind in ("program", "header", "omissions", "schedule", "picture"):
+        for kind in ("program", "header", "omissions", "schedule", "picture", "transcript"):
             page.press(f'[data-save="{kind}"]')
-        page.until("saved['run.svg'] && saved['run.schedule']")
+        page.until("saved['run.svg'] && saved['run.schedule'] && saved['program.txt']")
         saved, room = page.run("saved"), f"{lab.room}/saved"
         names = ("program.rounds", "run.header", "run.omissions")
         expect("the header", "nodes 3\nfaults 1\ninputs 0 1 1\nrounds 2\nplan known 1\n",
@@ -338,6 +338,8 @@ def files_are_the_commands(lab):
         words = ["draw", "program.rounds", "--schedule", "run.schedule"]
         expect("the picture", on_command_line(words, {"run.schedule": schedule}, room),
                saved["run.svg"])
+        expect("the transcript", "program.txt: 1 passed\n", on_command_line(
+            ["test", "program.txt"], {"program.txt": saved["program.txt"]}, room))
 
 
 def keeps_a_page(lab):

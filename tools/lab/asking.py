@@ -65,6 +65,7 @@ SERVED = {
         "--always": is_expression,
         "--trace": is_made,
         "--format": matches("text|json"),
+        "--brief": None,
     },
 }
 

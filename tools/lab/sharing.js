@@ -36,11 +36,26 @@ function download(name, text) {
   URL.revokeObjectURL(link.href);
   $('saved').replaceChildren(h('div', { class: 'note' }, `${name} is saved.`));
 }
+/* A word of a command as a shell, and as a transcript takes it. */
+const quoted = word => /^[\w.,:-]+$/.test(word) ? word : `'${word.replace(/'/g, "'\\''")}'`;
+/* The question with its answers, and the files that it needs, for `roundc test`. */
+async function transcript() {
+  const words = [...searchWords(lab.ask.check, !!lab.ask.always.trim()), '--brief'];
+  const told = await command(words, files());
+  if (told.stopped || ![0, 5].includes(told.status)) {
+    tell($('saved'), await whyNot(told, words, files()));
+    return;
+  }
+  const given = (name, text) => `file ${name}\n${text.replace(/\n?$/, '\n')}----\n\n`;
+  download('program.txt', given('program.rounds', lab.text) + given('run.header', header()) +
+    `roundc ${words.map(quoted).join(' ')}\n----\n${told.out}${told.status ? '[5]\n' : ''}`);
+}
 async function save(kind) {
   const plain = { program: ['program.rounds', lab.text], omissions: ['run.omissions', omissions()],
     header: ['run.header', header()] }[kind];
   if (plain) { download(...plain); return; }
   if (kind === 'page') { download('run.html', keptPage()); return; }
+  if (kind === 'transcript') { await transcript(); return; }
   const made = await command(['realise', ...RUN], files());
   if (made.status !== 0 || made.stopped) {
     tell($('saved'), await whyNot(made, ['realise', ...RUN], files()));
@@ -58,8 +73,7 @@ function openShare() {
   $('saved').replaceChildren();
   $('commands').textContent = 'roundc rounds program.rounds --header run.header \\\n' +
     '    --omissions run.omissions --decided\n' +
-    ['roundc', ...searchWords(lab.ask.check, !!lab.ask.always.trim())].map(word =>
-      /^[\w.,:-]+$/.test(word) ? word : `'${word.replace(/'/g, "'\\''")}'`).join(' ');
+    ['roundc', ...searchWords(lab.ask.check, !!lab.ask.always.trim())].map(quoted).join(' ');
   $('shareDialog').showModal();
 }
 function openExample(example) {
