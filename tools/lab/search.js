@@ -38,8 +38,9 @@ async function searchFor(words, given) {
     if (seconds > 0.3) $('progress').textContent = `searching, ${seconds.toFixed(0)} s  ${line}`;
   }, 100);
   try {
-    const told = await command([...words, '--trace', 'found.schedule', '--format', 'json', '--brief'],
-      given, { signal: search.signal, watch: text => { line = text; } });
+    const asked = [...words, '--trace', 'found.schedule', '--format', 'json', '--brief'];
+    const told = await command(asked, given,
+      { signal: search.signal, watch: text => { line = text; } });
     if (!told.stopped && (told.status === 0 || told.status === 5))
       return { list: jsonLines(told.out), made: told.made, ms: told.ms };
     tell($('answers'), await whyNot(told, words, given));
