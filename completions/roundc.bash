@@ -3,7 +3,7 @@
 # What a value completes with: that of an option, or of the argument at a place.
 _roundc_choices() {
     case $1 in
-        ' 1') choices='check show run draw threads judge lockstep realise rounds explore together help why' ;;
+        ' 1') choices='check show run draw threads judge lockstep realise rounds explore together help why test' ;;
         'check --format' | \
         'judge --format' | \
         'explore --format' | \
@@ -57,7 +57,9 @@ _roundc_choices() {
         'why rounds --omissions' | \
         'why explore --header' | \
         'why explore --trace' | \
-        'why together 1') files=yes ;;
+        'why together 1' | \
+        'why test 1' | \
+        'test 1') files=yes ;;
         'run --format' | \
         'rounds --format' | \
         'why run --format' | \
@@ -72,8 +74,10 @@ _roundc_choices() {
         'why explore --faults') choices='none omission crash' ;;
         'explore --check' | \
         'why explore --check') choices='agreement validity final termination' ;;
-        'help 1') choices='check show run draw threads judge lockstep realise rounds explore together why' ;;
-        'why 1') choices='check show run draw threads judge lockstep realise rounds explore together' ;;
+        'help 1') choices='check show run draw threads judge lockstep realise rounds explore together why test' ;;
+        'why 1') choices='check show run draw threads judge lockstep realise rounds explore together test' ;;
+        'why test --format' | \
+        'test --format') choices='text json junit' ;;
         *) return 1 ;;
     esac
 }
@@ -105,6 +109,8 @@ _roundc_options() {
         'why explore') options='--header --inputs --faults --clear --hears --part --jobs --sample --seed --check --always --trace --format --brief -h --help -V --version' ;;
         'help' | \
         'why') options='' ;;
+        'why test' | \
+        'test') options='--update --format -h --help' ;;
         *) return 1 ;;
     esac
 }
@@ -200,7 +206,9 @@ _roundc_takes_value() {
         'why explore --check' | \
         'why explore --always' | \
         'why explore --trace' | \
-        'why explore --format') return 0 ;;
+        'why explore --format' | \
+        'why test --format' | \
+        'test --format') return 0 ;;
         *) return 1 ;;
     esac
 }
@@ -220,6 +228,7 @@ _roundc_is_command() {
         'together' | \
         'help' | \
         'why' | \
+        'test' | \
         'why check' | \
         'why show' | \
         'why run' | \
@@ -230,7 +239,8 @@ _roundc_is_command() {
         'why realise' | \
         'why rounds' | \
         'why explore' | \
-        'why together') return 0 ;;
+        'why together' | \
+        'why test') return 0 ;;
         *) return 1 ;;
     esac
 }

@@ -42,6 +42,7 @@ complete -c roundc -n "__roundc_at '' 0" -a explore -d 'Says whether properties 
 complete -c roundc -n "__roundc_at '' 0" -a together -d 'Puts the answers of all parts of a search together'
 complete -c roundc -n "__roundc_at '' 0" -a help -d 'Print this message or the help of the given subcommand(s)'
 complete -c roundc -n "__roundc_at '' 0" -a why -d 'Says why a command is refused, and where, or why a run came out as it did'
+complete -c roundc -n "__roundc_at '' 0" -a test -d 'Runs the commands of transcripts and compares what they print'
 complete -c roundc -n "__roundc_at '' 0" -s h -l help -d 'Print help'
 complete -c roundc -n "__roundc_at '' 0" -s V -l version -d 'Print version'
 
@@ -142,7 +143,7 @@ complete -c roundc -n "__roundc_at 'together'" -s h -l help -d 'Print help'
 complete -c roundc -n "__roundc_at 'together'" -s V -l version -d 'Print version'
 complete -c roundc -n "__roundc_at 'together' 0" -F
 
-complete -c roundc -n "__roundc_at 'help' 0" -a 'check show run draw threads judge lockstep realise rounds explore together why'
+complete -c roundc -n "__roundc_at 'help' 0" -a 'check show run draw threads judge lockstep realise rounds explore together why test'
 
 complete -c roundc -n "__roundc_at 'why' 0" -a check -d 'Reads a source and says what it declares'
 complete -c roundc -n "__roundc_at 'why' 0" -a show -d 'Prints the text of a source, also of a program of the library'
@@ -155,6 +156,7 @@ complete -c roundc -n "__roundc_at 'why' 0" -a realise -d 'Writes a schedule tha
 complete -c roundc -n "__roundc_at 'why' 0" -a rounds -d 'Runs a program in rounds that omit the messages of a file'
 complete -c roundc -n "__roundc_at 'why' 0" -a explore -d 'Says whether properties hold of all runs in rounds'
 complete -c roundc -n "__roundc_at 'why' 0" -a together -d 'Puts the answers of all parts of a search together'
+complete -c roundc -n "__roundc_at 'why' 0" -a test -d 'Runs the commands of transcripts and compares what they print'
 
 complete -c roundc -n "__roundc_at 'why check'" -l format -r -x -a 'text json' -d 'text (by default) or json'
 complete -c roundc -n "__roundc_at 'why check'" -s h -l help -d 'Print help'
@@ -252,3 +254,13 @@ complete -c roundc -n "__roundc_at 'why explore' 0" -F -a '@gather: @count_votes
 complete -c roundc -n "__roundc_at 'why together'" -s h -l help -d 'Print help'
 complete -c roundc -n "__roundc_at 'why together'" -s V -l version -d 'Print version'
 complete -c roundc -n "__roundc_at 'why together' 0" -F
+
+complete -c roundc -n "__roundc_at 'why test'" -l update -d 'Writes what the commands print into the transcripts'
+complete -c roundc -n "__roundc_at 'why test'" -l format -r -x -a 'text json junit' -d 'How the results are printed'
+complete -c roundc -n "__roundc_at 'why test'" -s h -l help -d 'Print help'
+complete -c roundc -n "__roundc_at 'why test' 0" -F
+
+complete -c roundc -n "__roundc_at 'test'" -l update -d 'Writes what the commands print into the transcripts'
+complete -c roundc -n "__roundc_at 'test'" -l format -r -x -a 'text json junit' -d 'How the results are printed'
+complete -c roundc -n "__roundc_at 'test'" -s h -l help -d 'Print help'
+complete -c roundc -n "__roundc_at 'test' 0" -F
