@@ -3,6 +3,7 @@ the question covers it, that the property fails in it in that round and not befo
 and the decisions are those of the run.
 """
 import collections
+import json
 import re
 
 import exploring
@@ -18,7 +19,57 @@ MANY = "and more messages are missed"
 LEFT_OUT = re.compile(r"\((\d+) rows are left out\)")
 
 
-class FoundRun:
+class FailingRun:
+    """A run in which a property fails: `inputs`, `pattern` (for each node the round of its crash,
+    "omits" or nothing), and whom a node misses in a round, in `missed`."""
+
+    def misses(self, node, number):
+        """Returns whom a node misses in a round, with those that have crashed before."""
+        gone = {j for j, it in enumerate(self.pattern) if isinstance(it, int) and it < number}
+        return frozenset(self.missed[node, number] | gone)
+
+    def omissions(self, nodes):
+        """Returns the run's omissions as lines of an omission file."""
+        omitted = [reading.Omission("omit", str(node), str(number), str(sender))
+                   for (node, number), senders in self.missed.items() for sender in senders]
+        for node, it in enumerate(self.pattern):
+            if isinstance(it, int):
+                heard = [to for to in range(nodes) if node not in self.missed[to, it]]
+                omitted.append(reading.Omission("crash", str(node), str(it),
+                                                ",".join(map(str, heard)) or "-"))
+        return omitted
+
+    def report(self, checked, setup):
+        """Returns the report of the run."""
+        made = reading.Rounds(reading.Algorithm(checked, setup), self.omissions(setup.nodes))
+        return reading_data.report_of(made.report())
+
+
+class FoundData(FailingRun):
+    """What the object of a run says."""
+
+    def __init__(self, run, nodes):
+        self.inputs, self.rows = run["inputs"], run["rows"]
+        self.pattern = [None] * nodes
+        self.missed = collections.defaultdict(set)
+        for crash in run["crashes"]:
+            self.pattern[crash["node"]] = crash["round"]
+        for node in run["omitting"]:
+            self.pattern[node] = "omits"
+        for one in run["missed"]:
+            self.missed[one["node"], one["round"]] |= set(one["senders"])
+
+    def is_whole(self):
+        return True
+
+    def differs(self, checked, setup):
+        """Returns what is wrong with the rows of the run, or nothing."""
+        lines = reading_data.json_text(self.report(checked, setup)).splitlines()
+        rows = [it for it in map(json.loads, lines) if "round" in it]
+        return "" if self.rows == rows else f"the rows are {rows}"
+
+
+class FoundRun(FailingRun):
     """What the lines of a run say, without their blanks."""
 
     def __init__(self, lines, nodes):
@@ -41,21 +92,19 @@ class FoundRun:
         """Returns whether nothing of the run is left out."""
         return MANY not in self.lines and not any(map(LEFT_OUT.fullmatch, self.lines))
 
-    def misses(self, node, number):
-        """Returns whom a node misses in a round, with those that have crashed before."""
-        gone = {j for j, it in enumerate(self.pattern) if isinstance(it, int) and it < number}
-        return frozenset(self.missed[node, number] | gone)
+    def differs(self, checked, setup):
+        """Returns what is wrong with the table and the decisions of the run, or nothing."""
+        return is_told_as_run(checked, setup, self)
 
-    def omissions(self, nodes):
-        """Returns the run's omissions as lines of an omission file."""
-        omitted = [reading.Omission("omit", str(node), str(number), str(sender))
-                   for (node, number), senders in self.missed.items() for sender in senders]
-        for node, it in enumerate(self.pattern):
-            if isinstance(it, int):
-                heard = [to for to in range(nodes) if node not in self.missed[to, it]]
-                omitted.append(reading.Omission("crash", str(node), str(it),
-                                                ",".join(map(str, heard)) or "-"))
-        return omitted
+
+def objects_of(wanted):
+    """Yields each answer that is false among the objects that are printed, as its name and round,
+    with its run."""
+    for line in wanted:
+        if line.startswith("{"):
+            told = json.loads(line)
+            if told.get("holds") is False and "run" in told:
+                yield told["property"], told["round"], told["run"]
 
 
 def lines_of(wanted):
@@ -90,8 +139,7 @@ def covers_and_fails(checked, setup, asked, name, run):
 
 def is_told_as_run(checked, setup, run):
     """Returns what is wrong with the table and the decisions of a run, or nothing."""
-    made = reading.Rounds(reading.Algorithm(checked, setup), run.omissions(setup.nodes))
-    report = reading_data.report_of(made.report())
+    report = run.report(checked, setup)
     table = reading_data.table_text(report, changed=True).splitlines()
     rows = [it for it in table if it and it != table[0]]
     if run.table != table[:1] + rows:
@@ -106,16 +154,17 @@ def is_told_as_run(checked, setup, run):
 
 def fault(checked, header, asked, runs):
     """Returns what is wrong with the runs of answers, or nothing."""
-    for name, number, lines in runs:
-        if not lines:
+    for name, number, told in runs:
+        if not told:
             continue
-        run = FoundRun(lines, header.nodes)
+        kind = FoundData if isinstance(told, dict) else FoundRun
+        run = kind(told, header.nodes)
         if not asked.is_any and run.inputs != list(header.inputs):
             return f"{name}: other inputs"
         setup = header._replace(inputs=run.inputs, rounds=number)
         if run.is_whole():
             wrong = (covers_and_fails(checked, setup, asked, name, run)
-                     or is_told_as_run(checked, setup, run))
+                     or run.differs(checked, setup))
             if wrong:
                 return f"{name}: {wrong}"
     return ""

@@ -392,9 +392,9 @@ def tabs_and_stop(lab):
         page.press('[data-tab="termination"]')
         settle(page)
         page.until(f"answers.open === 'termination' && {FLAGGED.format('no decision')}")
-        begin_with(page, "LastVoting: Paxos in rounds")
-        for _ in range(2):
-            page.press('[data-step="n,1"]')
+        begin_with(page, "Algorithm 1 of Dwork, Lynch and Stockmeyer")
+        for step in ["n,1"] * 2 + ["r,1"] * 8:
+            page.press(f'[data-step="{step}"]')
         settle(page)
         page.press("#explore")
         page.until("/round \\d+ .* states/.test($('progress').textContent)")
